@@ -1,0 +1,42 @@
+-- Tests, counts and sums over the numbers below n. They compute at a numeral.
+use mathlib.Core.Bool.{Bool, true, false, _&&_, _||_, cond}
+use mathlib.Core.List.{List, [], _∷_}
+use Prim.Native.Nat.{ℕ, zero, suc, _+_}
+
+-- p at each k below n
+abbrev pub all : ℕ → (ℕ → Bool) → Bool
+all zero p = true
+all (suc n) p = all n p && p n
+
+-- p at some k below n
+abbrev pub any : ℕ → (ℕ → Bool) → Bool
+any zero p = false
+any (suc n) p = any n p || p n
+
+-- how many k below n have p
+abbrev pub count : ℕ → (ℕ → Bool) → ℕ
+count zero p = 0
+count (suc n) p = count n p + cond (p n) 1 0
+
+-- the sum of f below n
+abbrev pub sum : ℕ → (ℕ → ℕ) → ℕ
+sum zero f = 0
+sum (suc n) f = sum n f + f n
+
+-- f at each of the n numbers from i on
+abbrev pub table {ℓ} : {A : Type ℓ} → ℕ → ℕ → (ℕ → A) → List A
+table zero i f = []
+table (suc n) i f = f i ∷ table n (suc i) f
+
+-- The same under names that stay shut until a proof opens them: for ranges such as the 34 kinds.
+unfoldable pub every : ℕ → (ℕ → Bool) → Bool
+every n p = all n p
+
+unfoldable pub some : ℕ → (ℕ → Bool) → Bool
+some n p = any n p
+
+unfoldable pub number : ℕ → (ℕ → Bool) → ℕ
+number n p = count n p
+
+unfoldable pub total : ℕ → (ℕ → ℕ) → ℕ
+total n f = sum n f

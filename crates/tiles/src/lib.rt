@@ -1,0 +1,32 @@
+// The 34 kinds of tile. Assumes nothing: every function takes any number.
+ghost use mathlib.Core.Path.{_≡_};
+ghost use Prim.Native.Nat.{_<_};
+ghost use Rattle.tiles.specs.Kinds.{isYaochu, isRunStart, doraOf};
+
+pub fn is_yaochu(k: u8) -> bool
+    ensures { λ r. ⌜ r ≡ isYaochu k ⌝ }
+{
+    ((k < 27) & ((k % 9 == 0) | (k % 9 == 8))) | ((27 <= k) & (k <= 33))
+}
+
+pub fn is_run_start(k: u8) -> bool
+    ensures { λ r. ⌜ r ≡ isRunStart k ⌝ }
+{
+    (k < 27) & (k % 9 <= 6)
+}
+
+// The kind after the indicator.
+pub fn dora(k: u8) -> u8
+    ensures { λ r. ⌜ r ≡ doraOf k ⌝ }
+    ensures { λ r. ⌜ r < 34 ⌝ }
+{
+    if k < 27 {
+        9 * (k / 9) + (k % 9 + 1) % 9
+    } else if k < 31 {
+        27 + (k - 27 + 1) % 4
+    } else if k < 34 {
+        31 + (k - 31 + 1) % 3
+    } else {
+        0
+    }
+}
