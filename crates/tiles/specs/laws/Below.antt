@@ -1,12 +1,16 @@
 -- What a loop over the numbers below n needs of a test or a sum: at the start, one more, stopped early, done. Assumes nothing.
 use mathlib.Core.Path.{_≡_, refl, sym, ap, _∙_}
-use mathlib.Core.Bool.{Bool, true, false, _&&_, _||_, and-false}
+use mathlib.Core.Bool.{Bool, true, false, _&&_, _||_, and-false, cond}
 use mathlib.Core.Logic.{⊎-elim}
-use Prim.Native.Nat.{ℕ, zero, suc, _+_, _≤_, _<_}
-use native.Mathlib.Nat.{eq-or-lt-of-le, le-of-suc-le-suc, not-suc-le-zero, le-antisymm}
+use Prim.Native.Nat.{ℕ, zero, suc, _+_, _*_, _≤_, _<_}
+use native.Mathlib.Nat.{eq-or-lt-of-le, le-of-suc-le-suc, not-suc-le-zero, le-antisymm, mul-suc}
 use native.Mathlib.Numerals.{add-one}
 use native.Mathlib.Omega.{arith}
 use Rattle.tiles.specs.Below.{all, any, count, sum, every, some, number, total}
+
+pub or-both : (a b : Bool) → a || b ≡ false → (a ≡ false) × (b ≡ false)
+or-both true b e = absurd (mathlib.Core.Bool.false≢true (sym e))
+or-both false b e = (refl, e)
 
 pub and-true : (a b : Bool) → a && b ≡ true → (a ≡ true) × (b ≡ true)
 and-true true b e = (refl, e)
@@ -41,3 +45,71 @@ module _ (p : ℕ → Bool) where
   unfolding every
   every-of zero h = refl
   every-of (suc n) h = rw (every-of n (λ i l. h i (omega arith)), h n (omega arith))
+
+or-true : (b : Bool) → b || true ≡ true
+or-true true = refl
+or-true false = refl
+
+module _ (p : ℕ → Bool) where
+  pub some-none : some 0 p ≡ false
+  unfolding some
+  some-none = refl
+
+  pub some-more : (i : ℕ) → some i p ≡ false → p i ≡ false → some (i + 1) p ≡ false
+  unfolding some
+  some-more i h e = rw (add-one, h, e)
+
+  pub some-stop : (n i : ℕ) → i < n → p i ≡ true → some n p ≡ true
+  unfolding some
+  some-stop zero i h e = absurd (not-suc-le-zero h)
+  some-stop (suc n) i h e =
+      ⊎-elim (λ q. rw (← q, e) (or-true (any i p))) (λ l. rw (some-stop n i l e)) (eq-or-lt-of-le (le-of-suc-le-suc h))
+
+  pub some-done : (n i : ℕ) → i ≤ n → n ≤ i → some i p ≡ false → some n p ≡ false
+  some-done n i a b h = rw (le-antisymm b a) h
+
+  pub some-at : (n i : ℕ) → some n p ≡ false → i < n → p i ≡ false
+  unfolding some
+  some-at zero i t h = absurd (not-suc-le-zero h)
+  some-at (suc n) i t h =
+      let both = or-both (any n p) (p n) t in
+      ⊎-elim (λ q. rw q (both .1)) (λ l. some-at n i (both .0) l) (eq-or-lt-of-le (le-of-suc-le-suc h))
+
+  pub some-of : (n : ℕ) → ((i : ℕ) → i < n → p i ≡ false) → some n p ≡ false
+  unfolding some
+  some-of zero h = refl
+  some-of (suc n) h = rw (some-of n (λ i l. h i (omega arith)), h n (omega arith))
+
+-- the same test at each number gives the same
+pub every-cong : (p q : ℕ → Bool) (n : ℕ) → ((i : ℕ) → i < n → p i ≡ q i) → every n p ≡ every n q
+unfolding every
+every-cong p q zero h = refl
+every-cong p q (suc n) h = rw (every-cong p q n (λ i l. h i (omega arith)), h n (omega arith))
+
+pub some-cong : (p q : ℕ → Bool) (n : ℕ) → ((i : ℕ) → i < n → p i ≡ q i) → some n p ≡ some n q
+unfolding some
+some-cong p q zero h = refl
+some-cong p q (suc n) h = rw (some-cong p q n (λ i l. h i (omega arith)), h n (omega arith))
+
+module _ (f : ℕ → ℕ) where
+  pub total-none : 0 ≡ total 0 f
+  unfolding total
+  total-none = refl
+
+  pub total-more : (i n x : ℕ) → n ≡ total i f → x ≡ f i → n + x ≡ total (i + 1) f
+  unfolding total
+  total-more i n x e h = rw (add-one, e, h)
+
+  pub total-done : (n i s : ℕ) → i ≤ n → n ≤ i → s ≡ total i f → s ≡ total n f
+  total-done n i s a b h = rw (le-antisymm b a) h
+
+  pub total-le : (b n : ℕ) → ((i : ℕ) → i < n → f i ≤ b) → total n f ≤ b * n
+  unfolding total
+  total-le b zero h = omega arith
+  total-le b (suc n) h = rw mul-suc (omega (arith, total-le b n (λ i l. h i (omega arith)), h n (omega arith)))
+
+-- how many have p is a sum of ones
+pub number-total : (p : ℕ → Bool) (n : ℕ) → number n p ≡ total n (λ i. cond (p i) 1 0)
+unfolding number total
+number-total p zero = refl
+number-total p (suc n) = rw (number-total p n)
