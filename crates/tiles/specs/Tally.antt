@@ -1,15 +1,13 @@
--- How many of each kind a list of tiles has (01, Readings: "the tally of all 34 kinds").
-use mathlib.Core.Bool.{cond}
-use mathlib.Core.List.{List, [], _∷_}
+-- A tally: how many tiles there are of each of the 34 kinds (01, Readings: "the tally of all 34 kinds").
+use mathlib.Core.List.{List}
 use Prim.Native.Nat.{ℕ, _+_}
-use lib.Dec.{eqb}
+use lib.ListN.{getD, set}
 use Rattle.tiles.specs.Below.{table}
 
--- how many tiles of kind k
-unfoldable pub held : List ℕ → ℕ → ℕ
-held [] k = 0
-held (x ∷ l) k = cond (eqb x k) 1 0 + held l k
+-- f k tiles of kind k
+unfoldable pub tallyOf : (ℕ → ℕ) → List ℕ
+tallyOf f = table 34 0 f
 
--- at each of the 34 kinds
-unfoldable pub tallyOf : List ℕ → List ℕ
-tallyOf l = table 34 0 (held l)
+-- n more tiles of kind k; what is no kind is not counted
+unfoldable pub more : List ℕ → ℕ → ℕ → List ℕ
+more t k n = set t k (getD t k 0 + n)

@@ -1,6 +1,8 @@
 // The 34 kinds of tile. Assumes nothing: every function takes any number.
 ghost use mathlib.Core.Path.{_≡_};
-ghost use Prim.Native.Nat.{_<_};
+ghost use Prim.Native.Nat.{_<_, _≤_, _+_};
+ghost use lib.ListN.{getD};
+ghost use Rattle.tiles.specs.Tally.{more as moreOf};
 ghost use Rattle.tiles.specs.Kinds.{isYaochu, isRunStart, doraOf};
 
 pub fn is_yaochu(k: u8) -> bool
@@ -29,4 +31,17 @@ pub fn dora(k: u8) -> u8
     } else {
         0
     }
+}
+
+// A tally with n more tiles of kind k.
+pub fn add(t: [u8; 34], k: u8, n: u8) -> [u8; 34]
+    requires { ⌜ getD t k 0 + n ≤ 255 ⌝ }
+    ensures { λ r. ⌜ r ≡ moreOf t k n ⌝ }
+{
+    let mut u = t;
+    let i = k as usize;
+    if i < 34 {
+        u[i] += n;
+    }
+    u
 }

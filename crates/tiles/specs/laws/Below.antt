@@ -113,3 +113,21 @@ pub number-total : (p : ℕ → Bool) (n : ℕ) → number n p ≡ total n (λ i
 unfolding number total
 number-total p zero = refl
 number-total p (suc n) = rw (number-total p n)
+
+module _ (p : ℕ → Bool) where
+  pub number-none : number 0 p ≡ 0
+  unfolding number
+  number-none = refl
+
+  pub number-more : (i : ℕ) → number (i + 1) p ≡ number i p + cond (p i) 1 0
+  unfolding number
+  number-more i = rw add-one
+
+  pub number-le : (n : ℕ) → number n p ≤ n
+  unfolding number
+  number-le zero = omega arith
+  number-le (suc n) = go (number-le n) (p n)
+    where
+      go : count n p ≤ n → (b : Bool) → count n p + cond b 1 0 ≤ suc n
+      go h true = omega arith
+      go h false = omega arith

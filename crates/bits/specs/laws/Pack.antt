@@ -1,0 +1,265 @@
+-- Packing and unpacking undo each other.
+use Prim.Native.Nat.{ℕ, zero, suc, _+_, _*_, _/_, _%_, _^_, _-_, _<_, _≤_}
+use mathlib.Core.Path.{_≡_, refl, sym, ap, _∙_}
+use mathlib.Core.List.{List, [], _∷_, _++_, append-assoc, append-nil}
+use native.Mathlib.Nat.{mod-lt, mod-eq-of-lt, le-of-suc-le-suc, not-suc-le-zero, mod-one, mul-one, zero-mul, div-one, pow-succ', mul-assoc, add-mul, suc-ne-zero, suc-inj, add-zero, add-suc, suc-add, mul-zero, mul-suc, add-comm, zero-add, sub-zero, zero-sub, suc-sub-suc, one-mul, div-lt-iff-lt-mul}
+use native.Mathlib.Numerals.{add-one, one-add, sub-one}
+use native.Mathlib.Omega.{arith}
+use lib.ListN.{length, getD, take, drop, set, replicate, length-append, length-take, length-drop, length-replicate, take-append-drop}
+use lib.Seq.{drop-drop, drop-cons, take-at, drop-at, take-add, length-take-le, getD-drop, sets, sets-eq, take-append-le, drop-append-le, take-length}
+use lib.Pow.{pow-pos, pow-mono, mod-pow-add, shr-shr}
+use Rattle.bits.specs.Bits.{digits, val, pack, unpack, sum, Below, FitIn, eights, bitsOf, fill, fieldsOf, bytesOf}
+
+pub length-digits : (w v : ℕ) → length (digits w v) ≡ w
+length-digits zero v = refl
+length-digits (suc w) v = ap suc (length-digits w v)
+
+-- the value of the digits
+val-digits : (a w v : ℕ) → val a (digits w v) ≡ a * 2 ^ w + v % 2 ^ w
+val-digits a zero v = omega (arith, mod-one v, mul-one a)
+val-digits a (suc w) v =
+    let d : ℕ = v / 2 ^ w % 2 in
+    let e1 : v % 2 ^ suc w ≡ d * 2 ^ w + v % 2 ^ w = rw one-add at (mod-pow-add v 1 w) in
+    let e2 : a * 2 ^ suc w ≡ a * 2 * 2 ^ w = ap (λ (k : ℕ). a * k) (pow-succ' 2 w) ∙ sym (mul-assoc a 2 (2 ^ w)) in
+    let e3 : (a * 2 + d) * 2 ^ w ≡ a * 2 * 2 ^ w + d * 2 ^ w = add-mul (a * 2) d (2 ^ w) in
+    val-digits (a * 2 + d) w v ∙ omega arith
+
+pub val-of-digits : (w v : ℕ) → v < 2 ^ w → val 0 (digits w v) ≡ v
+val-of-digits w v h = omega (arith, val-digits 0 w v, mod-eq-of-lt h, zero-mul (2 ^ w))
+
+-- the digits of a value
+tail-below : (b x : ℕ) (l : List ℕ) → Below b (x ∷ l) → Below b l
+tail-below b x l h = λ k. h (suc k)
+
+val-div : (a : ℕ) (bs : List ℕ) → Below 2 bs → val a bs / 2 ^ length bs ≡ a
+val-div a [] h = div-one a
+val-div a (b ∷ bs) h =
+    let r : val (a * 2 + b) bs / 2 ^ length bs ≡ a * 2 + b = val-div (a * 2 + b) bs (tail-below 2 b bs h) in
+    let s : val (a * 2 + b) bs / 2 ^ suc (length bs) ≡ val (a * 2 + b) bs / 2 ^ length bs / 2 =
+    sym (rw add-one at (shr-shr (val (a * 2 + b) bs) (length bs) 1)) in
+    s ∙ ap (λ (k : ℕ). k / 2) r ∙ omega (arith, h 0)
+
+pub digits-of-val : (a : ℕ) (bs : List ℕ) → Below 2 bs → digits (length bs) (val a bs) ≡ bs
+digits-of-val a [] h = refl
+digits-of-val a (b ∷ bs) h =
+    let t : Below 2 bs = tail-below 2 b bs h in
+    let e : val (a * 2 + b) bs / 2 ^ length bs % 2 ≡ b = rw (val-div (a * 2 + b) bs t) (omega (arith, h 0)) in
+    rw (e, digits-of-val (a * 2 + b) bs t)
+
+-- lists
+pub below-nil : (b : ℕ) → 0 < b → Below b []
+below-nil b h = λ k. h
+
+pub below-cons : (b x : ℕ) (l : List ℕ) → x < b → Below b l → Below b (x ∷ l)
+below-cons b x l h t zero = h
+below-cons b x l h t (suc k) = t k
+
+pub below-take : (b n : ℕ) (l : List ℕ) → Below b l → Below b (take n l)
+below-take b zero l h k = omega (arith, h k)
+below-take b (suc n) [] h k = h k
+below-take b (suc n) (x ∷ l) h zero = h 0
+below-take b (suc n) (x ∷ l) h (suc k) = below-take b n l (tail-below b x l h) k
+
+pub below-drop : (b n : ℕ) (l : List ℕ) → Below b l → Below b (drop n l)
+below-drop b n l h k = rw getD-drop (h (n + k))
+
+pub below-append : (b : ℕ) (l r : List ℕ) → Below b l → Below b r → Below b (l ++ r)
+below-append b [] r h g = g
+below-append b (x ∷ l) r h g = below-cons b x (l ++ r) (h 0) (below-append b l r (tail-below b x l h) g)
+
+pub below-digits : (w v : ℕ) → Below 2 (digits w v)
+below-digits zero v = λ k. omega arith
+below-digits (suc w) v = below-cons 2 (v / 2 ^ w % 2) (digits w v) (mod-lt (v / 2 ^ w) (omega arith)) (below-digits w v)
+
+pub below-pack : (ws vs : List ℕ) → Below 2 (pack ws vs)
+below-pack [] vs = λ k. omega arith
+below-pack (w ∷ ws) [] = λ k. omega arith
+below-pack (w ∷ ws) (v ∷ vs) = below-append 2 (digits w v) (pack ws vs) (below-digits w v) (below-pack ws vs)
+
+pub length-pack : (ws vs : List ℕ) → length ws ≡ length vs → length (pack ws vs) ≡ sum ws
+length-pack [] vs e = refl
+length-pack (w ∷ ws) [] e = absurd (suc-ne-zero _ e)
+length-pack (w ∷ ws) (v ∷ vs) e =
+    simp (length-append, length-digits) (ap (λ (k : ℕ). w + k) (length-pack ws vs (suc-inj e)))
+
+pub length-unpack : (ws bs : List ℕ) → length (unpack ws bs) ≡ length ws
+length-unpack [] bs = refl
+length-unpack (w ∷ ws) bs = ap suc (length-unpack ws (drop w bs))
+
+-- THE TWO LAWS
+pub unpack-pack : (ws vs r : List ℕ) → length ws ≡ length vs → FitIn ws vs → unpack ws (pack ws vs ++ r) ≡ vs
+unpack-pack [] [] r e h = refl
+unpack-pack [] (v ∷ vs) r e h = absurd (suc-ne-zero _ (sym e))
+unpack-pack (w ∷ ws) [] r e h = absurd (suc-ne-zero _ e)
+unpack-pack (w ∷ ws) (v ∷ vs) r e h =
+    let p : List ℕ = digits w v in
+    let q : List ℕ = pack ws vs ++ r in
+    let l : length p ≡ w = length-digits w v in
+    rw (append-assoc p (pack ws vs) r, take-at p q w l, drop-at p q w l, val-of-digits w v (h 0), unpack-pack ws vs r (suc-inj e) (λ k. h (suc k)))
+
+pub pack-unpack : (ws bs : List ℕ) → Below 2 bs → sum ws ≤ length bs → pack ws (unpack ws bs) ≡ take (sum ws) bs
+pack-unpack [] bs h f = refl
+pack-unpack (w ∷ ws) bs h f =
+    let t : List ℕ = take w bs in
+    let l : length t ≡ w = length-take-le w bs (omega arith) in
+    let d : digits w (val 0 t) ≡ t = rw l at (digits-of-val 0 t (below-take 2 w bs h)) in
+    let r : pack ws (unpack ws (drop w bs)) ≡ take (sum ws) (drop w bs) =
+    pack-unpack ws (drop w bs) (below-drop 2 w bs h) (omega (arith, length-drop w bs)) in
+    rw (d, r) (sym (take-add w (sum ws) bs))
+
+-- what is past the widths does not count
+pub unpack-more : (ws bs r : List ℕ) → sum ws ≤ length bs → unpack ws (bs ++ r) ≡ unpack ws bs
+unpack-more [] bs r f = refl
+unpack-more (w ∷ ws) bs r f =
+    let f1 : w ≤ length bs = omega arith in
+    rw (take-append-le w bs r f1, drop-append-le w bs r f1, unpack-more ws (drop w bs) r (omega (arith, length-drop w bs)))
+
+-- bytes
+pub sum-eights : (n : ℕ) → sum (eights n) ≡ 8 * n
+sum-eights zero = refl
+sum-eights (suc n) = omega (arith, sum-eights n)
+
+pub fit-eights : (n : ℕ) (s : List ℕ) → length s ≤ n → Below 256 s → FitIn (eights n) s
+fit-eights zero [] e h k = omega arith
+fit-eights zero (x ∷ s) e h k = absurd (not-suc-le-zero e)
+fit-eights (suc n) [] e h k = omega (arith, pow-pos (getD (eights (suc n)) k 0))
+fit-eights (suc n) (x ∷ s) e h zero = h 0
+fit-eights (suc n) (x ∷ s) e h (suc k) = fit-eights n s (le-of-suc-le-suc e) (tail-below 256 x s h) k
+
+-- THE ROUND TRIPS
+pub bytes-fields : (ws s : List ℕ) → Below 256 s → sum ws ≡ 8 * length s → bytesOf (length s) ws (fieldsOf ws s) ≡ s
+bytes-fields ws s h e =
+    let n : ℕ = length s in
+    let b : List ℕ = pack (eights n) s in
+    let ln : length (eights n) ≡ n = length-replicate n 8 in
+    let lb : length b ≡ sum ws = length-pack (eights n) s ln ∙ sum-eights n ∙ sym e in
+    let p : pack ws (unpack ws b) ≡ b =
+    pack-unpack ws b (below-pack (eights n) s) (omega arith) ∙ rw (sym lb) (take-length b) in
+    rw p (ap (λ (l : List ℕ). unpack (eights n) l) (sym (append-nil b)) ∙ unpack-pack (eights n) s [] ln (fit-eights n s (omega arith) h))
+
+pub fields-bytes : (ws vs : List ℕ) (n : ℕ) → length ws ≡ length vs → FitIn ws vs → sum ws ≡ 8 * n → fieldsOf ws (bytesOf n ws vs) ≡ vs
+fields-bytes ws vs n l h e =
+    let b : List ℕ = pack ws vs in
+    let lb : length b ≡ sum ws = length-pack ws vs l in
+    let k : length (bytesOf n ws vs) ≡ n = length-unpack (eights n) b ∙ length-replicate n 8 in
+    let p : pack (eights n) (unpack (eights n) b) ≡ b =
+    pack-unpack (eights n) b (below-pack ws vs) (omega (arith, sum-eights n)) ∙ rw (sum-eights n, sym e, sym lb) (take-length b) in
+    rw (k, p) (ap (λ (x : List ℕ). unpack ws x) (sym (append-nil b)) ∙ unpack-pack ws vs [] l h)
+
+-- ONE TURN of each loop
+pub gather-step : (b : List ℕ) (i l r : ℕ) → i < length b → 0 < l → val r (take l (drop i b)) ≡ val (r * 2 + getD b i 0) (take (l - 1) (drop (i + 1) b))
+gather-step b i zero r h p = absurd (not-suc-le-zero p)
+gather-step b i (suc l) r h p = rw (add-one, drop-cons b i 0 h, sub-one)
+
+pub put-step : (b : List ℕ) (i l v : ℕ) → 0 < l → sets b i (digits l v) ≡ sets (set b i (v / 2 ^ (l - 1) % 2)) (i + 1) (digits (l - 1) v)
+put-step b i zero v p = absurd (not-suc-le-zero p)
+put-step b i (suc l) v p = rw (add-one, sub-one)
+
+-- a value of l bits less than eight takes one more bit
+pub grow : (l r x : ℕ) → 0 < l → l ≤ 8 → r < 2 ^ (8 - l) → x < 2 → (r < 128) × (r * 2 + x < 2 ^ (8 - (l - 1)))
+grow zero r x p q h g = absurd (not-suc-le-zero p)
+grow (suc l) r x p q h g =
+    let e : 8 - l ≡ suc (8 - suc l) = omega arith in
+    let f : 8 - suc l ≤ 7 = omega arith in
+    let m : 2 ^ (8 - suc l) ≤ 128 = pow-mono f in
+    (omega arith, rw (sub-one, e, pow-succ' 2 (8 - suc l)) (omega arith))
+
+pub sets-append : (b : List ℕ) (i : ℕ) (xs ys : List ℕ) → sets b i (xs ++ ys) ≡ sets (sets b i xs) (i + length xs) ys
+sets-append b i [] ys = rw add-zero
+sets-append b i (x ∷ xs) ys = rw (add-suc, ← suc-add) (sets-append (set b i x) (suc i) xs ys)
+
+pub sum-step : (ws : List ℕ) (i : ℕ) → i < length ws → sum (drop i ws) ≡ getD ws i 0 + sum (drop (i + 1) ws)
+sum-step ws i h = rw (add-one, drop-cons ws i 0 h)
+
+pub pack-step : (ws vs b : List ℕ) (i o : ℕ) → i < length ws → i < length vs
+    → sets b o (pack (drop i ws) (drop i vs)) ≡ sets (sets b o (digits (getD ws i 0) (getD vs i 0))) (o + getD ws i 0) (pack (drop (i + 1) ws) (drop (i + 1) vs))
+pack-step ws vs b i o h g =
+    let d : List ℕ = digits (getD ws i 0) (getD vs i 0) in
+    rw (add-one, drop-cons ws i 0 h, drop-cons vs i 0 g)
+    (sets-append b o d _ ∙ rw (length-digits (getD ws i 0) (getD vs i 0)))
+
+pub unpack-step : (ws b out : List ℕ) (i o : ℕ) → i < length ws
+    → sets out i (unpack (drop i ws) (drop o b)) ≡ sets (set out i (val 0 (take (getD ws i 0) (drop o b)))) (i + 1) (unpack (drop (i + 1) ws) (drop (o + getD ws i 0) b))
+unpack-step ws b out i o h = rw (add-one, drop-cons ws i 0 h, drop-drop)
+
+-- runs of one width, and tests that compute
+pub take-replicate : (n m v : ℕ) → n ≤ m → take n (replicate m v) ≡ replicate n v
+take-replicate zero m v h = refl
+take-replicate (suc n) zero v h = absurd (not-suc-le-zero h)
+take-replicate (suc n) (suc m) v h = ap (λ (l : List ℕ). v ∷ l) (take-replicate n m v (le-of-suc-le-suc h))
+
+pub below-replicate : (b n v : ℕ) → v < b → Below b (replicate n v)
+below-replicate b zero v h = λ k. omega arith
+below-replicate b (suc n) v h = below-cons b v (replicate n v) h (below-replicate b n v h)
+
+pub sum-replicate : (n v : ℕ) → sum (replicate n v) ≡ v * n
+sum-replicate zero v = sym (mul-zero v)
+sum-replicate (suc n) v = rw (mul-suc, sum-replicate n v) (add-comm v (v * n))
+
+abbrev pub AllBelow : ℕ → List ℕ → Type 0
+AllBelow b [] = 0 < b
+AllBelow b (x ∷ l) = (x < b) × AllBelow b l
+
+pub below-all : (b : ℕ) (l : List ℕ) → AllBelow b l → Below b l
+below-all b [] t = λ k. t
+below-all b (x ∷ l) t = below-cons b x l (t .0) (below-all b l (t .1))
+
+-- what bits are after stores of bits
+pub below-sets : (b i : ℕ) (vs l : List ℕ) → i + length vs ≤ length l → Below b l → Below b vs → Below b (sets l i vs)
+below-sets b i vs l f h g =
+    rw (sets-eq vs l i f) (below-append b (take i l ++ vs) _ (below-append b (take i l) vs (below-take b i l h) g) (below-drop b (i + length vs) l h))
+
+pub drop-replicate : (n m v : ℕ) → drop n (replicate m v) ≡ replicate (m - n) v
+drop-replicate zero m v = rw sub-zero
+drop-replicate (suc n) zero v = rw zero-sub
+drop-replicate (suc n) (suc m) v = drop-replicate n m v ∙ rw suc-sub-suc
+
+pub length-bitsOf : (s : List ℕ) → length (bitsOf s) ≡ 8 * length s
+length-bitsOf s = length-pack (eights (length s)) s (length-replicate (length s) 8) ∙ sum-eights (length s)
+
+pub sets-fill : (n : ℕ) (l : List ℕ) → length l ≤ n → sets (replicate n 0) 0 l ≡ fill n l
+sets-fill n l h =
+    sets-eq l (replicate n 0) 0 (omega (arith, length-replicate {A = ℕ} n 0))
+    ∙ rw (zero-add, drop-replicate)
+
+pub below-fill : (b n : ℕ) (l : List ℕ) → Below b l → Below b (fill n l)
+below-fill b n l h = below-append b l (replicate (n - length l) 0) h (below-replicate b (n - length l) 0 (omega (arith, h 0)))
+
+pub length-fill : (n : ℕ) (l : List ℕ) → length l ≤ n → length (fill n l) ≡ n
+length-fill n l h = simp (length-append, length-replicate) (omega arith)
+
+-- a part of the bits does not see the fill
+pub part-fill : (n at : ℕ) (ws l : List ℕ) → at + sum ws ≤ length l → unpack ws (drop at (fill n l)) ≡ unpack ws (drop at l)
+part-fill n at ws l h =
+    let r : List ℕ = replicate (n - length l) 0 in
+    let g : at ≤ length l = omega arith in
+    rw (drop-append-le at l r g) (unpack-more ws (drop at l) r (omega (arith, length-drop at l)))
+
+-- what is unpacked fits
+pub val-lt : (bs : List ℕ) → Below 2 bs → val 0 bs < 2 ^ length bs
+val-lt bs h =
+    let d : val 0 bs / 2 ^ length bs < 1 = rw (val-div 0 bs h) (omega arith) in
+    rw one-mul at (div-lt-iff-lt-mul (pow-pos (length bs)) .0 d)
+
+pub unpack-fit : (ws bs : List ℕ) → Below 2 bs → sum ws ≤ length bs → FitIn ws (unpack ws bs)
+unpack-fit [] bs h f k = omega arith
+unpack-fit (w ∷ ws) bs h f zero =
+    let l : length (take w bs) ≡ w = length-take-le w bs (omega arith) in
+    rw l at (val-lt (take w bs) (below-take 2 w bs h))
+unpack-fit (w ∷ ws) bs h f (suc k) = unpack-fit ws (drop w bs) (below-drop 2 w bs h) (omega (arith, length-drop w bs)) k
+
+-- a bit of bytes, by a shift
+pub bit-at : (s : List ℕ) (k : ℕ) → k < 8 * length s → getD (bitsOf s) k 0 ≡ getD s (k / 8) 0 / 2 ^ (7 - k % 8) % 2
+bit-at [] k h = absurd (omega arith)
+bit-at (x ∷ s) zero h = refl
+bit-at (x ∷ s) (suc zero) h = refl
+bit-at (x ∷ s) (suc (suc zero)) h = refl
+bit-at (x ∷ s) (suc (suc (suc zero))) h = refl
+bit-at (x ∷ s) (suc (suc (suc (suc zero)))) h = refl
+bit-at (x ∷ s) (suc (suc (suc (suc (suc zero))))) h = refl
+bit-at (x ∷ s) (suc (suc (suc (suc (suc (suc zero)))))) h = refl
+bit-at (x ∷ s) (suc (suc (suc (suc (suc (suc (suc zero))))))) h = refl
+bit-at (x ∷ s) (suc (suc (suc (suc (suc (suc (suc (suc k)))))))) h =
+    let d : suc (suc (suc (suc (suc (suc (suc (suc k))))))) / 8 ≡ suc (k / 8) = omega arith in
+    let m : suc (suc (suc (suc (suc (suc (suc (suc k))))))) % 8 ≡ k % 8 = omega arith in
+    rw (d, m) (bit-at s k (omega arith))

@@ -1,0 +1,30 @@
+//! A second scorer for the table handset, written from document 01 alone.
+//! Readings are found by always placing the lowest tile left, then sorted into document 01's order.
+
+pub mod codec;
+pub mod fu;
+pub mod points;
+pub mod reading;
+pub mod record;
+pub mod score;
+pub mod shape;
+pub mod sound;
+pub mod tiles;
+pub mod win;
+pub mod yaku;
+pub mod yakuman;
+
+pub mod cover;
+pub mod damage;
+pub mod deal;
+pub mod entry;
+pub mod fault;
+pub mod notation;
+pub mod plan;
+pub mod rng;
+pub mod survey;
+pub mod themes;
+
+pub use codec::{read, write};
+pub use record::{Hand, Meld};
+pub use score::{score, Scored};
