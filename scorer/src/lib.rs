@@ -1,4 +1,4 @@
-//! A second scorer for the table handset, written from document 01 alone.
+//! A second scorer, game and log for the table handset, written from document 01 alone.
 //! Readings are found by always placing the lowest tile left, then sorted into document 01's order.
 
 pub mod codec;
@@ -14,10 +14,16 @@ pub mod win;
 pub mod yaku;
 pub mod yakuman;
 
+pub mod booking;
+pub mod game;
+pub mod ledger;
+pub mod log;
+
 pub mod cover;
 pub mod damage;
 pub mod deal;
 pub mod entry;
+pub mod example;
 pub mod fault;
 pub mod notation;
 pub mod plan;
@@ -25,6 +31,9 @@ pub mod rng;
 pub mod survey;
 pub mod themes;
 
+pub use booking::Booking;
 pub use codec::{read, write};
+pub use game::Game;
+pub use ledger::Ledger;
 pub use record::{Hand, Meld};
 pub use score::{score, Scored};

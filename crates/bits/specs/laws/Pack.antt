@@ -263,3 +263,18 @@ bit-at (x ∷ s) (suc (suc (suc (suc (suc (suc (suc (suc k)))))))) h =
     let d : suc (suc (suc (suc (suc (suc (suc (suc k))))))) / 8 ≡ suc (k / 8) = omega arith in
     let m : suc (suc (suc (suc (suc (suc (suc (suc k))))))) % 8 ≡ k % 8 = omega arith in
     rw (d, m) (bit-at s k (omega arith))
+
+-- lists of fields end to end
+pub pack-append : (ws us vs xs : List ℕ) → length ws ≡ length vs → pack (ws ++ us) (vs ++ xs) ≡ pack ws vs ++ pack us xs
+pack-append [] us [] xs e = refl
+pack-append [] us (v ∷ vs) xs e = absurd (suc-ne-zero _ (sym e))
+pack-append (w ∷ ws) us [] xs e = absurd (suc-ne-zero _ e)
+pack-append (w ∷ ws) us (v ∷ vs) xs e = rw (pack-append ws us vs xs (suc-inj e)) (sym (append-assoc (digits w v) (pack ws vs) (pack us xs)))
+
+pub unpack-append : (ws us bs : List ℕ) → unpack (ws ++ us) bs ≡ unpack ws bs ++ unpack us (drop (sum ws) bs)
+unpack-append [] us bs = refl
+unpack-append (w ∷ ws) us bs = ap (λ (l : List ℕ). val 0 (take w bs) ∷ l) (unpack-append ws us (drop w bs) ∙ rw drop-drop)
+
+pub sum-append : (ws us : List ℕ) → sum (ws ++ us) ≡ sum ws + sum us
+sum-append [] us = sym (zero-add (sum us))
+sum-append (w ∷ ws) us = omega (arith, sum-append ws us)

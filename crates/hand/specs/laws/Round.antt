@@ -1,0 +1,463 @@
+-- A sound record read and written back gives the same bytes; an accepted hand written and read gives the same hand. Assumes nothing.
+use Prim.Native.Nat.{ℕ, zero, suc, _+_, _*_, _-_, _^_, _<_, _≤_}
+use mathlib.Core.Path.{_≡_, refl, sym, ap, _∙_, subst}
+use mathlib.Core.Bool.{Bool, true, false, _||_, cond, not}
+use mathlib.Core.List.{List, [], _∷_, _++_}
+use native.Mathlib.Omega.{arith}
+use native.Mathlib.Nat.{suc-inj, suc-ne-zero, le-of-suc-le-suc, not-suc-le-zero}
+use borrow.Author.Tests.{ltb-true, ltb-false, lt-ltb, le-ltb, eqb-true, eq-eqb, not-true, not-false}
+use lib.Dec.{ltb, eqb}
+use lib.ListN.{length, getD, take, drop, replicate, length-append, length-replicate, length-take, getD-replicate, List·getD-eq-default}
+use lib.Seq.{length-take-le, drop-drop, take-at, drop-at, getD-take, ext-getD, getD-append-add}
+use lib.Pow.{pow-pos}
+use Rattle.tiles.specs.Below.{all, every, some}
+use Rattle.tiles.specs.laws.Below.{or-both, and-true, every-at, every-of, some-at}
+use Rattle.bits.specs.Bits.{val, pack, unpack, sum, eights, bitsOf, bytesOf, fieldsOf, fill, Below, FitIn}
+use Rattle.bits.specs.laws.Pack.{unpack-fit, unpack-append, below-pack, below-take, length-unpack, sum-replicate, bytes-fields, fields-bytes, length-bitsOf, length-fill}
+use Rattle.fields.specs.declared.Fields.{Fields}
+use Rattle.fields.specs.declared.Hand.{Hand}
+use Rattle.fields.specs.Refusals.{tileOver33, wrongFields, tooLarge, unusedNotZero, descends, overFour, wrongSituation, refusalOf, unwritable}
+use Rattle.hand.specs.declared.HandRead.{HandRead}
+use Rattle.hand.specs.declared.Answer.{Answer}
+use Rattle.hand.specs.declared.Answer.the-variants.{Sound, Refused}
+use Rattle.hand.specs.Record.{head, headerOf, headList, sixes, lengthOf, padOf, headOf, meldsOf, tilesOf, paddingOf, handIn, refusedWith, soundAs, wrongForm, countIn, answerBy, judged, readOf, widths, valuesOf, recordOf}
+use Rattle.hand.specs.laws.Read.{whole, Form, form-of, form-right}
+use Rattle.hand.specs.laws.Write.{sum-widths, length-widths, few-melds}
+
+-- ---- what a refusal of 0 says
+
+pub record Clean (h : Hand) (p : ℕ) : Type 0 where
+  pub fields : wrongFields h p ≡ false
+  pub order : descends h ≡ false
+  pub four : overFour h ≡ false
+  pub situation : wrongSituation h ≡ false
+
+conds : (a b c d : Bool) → _≡_ {A = ℕ} (cond a 2 (cond b 3 (cond c 4 (cond d 5 0)))) 0 → (a ≡ false) × (b ≡ false) × (c ≡ false) × (d ≡ false)
+conds true b c d e = absurd (omega arith)
+conds false true c d e = absurd (omega arith)
+conds false false true d e = absurd (omega arith)
+conds false false false true e = absurd (omega arith)
+conds false false false false e = (refl, refl, refl, refl)
+
+pub clean-of : (h : Hand) (p : ℕ) → refusalOf h p ≡ 0 → Clean h p
+unfolding refusalOf
+clean-of h p e =
+    let q = conds (wrongFields h p) (descends h) (overFour h) (wrongSituation h) e in
+    record { fields = q .0; order = q .1; four = q .2; situation = q .3 }
+
+pub of-clean : (h : Hand) (p : ℕ) → Clean h p → refusalOf h p ≡ 0
+unfolding refusalOf
+of-clean h p c = rw (c .fields, c .order, c .four, c .situation)
+
+-- past refusal 2 there is no padding bit and no tile over 33
+pub record Kinds (h : Hand) (p : ℕ) : Type 0 where
+  pub indicator : h .fields .indicator ≤ 33
+  pub winning : h .fields .winning ≤ 33
+  pub tiles : (i : ℕ) → i < 13 - 3 * h .fields .m → getD (h .concealed) i 0 ≤ 33
+  pub padding : p ≡ 0
+
+pub kinds-of : (h : Hand) (p : ℕ) → wrongFields h p ≡ false → Kinds h p
+unfolding wrongFields tileOver33
+kinds-of h p e =
+    let q = five _ _ _ _ _ e in
+    let t = four _ _ _ _ (q .0) in
+    record {
+      indicator = ltb-false 33 (h .fields .indicator) (t .0);
+      winning = ltb-false 33 (h .fields .winning) (t .1);
+      tiles = λ i g. ltb-false 33 (getD (h .concealed) i 0) (some-at (λ j. ltb 33 (getD (h .concealed) j 0)) (13 - 3 * h .fields .m) i (t .2) g);
+      padding = omega (arith, ltb-false 0 p (q .1));
+    }
+  where
+    five : (a b c d w : Bool) → a || b || c || d || w ≡ false → (a ≡ false) × (d ≡ false)
+    five a b c d w x =
+        let y = or-both (a || b || c) d (or-both (a || b || c || d) w x .0) in
+        (or-both a b (or-both (a || b) c (y .0) .0) .0, y .1)
+
+    four : (a b c d : Bool) → a || b || c || d ≡ false → (a ≡ false) × (b ≡ false) × (d ≡ false)
+    four a b c d x =
+        let y = or-both (a || b || c) d x in
+        let z = or-both a b (or-both (a || b) c (y .0) .0) in
+        (z .0, z .1, y .1)
+
+-- ---- the fields of a record's bits, part by part
+
+unpack-widths : (m : ℕ) (b : List ℕ) → unpack (widths m) b ≡ unpack head b ++ (meldsOf m b ++ (tilesOf m b ++ (paddingOf m b ∷ [])))
+unfolding widths meldsOf tilesOf paddingOf
+unpack-widths m bits =
+    let k : ℕ = 13 - 3 * m in
+    let b1 : List ℕ = drop 25 bits in
+    let b2 : List ℕ = drop (25 + 8 * m) bits in
+    let e2 : drop (sum (eights m)) b1 ≡ b2 = rw sum-replicate (drop-drop (8 * m) 25 bits) in
+    let e3 : drop (sum (sixes k)) b2 ≡ drop (25 + 8 * m + 6 * k) bits = rw sum-replicate (drop-drop (6 * k) (25 + 8 * m) bits) in
+    let p1 = unpack-append head (eights m ++ (sixes k ++ (padOf m ∷ []))) bits in
+    let p2 : unpack (eights m ++ (sixes k ++ (padOf m ∷ []))) b1 ≡ unpack (eights m) b1 ++ unpack (sixes k ++ (padOf m ∷ [])) b2 =
+    rw e2 at (unpack-append (eights m) (sixes k ++ (padOf m ∷ [])) b1) in
+    let p3 : unpack (sixes k ++ (padOf m ∷ [])) b2 ≡ unpack (sixes k) b2 ++ unpack (padOf m ∷ []) (drop (25 + 8 * m + 6 * k) bits) =
+    rw e3 at (unpack-append (sixes k) (padOf m ∷ []) b2) in
+    p1 ∙ ap (λ (l : List ℕ). unpack head bits ++ l) (p2 ∙ ap (λ (l : List ℕ). unpack (eights m) b1 ++ l) p3)
+
+melds-length : (m : ℕ) (b : List ℕ) → length (meldsOf m b) ≡ m
+unfolding meldsOf
+melds-length m b = length-unpack (eights m) (drop 25 b) ∙ length-replicate m 8
+
+tiles-length : (m : ℕ) (b : List ℕ) → length (tilesOf m b) ≡ 13 - 3 * m
+unfolding tilesOf
+tiles-length m b = length-unpack (sixes (13 - 3 * m)) (drop (25 + 8 * m) b) ∙ length-replicate (13 - 3 * m) 6
+
+head-list : (b : List ℕ) → headList (headOf b) ≡ unpack head b
+unfolding headOf
+head-list b = refl
+
+head-back : (f : Fields) (b : List ℕ) → unpack head b ≡ headList f → headOf b ≡ f
+unfolding headOf
+head-back f b e = ap headerOf e
+
+-- ---- filling with zeros
+
+take-fill : (n m : ℕ) (l : List ℕ) → length l ≡ m → take m (fill n l) ≡ l
+take-fill n m l e = take-at l (replicate (n - length l) 0) m e
+
+getD-zeros : (n i : ℕ) → _≡_ {A = ℕ} (getD (replicate n 0) i 0) 0
+getD-zeros zero i = refl
+getD-zeros (suc n) zero = refl
+getD-zeros (suc n) (suc i) = getD-zeros n i
+
+-- past what it holds a filled list is zero
+fill-past : (n : ℕ) (l : List ℕ) (i : ℕ) → length l ≤ i → getD (fill n l) i 0 ≡ 0
+fill-past n l i h =
+    let e : i ≡ length l + (i - length l) = omega arith in
+    rw e (getD-append-add l (replicate (n - length l) 0) (i - length l) 0 ∙ getD-zeros (n - length l) (i - length l))
+
+-- a list that is zero from m on is its first m, filled
+fill-take : (n m : ℕ) (l : List ℕ) → length l ≡ n → m ≤ n → ((i : ℕ) → i < n → m ≤ i → getD l i 0 ≡ 0) → fill n (take m l) ≡ l
+fill-take n m l e h z =
+    let lt : length (take m l) ≡ m = length-take-le m l (omega arith) in
+    let lf : length (fill n (take m l)) ≡ n = length-fill n (take m l) (omega arith) in
+    ext-getD 0 (fill n (take m l)) l (lf ∙ sym e) (λ i g. go i (omega arith) lt (ltb i m) refl)
+  where
+    go : (i : ℕ) → i < n → length (take m l) ≡ m → (b : Bool) → ltb i m ≡ b → getD (fill n (take m l)) i 0 ≡ getD l i 0
+    go i g lt true q =
+        lib.ListN.List·getD-append (take m l) (replicate (n - length (take m l)) 0) 0 i (omega (arith, ltb-true i m q)) ∙ getD-take m l i 0 (ltb-true i m q)
+    go i g lt false q = fill-past n (take m l) i (omega (arith, ltb-false i m q)) ∙ sym (z i g (ltb-false i m q))
+
+-- ---- unused places
+
+used-or-zero : (l : List ℕ) (m i : ℕ) → (m ≤ i → getD l i 0 ≡ 0) → ltb i m || eqb (getD l i 0) 0 ≡ true
+used-or-zero l m i h = go (ltb i m) refl
+  where
+    go : (b : Bool) → ltb i m ≡ b → b || eqb (getD l i 0) 0 ≡ true
+    go true e = refl
+    go false e = eq-eqb (getD l i 0) 0 (h (ltb-false i m e))
+
+zero-past : (l : List ℕ) (m i : ℕ) → ltb i m || eqb (getD l i 0) 0 ≡ true → m ≤ i → getD l i 0 ≡ 0
+zero-past l m i e h = eqb-true (getD l i 0) 0 (rw (le-ltb i m h) at e)
+
+unused-of : (h : Hand) → ((i : ℕ) → h .fields .m ≤ i → getD (h .melds) i 0 ≡ 0) → ((i : ℕ) → 13 - 3 * h .fields .m ≤ i → getD (h .concealed) i 0 ≡ 0) → unusedNotZero h ≡ false
+unfolding unusedNotZero every
+unused-of h zm zt =
+    let em = every-of (λ i. ltb i (h .fields .m) || eqb (getD (h .melds) i 0) 0) 4 (λ i g. used-or-zero (h .melds) (h .fields .m) i (zm i)) in
+    let et = every-of (λ i. ltb i (13 - 3 * h .fields .m) || eqb (getD (h .concealed) i 0) 0) 13 (λ i g. used-or-zero (h .concealed) (13 - 3 * h .fields .m) i (zt i)) in
+    nots _ _ em et
+  where
+    nots : (a b : Bool) → a ≡ true → b ≡ true → not a || not b ≡ false
+    nots a b p q = rw (p, q)
+
+zeros-of : (h : Hand) → unusedNotZero h ≡ false → ((i : ℕ) → i < 4 → h .fields .m ≤ i → getD (h .melds) i 0 ≡ 0) × ((i : ℕ) → i < 13 → 13 - 3 * h .fields .m ≤ i → getD (h .concealed) i 0 ≡ 0)
+unfolding unusedNotZero every
+zeros-of h e =
+    let p = or-both (not (all 4 (λ i. ltb i (h .fields .m) || eqb (getD (h .melds) i 0) 0))) (not (all 13 (λ i. ltb i (13 - 3 * h .fields .m) || eqb (getD (h .concealed) i 0) 0))) e in (
+      λ i g l. zero-past (h .melds) (h .fields .m) i (every-at (λ j. ltb j (h .fields .m) || eqb (getD (h .melds) j 0) 0) 4 i (not-false _ (p .0)) g) l,
+      λ i g l. zero-past (h .concealed) (13 - 3 * h .fields .m) i (every-at (λ j. ltb j (13 - 3 * h .fields .m) || eqb (getD (h .concealed) j 0) 0) 13 i (not-false _ (p .1)) g) l,
+    )
+
+-- ---- what a sound answer says
+
+pub record ReadAs (s : List ℕ) (h : Hand) : Type 0 where
+  pub form : Form (length s) (countIn s)
+  pub is-hand : h ≡ handIn (countIn s) (bitsOf s)
+  pub unrefused : refusalOf h (paddingOf (countIn s) (bitsOf s)) ≡ 0
+
+never : (n : ℕ) (h : Hand) → refusedWith n ≡ soundAs h → ⊥
+never n h e =
+    let a : Refused n ≡ Sound (h .fields) = ap (λ (r : HandRead). r .answer) e in
+    let z : _≡_ {A = ℕ} 0 1 = cc in
+    omega arith
+
+cond-sound : (b : Bool) (n : ℕ) (x : HandRead) (h : Hand) → cond b (refusedWith n) x ≡ soundAs h → (b ≡ false) × (x ≡ soundAs h)
+cond-sound true n x h e = absurd (never n h e)
+cond-sound false n x h e = (refl, e)
+
+hand-eq : (x h : Hand) → x .fields ≡ h .fields → x .melds ≡ h .melds → x .concealed ≡ h .concealed → x ≡ h
+hand-eq x h ef em ec =
+    ap (λ (f : Fields). record { fields = f; melds = x .melds; concealed = x .concealed }) ef
+    ∙ ap (λ (l : List ℕ). record { fields = h .fields; melds = l; concealed = x .concealed }) em
+    ∙ ap (λ (l : List ℕ). record { fields = h .fields; melds = h .melds; concealed = l }) ec
+
+sound-inj : (x h : Hand) → soundAs x ≡ soundAs h → x ≡ h
+sound-inj x h e =
+    let a : Sound (x .fields) ≡ Sound (h .fields) = ap (λ (r : HandRead). r .answer) e in
+    let ef : x .fields ≡ h .fields = cc in
+    hand-eq x h ef (ap (λ (r : HandRead). r .melds) e) (ap (λ (r : HandRead). r .concealed) e)
+
+pub read-as : (s : List ℕ) (h : Hand) → readOf s ≡ soundAs h → ReadAs s h
+unfolding readOf judged answerBy
+read-as s h e =
+    let b : List ℕ = bitsOf s in
+    let m : ℕ = countIn s in
+    let x : Hand = handIn m b in
+    let j : ℕ = refusalOf x (paddingOf m b) in
+    let p = cond-sound (wrongForm (length s) m) 1 (answerBy x j) h e in
+    let q = cond-sound (ltb 0 j) j (soundAs x) h (p .1) in
+    let i : h ≡ x = sym (sound-inj x h (q .1)) in
+    let z : j ≡ 0 = omega (arith, ltb-false 0 j (q .0)) in
+    record { form = form-of (length s) m (p .0); is-hand = i; unrefused = rw i z }
+
+pub as-read : (s : List ℕ) (h : Hand) → ReadAs s h → readOf s ≡ soundAs h
+unfolding readOf judged answerBy
+as-read s h y =
+    let z : refusalOf (handIn (countIn s) (bitsOf s)) (paddingOf (countIn s) (bitsOf s)) ≡ 0 = rw (y .is-hand) at (y .unrefused) in
+    rw (form-right (length s) (countIn s) (y .form), z) (ap soundAs (sym (y .is-hand)))
+
+-- the parts of the hand that was read
+module _ (s : List ℕ) (h : Hand) (y : ReadAs s h) where
+  count-is : h .fields .m ≡ countIn s
+  unfolding handIn
+  count-is = ap (λ (x : Hand). x .fields .m) (y .is-hand)
+
+  fields-are : headList (h .fields) ≡ unpack head (bitsOf s)
+  unfolding handIn
+  fields-are = ap (λ (x : Hand). headList (x .fields)) (y .is-hand) ∙ head-list (bitsOf s)
+
+  melds-are : h .melds ≡ fill 4 (meldsOf (h .fields .m) (bitsOf s))
+  unfolding handIn
+  melds-are = ap (λ (x : Hand). x .melds) (y .is-hand) ∙ ap (λ (m : ℕ). fill 4 (meldsOf m (bitsOf s))) (sym count-is)
+
+  tiles-are : h .concealed ≡ fill 13 (tilesOf (h .fields .m) (bitsOf s))
+  unfolding handIn
+  tiles-are = ap (λ (x : Hand). x .concealed) (y .is-hand) ∙ ap (λ (m : ℕ). fill 13 (tilesOf m (bitsOf s))) (sym count-is)
+
+  pub form-is : Form (length s) (h .fields .m)
+  form-is = rw count-is (y .form)
+
+  unrefused-is : refusalOf h (paddingOf (h .fields .m) (bitsOf s)) ≡ 0
+  unrefused-is = ap (λ (m : ℕ). refusalOf h (paddingOf m (bitsOf s))) count-is ∙ y .unrefused
+
+  no-padding : paddingOf (h .fields .m) (bitsOf s) ≡ 0
+  no-padding = kinds-of h _ (clean-of h _ unrefused-is .fields) .padding
+
+  -- the values that are written are the record's own
+  values-are : valuesOf h ≡ fieldsOf (widths (h .fields .m)) s
+  unfolding valuesOf
+  values-are =
+      let m : ℕ = h .fields .m in
+      let b : List ℕ = bitsOf s in
+      let em : take m (h .melds) ≡ meldsOf m b = ap (take m) melds-are ∙ take-fill 4 m (meldsOf m b) (melds-length m b) in
+      let et : take (13 - 3 * m) (h .concealed) ≡ tilesOf m b = ap (take (13 - 3 * m)) tiles-are ∙ take-fill 13 (13 - 3 * m) (tilesOf m b) (tiles-length m b) in
+      ap (λ (l : List ℕ). l ++ (take m (h .melds) ++ (take (13 - 3 * m) (h .concealed) ++ (0 ∷ [])))) fields-are
+      ∙ ap (λ (l : List ℕ). unpack head b ++ (l ++ (take (13 - 3 * m) (h .concealed) ++ (0 ∷ [])))) em
+      ∙ ap (λ (l : List ℕ). unpack head b ++ (meldsOf m b ++ (l ++ (0 ∷ [])))) et
+      ∙ ap (λ (k : ℕ). unpack head b ++ (meldsOf m b ++ (tilesOf m b ++ (k ∷ [])))) (sym no-padding)
+      ∙ sym (unpack-widths m b)
+
+  pub same-bytes : Below 256 s → recordOf h ≡ s
+  unfolding recordOf
+  same-bytes bs =
+      let m : ℕ = h .fields .m in
+      let n : lengthOf m ≡ length s = sym (form-is .right) in
+      rw (values-are, n) (bytes-fields (widths m) s bs (sum-widths m (form-is .few) ∙ ap (λ (k : ℕ). 8 * k) n))
+
+  -- and the hand is accepted for writing
+  pub accepted-back : unwritable h ≡ 0
+  unfolding unwritable
+  accepted-back =
+      let z : refusalOf h 0 ≡ 0 = rw no-padding at unrefused-is in
+      rw (not-large, not-unused) z
+    where
+      not-large : tooLarge (h .fields) ≡ false
+      not-large =
+          let b : List ℕ = bitsOf s in
+          let l = length-bitsOf s in
+          let f = form-is in
+          let g : FitIn head (headList (h .fields)) = subst (λ (x : List ℕ). FitIn head x) (sym fields-are) (unpack-fit head b (below-pack (eights (length s)) s) (omega (arith, f .four))) in
+          rw (
+            le-ltb 4 (h .fields .m) (f .few),
+            le-ltb 1 (h .fields .how) (omega (arith, g 0)),
+            le-ltb 3 (h .fields .winner) (omega (arith, g 1)),
+            le-ltb 3 (h .fields .discarder) (omega (arith, g 2)),
+            le-ltb 3 (h .fields .riichi) (omega (arith, g 3)),
+            le-ltb 7 (h .fields .situation) (omega (arith, g 4)),
+          )
+
+      not-unused : unusedNotZero h ≡ false
+      not-unused = unused-of h
+          (λ i g. rw melds-are (fill-past 4 (meldsOf (h .fields .m) (bitsOf s)) i (omega (arith, melds-length (h .fields .m) (bitsOf s)))))
+          (λ i g. rw tiles-are (fill-past 13 (tilesOf (h .fields .m) (bitsOf s)) i (omega (arith, tiles-length (h .fields .m) (bitsOf s)))))
+
+-- ---- the other way: what is written fits its bits
+
+fit-cons : (w v : ℕ) (ws vs : List ℕ) → v < 2 ^ w → FitIn ws vs → FitIn (w ∷ ws) (v ∷ vs)
+fit-cons w v ws vs h t zero = h
+fit-cons w v ws vs h t (suc k) = t k
+
+fit-nil : FitIn [] []
+fit-nil k = omega arith
+
+-- a test that `omega` proves part by part
+abbrev AllFit : List ℕ → List ℕ → Type 0
+AllFit [] vs = _≡_ {A = ℕ} (length vs) 0
+AllFit (w ∷ ws) [] = _<_ 0 1
+AllFit (w ∷ ws) (v ∷ vs) = (v < 2 ^ w) × AllFit ws vs
+
+fit-all : (ws vs : List ℕ) → AllFit ws vs → FitIn ws vs
+fit-all [] [] h = fit-nil
+fit-all [] (v ∷ vs) h = absurd (suc-ne-zero _ h)
+fit-all (w ∷ ws) [] h = λ k. pow-pos (getD (w ∷ ws) k 0)
+fit-all (w ∷ ws) (v ∷ vs) h = fit-cons w v ws vs (h .0) (fit-all ws vs (h .1))
+
+fit-run : (n w : ℕ) (s : List ℕ) → length s ≤ n → Below (2 ^ w) s → FitIn (replicate n w) s
+fit-run zero w [] e h = fit-nil
+fit-run zero w (x ∷ s) e h = absurd (not-suc-le-zero e)
+fit-run (suc n) w [] e h = λ k. pow-pos (getD (replicate (suc n) w) k 0)
+fit-run (suc n) w (x ∷ s) e h = fit-cons w x (replicate n w) s (h 0) (fit-run n w s (le-of-suc-le-suc e) (λ k. h (suc k)))
+
+fit-append : (ws vs us xs : List ℕ) → length ws ≡ length vs → FitIn ws vs → FitIn us xs → FitIn (ws ++ us) (vs ++ xs)
+fit-append [] [] us xs e h g = g
+fit-append [] (v ∷ vs) us xs e h g = absurd (suc-ne-zero _ (sym e))
+fit-append (w ∷ ws) [] us xs e h g = absurd (suc-ne-zero _ e)
+fit-append (w ∷ ws) (v ∷ vs) us xs e h g =
+    fit-cons w v (ws ++ us) (vs ++ xs) (h 0) (fit-append ws vs us xs (suc-inj e) (λ k. h (suc k)) g)
+
+app-inj : (a b c d : List ℕ) → length a ≡ length b → a ++ c ≡ b ++ d → (a ≡ b) × (c ≡ d)
+app-inj [] [] c d e q = (refl, q)
+app-inj [] (y ∷ b) c d e q = absurd (suc-ne-zero _ (sym e))
+app-inj (x ∷ a) [] c d e q = absurd (suc-ne-zero _ e)
+app-inj (x ∷ a) (y ∷ b) c d e q =
+    let hd : x ≡ y = cc in
+    let tl : a ++ c ≡ b ++ d = cc in
+    let r = app-inj a b c d (suc-inj e) tl in
+    (rw (hd, r .0), r .1)
+
+-- the first k tiles fit six bits
+tiles-below : (k : ℕ) (l : List ℕ) → ((i : ℕ) → i < k → getD l i 0 ≤ 33) → Below 64 (take k l)
+tiles-below k l h i = go (ltb i k) refl
+  where
+    go : (b : Bool) → ltb i k ≡ b → getD (take k l) i 0 < 64
+    go true e = rw (getD-take k l i 0 (ltb-true i k e)) (omega (arith, h i (ltb-true i k e)))
+    go false e = rw (List·getD-eq-default (take k l) 0 {n = i} (omega (arith, ltb-false i k e, length-take k l))) (omega arith)
+
+-- what an accepted hand has
+pub record Accepted (h : Hand) : Type 0 where
+  pub large : tooLarge (h .fields) ≡ false
+  pub unused : unusedNotZero h ≡ false
+  pub clean : Clean h 0
+
+cond-two : (b : Bool) (n : ℕ) → cond b 2 n ≡ 0 → (b ≡ false) × (n ≡ 0)
+cond-two true n e = absurd (omega arith)
+cond-two false n e = (refl, e)
+
+pub accepted-of : (h : Hand) → unwritable h ≡ 0 → Accepted h
+unfolding unwritable
+accepted-of h e =
+    let p = cond-two (tooLarge (h .fields) || unusedNotZero h) (refusalOf h 0) e in
+    let q = or-both (tooLarge (h .fields)) (unusedNotZero h) (p .0) in
+    record { large = q .0; unused = q .1; clean = clean-of h 0 (p .1) }
+
+fit-head : (h : Hand) → Accepted h → FitIn head (headList (h .fields))
+fit-head h y =
+    let f = h .fields in
+    let p = six (ltb 4 (f .m)) (ltb 1 (f .how)) (ltb 3 (f .winner)) (ltb 3 (f .discarder)) (ltb 3 (f .riichi)) (ltb 7 (f .situation)) (y .large) in
+    let k = kinds-of h 0 (y .clean .fields) in
+    fit-all head (headList f)
+    (omega (
+      arith,
+      ltb-false 4 (f .m) (p .0),
+      ltb-false 1 (f .how) (p .1),
+      ltb-false 3 (f .winner) (p .2),
+      ltb-false 3 (f .discarder) (p .3),
+      ltb-false 3 (f .riichi) (p .4),
+      ltb-false 7 (f .situation) (p .5),
+      k .indicator,
+      k .winning,
+    ))
+  where
+    six : (a b c d u v : Bool) → a || b || c || d || u || v ≡ false → (a ≡ false) × (b ≡ false) × (c ≡ false) × (d ≡ false) × (u ≡ false) × (v ≡ false)
+    six a b c d u v q =
+        let q5 = or-both (a || b || c || d || u) v q in
+        let q4 = or-both (a || b || c || d) u (q5 .0) in
+        let q3 = or-both (a || b || c) d (q4 .0) in
+        let q2 = or-both (a || b) c (q3 .0) in
+        let q1 = or-both a b (q2 .0) in
+        (q1 .0, q1 .1, q2 .1, q3 .1, q4 .1, q5 .1)
+
+module _ (h : Hand) (e : unwritable h ≡ 0) (lm : length (h .melds) ≡ 4) (lc : length (h .concealed) ≡ 13) (bm : Below 256 (h .melds)) where
+  y : Accepted h
+  y = accepted-of h e
+
+  few : h .fields .m ≤ 4
+  few = few-melds h e
+
+  values-fit : FitIn (widths (h .fields .m)) (valuesOf h)
+  unfolding widths valuesOf
+  values-fit =
+      let m : ℕ = h .fields .m in
+      let k : ℕ = 13 - 3 * m in
+      let em : length (take m (h .melds)) ≡ m = length-take-le m (h .melds) (omega (arith, few)) in
+      let et : length (take k (h .concealed)) ≡ k = length-take-le k (h .concealed) (omega arith) in
+      let t = tiles-below k (h .concealed) (kinds-of h 0 (y .clean .fields) .tiles) in
+      let w3 : List ℕ = sixes k ++ (padOf m ∷ []) in
+      let v3 : List ℕ = take k (h .concealed) ++ (0 ∷ []) in
+      fit-append head (headList (h .fields)) (eights m ++ w3) (take m (h .melds) ++ v3) refl (fit-head h y)
+      (fit-append (eights m) (take m (h .melds)) w3 v3 (length-replicate m 8 ∙ sym em) (fit-run m 8 (take m (h .melds)) (omega arith) (below-take 256 m (h .melds) bm))
+      (fit-append (sixes k) (take k (h .concealed)) (padOf m ∷ []) (0 ∷ []) (length-replicate k 6 ∙ sym et) (fit-run k 6 (take k (h .concealed)) (omega arith) t)
+      (fit-cons (padOf m) 0 [] [] (pow-pos (padOf m)) fit-nil)))
+
+  same-fields : fieldsOf (widths (h .fields .m)) (recordOf h) ≡ valuesOf h
+  unfolding recordOf
+  same-fields =
+      fields-bytes (widths (h .fields .m)) (valuesOf h) (lengthOf (h .fields .m))
+      (length-widths h few (omega arith) (omega arith)) values-fit (sum-widths (h .fields .m) few)
+
+  pub length-record : length (recordOf h) ≡ lengthOf (h .fields .m)
+  unfolding recordOf
+  length-record = length-unpack (eights (lengthOf (h .fields .m))) (pack (widths (h .fields .m)) (valuesOf h)) ∙ length-replicate (lengthOf (h .fields .m)) 8
+
+  -- the parts of what is written
+  parts-back : (b : List ℕ) → b ≡ bitsOf (recordOf h)
+      → (unpack head b ≡ headList (h .fields)) × (meldsOf (h .fields .m) b ≡ take (h .fields .m) (h .melds))
+      × (tilesOf (h .fields .m) b ≡ take (13 - 3 * h .fields .m) (h .concealed)) × (paddingOf (h .fields .m) b ≡ 0)
+  unfolding valuesOf
+  parts-back b eb =
+      let m : ℕ = h .fields .m in
+      let k : ℕ = 13 - 3 * m in
+      let q : unpack head b ++ (meldsOf m b ++ (tilesOf m b ++ (paddingOf m b ∷ []))) ≡ headList (h .fields) ++ (take m (h .melds) ++ (take k (h .concealed) ++ (0 ∷ []))) =
+      sym (unpack-widths m b) ∙ ap (unpack (widths m)) eb ∙ same-fields in
+      let q1 = app-inj (unpack head b) (headList (h .fields)) _ _ refl q in
+      let q2 = app-inj (meldsOf m b) (take m (h .melds)) _ _ (melds-length m b ∙ sym (length-take-le m (h .melds) (omega (arith, few)))) (q1 .1) in
+      let q3 = app-inj (tilesOf m b) (take k (h .concealed)) _ _ (tiles-length m b ∙ sym (length-take-le k (h .concealed) (omega arith))) (q2 .1) in
+      (q1 .0, q2 .0, q3 .0, ap (λ (l : List ℕ). getD l 0 0) (q3 .1))
+
+  hand-back : h ≡ handIn (h .fields .m) (bitsOf (recordOf h))
+  unfolding handIn
+  hand-back =
+      let m : ℕ = h .fields .m in
+      let b : List ℕ = bitsOf (recordOf h) in
+      let p = parts-back b refl in
+      let z = zeros-of h (y .unused) in
+      sym (hand-eq (handIn m b) h (head-back (h .fields) b (p .0))
+      (ap (fill 4) (p .1) ∙ fill-take 4 m (h .melds) lm few (z .0))
+      (ap (fill 13) (p .2) ∙ fill-take 13 (13 - 3 * m) (h .concealed) lc (omega arith) (z .1)))
+
+  pub same-hand : readOf (recordOf h) ≡ soundAs h
+  same-hand =
+      let m : ℕ = h .fields .m in
+      let b : List ℕ = bitsOf (recordOf h) in
+      let p = parts-back b refl in
+      let ec : countIn (recordOf h) ≡ m = ap (λ (f : Fields). f .m) (head-back (h .fields) b (p .0)) in
+      let w = whole m few in
+      let l = length-record in
+      let fo : Form (length (recordOf h)) m = record { four = omega (arith, w); few = few; right = l } in
+      as-read (recordOf h) h (record {
+        form = rw ec fo;
+        is-hand = hand-back ∙ ap (λ (n : ℕ). handIn n b) (sym ec);
+        unrefused = ap (λ (n : ℕ). refusalOf h (paddingOf n b)) ec ∙ ap (refusalOf h) (p .3) ∙ of-clean h 0 (y .clean);
+      })

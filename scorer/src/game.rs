@@ -1,0 +1,190 @@
+//! The game and its four bookings (01, The game).
+
+use crate::booking::Booking;
+use crate::codec::read;
+use crate::score::score;
+
+/// No score of an open game is under this (01, The game).
+pub const FLOOR: i32 = -9_770_000;
+
+/// The game is over at so many finished hands (01, The game).
+pub const LAST_HAND: u8 = 200;
+
+const TOTAL: i64 = 120_000;
+const STICK: i64 = 1000;
+
+#[derive(Clone, Copy, Debug, PartialEq, Eq)]
+pub struct Game {
+    pub scores: [i32; 4],
+    pub sticks: u32,
+    pub declared: [bool; 4],
+    pub dealer: u8,
+    pub wind: u8,
+    pub hands: u8,
+    pub over: bool,
+}
+
+impl Game {
+    /// A game at its start (01, The game).
+    pub fn fresh() -> Game {
+        let (sticks, declared) = (0, [false; 4]);
+        Game { scores: [30_000; 4], sticks, declared, dealer: 0, wind: 0, hands: 0, over: false }
+    }
+
+    /// The number of declared seats (01, The game).
+    fn declarations(&self) -> u32 {
+        self.declared.iter().filter(|&&seat| seat).count() as u32
+    }
+
+    /// Scores plus 1,000 times sticks (01, The game).
+    pub fn total(&self) -> i64 {
+        self.scores.iter().map(|&score| score as i64).sum::<i64>() + STICK * self.sticks as i64
+    }
+
+    /// Each way to be out of form (01, The game, refusal 9).
+    pub fn form_faults(&self) -> [bool; 6] {
+        [
+            self.dealer > 3,
+            self.wind > 1,
+            self.hands > LAST_HAND,
+            self.sticks < self.declarations(),
+            self.scores.iter().any(|&score| score < FLOOR),
+            self.total() != TOTAL,
+        ]
+    }
+
+    /// Neither over nor out of form (01, The game, refusal 9).
+    pub fn is_open(&self) -> bool {
+        !self.over && self.hands != LAST_HAND && !self.form_faults().contains(&true)
+    }
+
+    /// Gives a seat points, or takes them; in an open game sums stay under 30 million.
+    fn pay(&mut self, seat: usize, points: i64) {
+        let score = self.scores[seat] as i64 + points;
+        self.scores[seat] = i32::try_from(score).expect("points of an open game");
+    }
+
+    /// Passes the deal; after South's seat 3 dealer and wind stay (01, The game).
+    fn pass(&mut self) {
+        match (self.dealer, self.wind) {
+            (3, 0) => (self.dealer, self.wind) = (0, 1),
+            (3, _) => self.over = true,
+            _ => self.dealer += 1,
+        }
+    }
+
+    /// Finishes a hand and clears declarations (01, The game).
+    fn finish(&mut self, passes: bool) {
+        self.declared = [false; 4];
+        self.hands += 1;
+        if passes {
+            self.pass();
+        }
+        if self.hands == LAST_HAND {
+            self.over = true;
+        }
+    }
+}
+
+/// Whether a seat is ready: four bits, seat 0 first (01, Draw).
+pub fn is_ready(bits: u8, seat: usize) -> bool {
+    bits >> (3 - seat) & 1 == 1
+}
+
+/// Books riichi; gives the refusal, 0 if accepted (01, Riichi).
+pub fn riichi(game: &mut Game, seat: u8) -> u8 {
+    if seat > 3 {
+        return 8;
+    }
+    if !game.is_open() {
+        return 9;
+    }
+    let seat = seat as usize;
+    if game.declared[seat] {
+        return 10;
+    }
+    game.pay(seat, -STICK);
+    game.sticks += 1;
+    game.declared[seat] = true;
+    0
+}
+
+/// Books a win; gives the refusal, 0 if accepted (01, Win).
+pub fn win(game: &mut Game, record: &[u8]) -> u8 {
+    if !game.is_open() {
+        return 9;
+    }
+    let hand = match read(record) {
+        Ok(hand) => hand,
+        Err(number) => return number,
+    };
+    let scored = score(record, game.dealer, game.wind);
+    if scored.refusal != 0 {
+        return scored.refusal;
+    }
+    let winner = hand.winner as usize;
+    if (hand.riichi != 0) != game.declared[winner] {
+        return 11;
+    }
+    for (seat, &change) in scored.changes.iter().enumerate() {
+        game.pay(seat, change as i64);
+    }
+    game.pay(winner, STICK * game.sticks as i64);
+    game.sticks = 0;
+    game.finish(hand.winner != game.dealer);
+    0
+}
+
+/// Books a draw; gives the refusal, 0 if accepted (01, Draw).
+pub fn draw(game: &mut Game, bits: u8) -> u8 {
+    if bits > 15 {
+        return 8;
+    }
+    if !game.is_open() {
+        return 9;
+    }
+    if (0..4).any(|seat| game.declared[seat] && !is_ready(bits, seat)) {
+        return 12;
+    }
+    let (gain, cost) = match bits.count_ones() {
+        1 => (3000, 1000),
+        2 => (1500, 1500),
+        3 => (1000, 3000),
+        _ => (0, 0),
+    };
+    for seat in 0..4 {
+        game.pay(seat, if is_ready(bits, seat) { gain } else { -cost });
+    }
+    game.finish(!is_ready(bits, game.dealer as usize));
+    0
+}
+
+/// Books a chombo; gives the refusal, 0 if accepted (01, Chombo).
+pub fn chombo(game: &mut Game, seat: u8) -> u8 {
+    if seat > 3 {
+        return 8;
+    }
+    if !game.is_open() {
+        return 9;
+    }
+    for other in (0..4).filter(|&other| other != seat as usize) {
+        game.pay(seat as usize, -3000);
+        game.pay(other, 3000);
+    }
+    for owner in (0..4).filter(|&owner| game.declared[owner]).collect::<Vec<_>>() {
+        game.pay(owner, STICK);
+        game.sticks -= 1;
+    }
+    game.finish(false);
+    0
+}
+
+/// Books any of the four (01, The game).
+pub fn book(game: &mut Game, booking: &Booking) -> u8 {
+    match booking {
+        Booking::Riichi(seat) => riichi(game, *seat),
+        Booking::Win(record) => win(game, record),
+        Booking::Draw(bits) => draw(game, *bits),
+        Booking::Chombo(seat) => chombo(game, *seat),
+    }
+}

@@ -1,0 +1,145 @@
+//! The ledger: a second bookkeeping, from the bookings' arguments alone (01, Ledger).
+//! It shares only the scoring of a win with the game.
+
+use std::collections::BTreeSet;
+
+use crate::booking::Booking::{self, Chombo, Draw, Riichi, Win};
+use crate::score::score;
+
+#[derive(Clone, Debug, PartialEq, Eq)]
+pub struct Ledger {
+    pub scores: [i64; 4],
+    pub sticks: i64,
+    pub declared: BTreeSet<u8>,
+    pub dealer: u8,
+    pub wind: u8,
+    pub hands: u32,
+    pub over: bool,
+}
+
+/// The seats set in a draw's four bits, seat 0 first (01, Draw).
+fn ready(bits: u8) -> BTreeSet<u8> {
+    let digits = format!("{bits:04b}");
+    (0..4).zip(digits.chars()).filter(|(_, digit)| *digit == '1').map(|(seat, _)| seat).collect()
+}
+
+/// The winner's seat in a record: its second and third bit (01, Tiles and the hand record).
+fn winner(record: &[u8]) -> u8 {
+    record[0] % 128 / 32
+}
+
+/// Whether a record's riichi field is non-zero: its sixth and seventh bit (01, Tiles and the hand record).
+fn has_riichi(record: &[u8]) -> bool {
+    record[0] % 8 / 2 != 0
+}
+
+impl Ledger {
+    /// The ledger before any booking (01, Ledger).
+    pub fn fresh() -> Ledger {
+        let (scores, declared) = ([30_000; 4], BTreeSet::new());
+        Ledger { scores, sticks: 0, declared, dealer: 0, wind: 0, hands: 0, over: false }
+    }
+
+    /// Whether the ledger's game is closed: over, or out of form (01, The game, refusal 9).
+    fn is_closed(&self) -> bool {
+        let in_form = self.dealer <= 3
+            && self.wind <= 1
+            && self.hands <= 200
+            && self.declared.len() as i64 <= self.sticks
+            && self.scores.iter().all(|&score| -9_770_000 <= score)
+            && self.scores.iter().sum::<i64>() + 1000 * self.sticks == 120_000;
+        self.over || self.hands == 200 || !in_form
+    }
+
+    /// The first listed refusal that a booking meets, 0 if none (01, The game; Ledger).
+    pub fn refusal(&self, booking: &Booking) -> u8 {
+        let closed = self.is_closed();
+        let met = match booking {
+            Riichi(seat) => vec![(8, *seat > 3), (9, closed), (10, self.declared.contains(seat))],
+            Win(_) if closed => vec![(9, true)],
+            Win(record) => match score(record, self.dealer, self.wind).refusal {
+                0 => vec![(11, has_riichi(record) != self.declared.contains(&winner(record)))],
+                number => vec![(number, true)],
+            },
+            Draw(bits) if *bits > 15 => vec![(8, true)],
+            Draw(bits) => vec![(9, closed), (12, !self.declared.is_subset(&ready(*bits)))],
+            Chombo(seat) => vec![(8, *seat > 3), (9, closed)],
+        };
+        met.into_iter().find(|(_, holds)| *holds).map_or(0, |(number, _)| number)
+    }
+
+    /// What an accepted booking gives or costs a seat (01, Ledger).
+    fn moved(&self, booking: &Booking, seat: u8) -> i64 {
+        match booking {
+            Riichi(own) if *own == seat => -1000,
+            Riichi(_) => 0,
+            Win(record) => {
+                let change = score(record, self.dealer, self.wind).changes[seat as usize] as i64;
+                if winner(record) == seat { change + 1000 * self.sticks } else { change }
+            }
+            Draw(bits) => {
+                let ready = ready(*bits);
+                match ready.len() as i64 {
+                    0 | 4 => 0,
+                    r if ready.contains(&seat) => 3000 / r,
+                    r => -3000 / (4 - r),
+                }
+            }
+            Chombo(own) => {
+                let back = if self.declared.contains(&seat) { 1000 } else { 0 };
+                back + if *own == seat { -9000 } else { 3000 }
+            }
+        }
+    }
+
+    /// The sticks that an accepted booking leaves (01, Ledger).
+    fn left(&self, booking: &Booking) -> i64 {
+        match booking {
+            Riichi(_) => self.sticks + 1,
+            Win(_) => 0,
+            Draw(_) => self.sticks,
+            Chombo(_) => self.sticks - self.declared.len() as i64,
+        }
+    }
+
+    /// Whether an accepted booking passes the deal (01, The game).
+    fn passes(&self, booking: &Booking) -> bool {
+        match booking {
+            Riichi(_) | Chombo(_) => false,
+            Win(record) => winner(record) != self.dealer,
+            Draw(bits) => !ready(*bits).contains(&self.dealer),
+        }
+    }
+
+    /// The ledger after a booking, and the booking's number (01, Ledger).
+    pub fn after(&self, booking: &Booking) -> (Ledger, u8) {
+        let number = self.refusal(booking);
+        if number != 0 {
+            return (self.clone(), number);
+        }
+        let mut next = self.clone();
+        next.scores = [0, 1, 2, 3].map(|seat| {
+            self.scores[seat as usize] + self.moved(booking, seat)
+        });
+        next.sticks = self.left(booking);
+        if let Riichi(seat) = booking {
+            next.declared.insert(*seat);
+            return (next, 0);
+        }
+        next.declared.clear();
+        next.hands += 1;
+        let deal = 4 * self.wind + self.dealer + self.passes(booking) as u8;
+        next.over = deal == 8 || next.hands == 200;
+        (next.wind, next.dealer) = (deal.min(7) / 4, deal.min(7) % 4);
+        (next, 0)
+    }
+
+    /// The ledger of a whole list, and each booking's number (01, Ledger).
+    pub fn of(list: &[Booking]) -> (Ledger, Vec<u8>) {
+        list.iter().fold((Ledger::fresh(), Vec::new()), |(ledger, mut numbers), booking| {
+            let (next, number) = ledger.after(booking);
+            numbers.push(number);
+            (next, numbers)
+        })
+    }
+}
