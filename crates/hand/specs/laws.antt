@@ -1,4 +1,7 @@
+pub mod Clean
+pub mod Fill
 pub mod Read
 pub mod Write
 pub mod Round
 pub mod Claims
+pub mod Bounds

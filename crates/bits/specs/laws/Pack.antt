@@ -114,17 +114,43 @@ unpack-more (w ∷ ws) bs r f =
     let f1 : w ≤ length bs = omega arith in
     rw (take-append-le w bs r f1, drop-append-le w bs r f1, unpack-more ws (drop w bs) r (omega (arith, length-drop w bs)))
 
+-- values that fit their widths
+pub fit-cons : (w v : ℕ) (ws vs : List ℕ) → v < 2 ^ w → FitIn ws vs → FitIn (w ∷ ws) (v ∷ vs)
+fit-cons w v ws vs h t zero = h
+fit-cons w v ws vs h t (suc k) = t k
+
+pub fit-nil : FitIn [] []
+fit-nil k = omega arith
+
+-- a test that `omega` proves part by part
+abbrev pub AllFit : List ℕ → List ℕ → Type 0
+AllFit [] vs = _≡_ {A = ℕ} (length vs) 0
+AllFit (w ∷ ws) [] = _<_ 0 1
+AllFit (w ∷ ws) (v ∷ vs) = (v < 2 ^ w) × AllFit ws vs
+
+pub fit-all : (ws vs : List ℕ) → AllFit ws vs → FitIn ws vs
+fit-all [] [] h = fit-nil
+fit-all [] (v ∷ vs) h = absurd (suc-ne-zero _ h)
+fit-all (w ∷ ws) [] h = λ k. pow-pos (getD (w ∷ ws) k 0)
+fit-all (w ∷ ws) (v ∷ vs) h = fit-cons w v ws vs (h .0) (fit-all ws vs (h .1))
+
+pub fit-run : (n w : ℕ) (s : List ℕ) → length s ≤ n → Below (2 ^ w) s → FitIn (replicate n w) s
+fit-run zero w [] e h = fit-nil
+fit-run zero w (x ∷ s) e h = absurd (not-suc-le-zero e)
+fit-run (suc n) w [] e h = λ k. pow-pos (getD (replicate (suc n) w) k 0)
+fit-run (suc n) w (x ∷ s) e h = fit-cons w x (replicate n w) s (h 0) (fit-run n w s (le-of-suc-le-suc e) (λ k. h (suc k)))
+
+pub fit-append : (ws vs us xs : List ℕ) → length ws ≡ length vs → FitIn ws vs → FitIn us xs → FitIn (ws ++ us) (vs ++ xs)
+fit-append [] [] us xs e h g = g
+fit-append [] (v ∷ vs) us xs e h g = absurd (suc-ne-zero _ (sym e))
+fit-append (w ∷ ws) [] us xs e h g = absurd (suc-ne-zero _ e)
+fit-append (w ∷ ws) (v ∷ vs) us xs e h g =
+    fit-cons w v (ws ++ us) (vs ++ xs) (h 0) (fit-append ws vs us xs (suc-inj e) (λ k. h (suc k)) g)
+
 -- bytes
 pub sum-eights : (n : ℕ) → sum (eights n) ≡ 8 * n
 sum-eights zero = refl
 sum-eights (suc n) = omega (arith, sum-eights n)
-
-pub fit-eights : (n : ℕ) (s : List ℕ) → length s ≤ n → Below 256 s → FitIn (eights n) s
-fit-eights zero [] e h k = omega arith
-fit-eights zero (x ∷ s) e h k = absurd (not-suc-le-zero e)
-fit-eights (suc n) [] e h k = omega (arith, pow-pos (getD (eights (suc n)) k 0))
-fit-eights (suc n) (x ∷ s) e h zero = h 0
-fit-eights (suc n) (x ∷ s) e h (suc k) = fit-eights n s (le-of-suc-le-suc e) (tail-below 256 x s h) k
 
 -- THE ROUND TRIPS
 pub bytes-fields : (ws s : List ℕ) → Below 256 s → sum ws ≡ 8 * length s → bytesOf (length s) ws (fieldsOf ws s) ≡ s
@@ -135,7 +161,7 @@ bytes-fields ws s h e =
     let lb : length b ≡ sum ws = length-pack (eights n) s ln ∙ sum-eights n ∙ sym e in
     let p : pack ws (unpack ws b) ≡ b =
     pack-unpack ws b (below-pack (eights n) s) (omega arith) ∙ rw (sym lb) (take-length b) in
-    rw p (ap (λ (l : List ℕ). unpack (eights n) l) (sym (append-nil b)) ∙ unpack-pack (eights n) s [] ln (fit-eights n s (omega arith) h))
+    rw p (ap (λ (l : List ℕ). unpack (eights n) l) (sym (append-nil b)) ∙ unpack-pack (eights n) s [] ln (fit-run n 8 s (omega arith) h))
 
 pub fields-bytes : (ws vs : List ℕ) (n : ℕ) → length ws ≡ length vs → FitIn ws vs → sum ws ≡ 8 * n → fieldsOf ws (bytesOf n ws vs) ≡ vs
 fields-bytes ws vs n l h e =
@@ -278,3 +304,14 @@ unpack-append (w ∷ ws) us bs = ap (λ (l : List ℕ). val 0 (take w bs) ∷ l)
 pub sum-append : (ws us : List ℕ) → sum (ws ++ us) ≡ sum ws + sum us
 sum-append [] us = sym (zero-add (sum us))
 sum-append (w ∷ ws) us = omega (arith, sum-append ws us)
+
+-- lists that start with parts of one length
+pub app-inj : (a b c d : List ℕ) → length a ≡ length b → a ++ c ≡ b ++ d → (a ≡ b) × (c ≡ d)
+app-inj [] [] c d e q = (refl, q)
+app-inj [] (y ∷ b) c d e q = absurd (suc-ne-zero _ (sym e))
+app-inj (x ∷ a) [] c d e q = absurd (suc-ne-zero _ e)
+app-inj (x ∷ a) (y ∷ b) c d e q =
+    let hd : x ≡ y = cc in
+    let tl : a ++ c ≡ b ++ d = cc in
+    let r = app-inj a b c d (suc-inj e) tl in
+    (rw (hd, r .0), r .1)

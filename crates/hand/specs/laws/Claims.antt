@@ -16,7 +16,8 @@ use Rattle.hand.specs.declared.Written.{Written}
 use Rattle.hand.specs.Record.{lengthOf, wrongForm, countIn, handIn, paddingOf, refusedWith, soundAs, numberOf, handOf, answerBy, judged, readOf, recordOf, writeRefusal, writtenOf, bufferOf}
 use Rattle.hand.specs.laws.Read.{form-of, form-right}
 use Rattle.hand.specs.laws.Write.{refusal-none, wrote-by}
-use Rattle.hand.specs.laws.Round.{clean-of, of-clean, ReadAs, read-as, as-read, same-bytes, accepted-back, length-record, same-hand, form-is}
+use Rattle.hand.specs.laws.Clean.{clean-of, of-clean}
+use Rattle.hand.specs.laws.Round.{ReadAs, as-read, same-bytes, accepted-back, length-record, same-hand, form-is}
 
 module _ (s : List ℕ) where
   abbrev x : Hand

@@ -1,83 +1,27 @@
 -- A sound record read and written back gives the same bytes; an accepted hand written and read gives the same hand. Assumes nothing.
-use Prim.Native.Nat.{ℕ, zero, suc, _+_, _*_, _-_, _^_, _<_, _≤_}
+use Prim.Native.Nat.{ℕ, _+_, _*_, _-_, _<_, _≤_}
 use mathlib.Core.Path.{_≡_, refl, sym, ap, _∙_, subst}
-use mathlib.Core.Bool.{Bool, true, false, _||_, cond, not}
+use mathlib.Core.Bool.{Bool, true, false, _||_, cond}
 use mathlib.Core.List.{List, [], _∷_, _++_}
 use native.Mathlib.Omega.{arith}
-use native.Mathlib.Nat.{suc-inj, suc-ne-zero, le-of-suc-le-suc, not-suc-le-zero}
-use borrow.Author.Tests.{ltb-true, ltb-false, lt-ltb, le-ltb, eqb-true, eq-eqb, not-true, not-false}
-use lib.Dec.{ltb, eqb}
-use lib.ListN.{length, getD, take, drop, replicate, length-append, length-replicate, length-take, getD-replicate, List·getD-eq-default}
-use lib.Seq.{length-take-le, drop-drop, take-at, drop-at, getD-take, ext-getD, getD-append-add}
+use borrow.Author.Tests.{ltb-true, ltb-false, le-ltb}
+use lib.Dec.{ltb}
+use lib.ListN.{length, getD, take, drop, length-replicate, length-take, List·getD-eq-default}
+use lib.Seq.{length-take-le, drop-drop, getD-take}
 use lib.Pow.{pow-pos}
-use Rattle.tiles.specs.Below.{all, every, some}
-use Rattle.tiles.specs.laws.Below.{or-both, and-true, every-at, every-of, some-at}
-use Rattle.bits.specs.Bits.{val, pack, unpack, sum, eights, bitsOf, bytesOf, fieldsOf, fill, Below, FitIn}
-use Rattle.bits.specs.laws.Pack.{unpack-fit, unpack-append, below-pack, below-take, length-unpack, sum-replicate, bytes-fields, fields-bytes, length-bitsOf, length-fill}
+use Rattle.tiles.specs.laws.Below.{or-both}
+use Rattle.bits.specs.Bits.{pack, unpack, sum, eights, bitsOf, fieldsOf, fill, Below, FitIn}
+use Rattle.bits.specs.laws.Pack.{unpack-fit, unpack-append, below-pack, below-take, length-unpack, sum-replicate, bytes-fields, fields-bytes, length-bitsOf, fit-cons, fit-nil, fit-all, fit-run, fit-append, app-inj}
 use Rattle.fields.specs.declared.Fields.{Fields}
 use Rattle.fields.specs.declared.Hand.{Hand}
-use Rattle.fields.specs.Refusals.{tileOver33, wrongFields, tooLarge, unusedNotZero, descends, overFour, wrongSituation, refusalOf, unwritable}
+use Rattle.fields.specs.Refusals.{tooLarge, unusedNotZero, refusalOf, unwritable}
 use Rattle.hand.specs.declared.HandRead.{HandRead}
-use Rattle.hand.specs.declared.Answer.{Answer}
 use Rattle.hand.specs.declared.Answer.the-variants.{Sound, Refused}
 use Rattle.hand.specs.Record.{head, headerOf, headList, sixes, lengthOf, padOf, headOf, meldsOf, tilesOf, paddingOf, handIn, refusedWith, soundAs, wrongForm, countIn, answerBy, judged, readOf, widths, valuesOf, recordOf}
+use Rattle.hand.specs.laws.Clean.{clean-of, of-clean, kinds-of, Accepted, accepted-of}
+use Rattle.hand.specs.laws.Fill.{take-fill, fill-past, fill-take, unused-of, zeros-of}
 use Rattle.hand.specs.laws.Read.{whole, Form, form-of, form-right}
 use Rattle.hand.specs.laws.Write.{sum-widths, length-widths, few-melds}
-
--- ---- what a refusal of 0 says
-
-pub record Clean (h : Hand) (p : ℕ) : Type 0 where
-  pub fields : wrongFields h p ≡ false
-  pub order : descends h ≡ false
-  pub four : overFour h ≡ false
-  pub situation : wrongSituation h ≡ false
-
-conds : (a b c d : Bool) → _≡_ {A = ℕ} (cond a 2 (cond b 3 (cond c 4 (cond d 5 0)))) 0 → (a ≡ false) × (b ≡ false) × (c ≡ false) × (d ≡ false)
-conds true b c d e = absurd (omega arith)
-conds false true c d e = absurd (omega arith)
-conds false false true d e = absurd (omega arith)
-conds false false false true e = absurd (omega arith)
-conds false false false false e = (refl, refl, refl, refl)
-
-pub clean-of : (h : Hand) (p : ℕ) → refusalOf h p ≡ 0 → Clean h p
-unfolding refusalOf
-clean-of h p e =
-    let q = conds (wrongFields h p) (descends h) (overFour h) (wrongSituation h) e in
-    record { fields = q .0; order = q .1; four = q .2; situation = q .3 }
-
-pub of-clean : (h : Hand) (p : ℕ) → Clean h p → refusalOf h p ≡ 0
-unfolding refusalOf
-of-clean h p c = rw (c .fields, c .order, c .four, c .situation)
-
--- past refusal 2 there is no padding bit and no tile over 33
-pub record Kinds (h : Hand) (p : ℕ) : Type 0 where
-  pub indicator : h .fields .indicator ≤ 33
-  pub winning : h .fields .winning ≤ 33
-  pub tiles : (i : ℕ) → i < 13 - 3 * h .fields .m → getD (h .concealed) i 0 ≤ 33
-  pub padding : p ≡ 0
-
-pub kinds-of : (h : Hand) (p : ℕ) → wrongFields h p ≡ false → Kinds h p
-unfolding wrongFields tileOver33
-kinds-of h p e =
-    let q = five _ _ _ _ _ e in
-    let t = four _ _ _ _ (q .0) in
-    record {
-      indicator = ltb-false 33 (h .fields .indicator) (t .0);
-      winning = ltb-false 33 (h .fields .winning) (t .1);
-      tiles = λ i g. ltb-false 33 (getD (h .concealed) i 0) (some-at (λ j. ltb 33 (getD (h .concealed) j 0)) (13 - 3 * h .fields .m) i (t .2) g);
-      padding = omega (arith, ltb-false 0 p (q .1));
-    }
-  where
-    five : (a b c d w : Bool) → a || b || c || d || w ≡ false → (a ≡ false) × (d ≡ false)
-    five a b c d w x =
-        let y = or-both (a || b || c) d (or-both (a || b || c || d) w x .0) in
-        (or-both a b (or-both (a || b) c (y .0) .0) .0, y .1)
-
-    four : (a b c d : Bool) → a || b || c || d ≡ false → (a ≡ false) × (b ≡ false) × (d ≡ false)
-    four a b c d x =
-        let y = or-both (a || b || c) d x in
-        let z = or-both a b (or-both (a || b) c (y .0) .0) in
-        (z .0, z .1, y .1)
 
 -- ---- the fields of a record's bits, part by part
 
@@ -111,64 +55,6 @@ head-list b = refl
 head-back : (f : Fields) (b : List ℕ) → unpack head b ≡ headList f → headOf b ≡ f
 unfolding headOf
 head-back f b e = ap headerOf e
-
--- ---- filling with zeros
-
-take-fill : (n m : ℕ) (l : List ℕ) → length l ≡ m → take m (fill n l) ≡ l
-take-fill n m l e = take-at l (replicate (n - length l) 0) m e
-
-getD-zeros : (n i : ℕ) → _≡_ {A = ℕ} (getD (replicate n 0) i 0) 0
-getD-zeros zero i = refl
-getD-zeros (suc n) zero = refl
-getD-zeros (suc n) (suc i) = getD-zeros n i
-
--- past what it holds a filled list is zero
-fill-past : (n : ℕ) (l : List ℕ) (i : ℕ) → length l ≤ i → getD (fill n l) i 0 ≡ 0
-fill-past n l i h =
-    let e : i ≡ length l + (i - length l) = omega arith in
-    rw e (getD-append-add l (replicate (n - length l) 0) (i - length l) 0 ∙ getD-zeros (n - length l) (i - length l))
-
--- a list that is zero from m on is its first m, filled
-fill-take : (n m : ℕ) (l : List ℕ) → length l ≡ n → m ≤ n → ((i : ℕ) → i < n → m ≤ i → getD l i 0 ≡ 0) → fill n (take m l) ≡ l
-fill-take n m l e h z =
-    let lt : length (take m l) ≡ m = length-take-le m l (omega arith) in
-    let lf : length (fill n (take m l)) ≡ n = length-fill n (take m l) (omega arith) in
-    ext-getD 0 (fill n (take m l)) l (lf ∙ sym e) (λ i g. go i (omega arith) lt (ltb i m) refl)
-  where
-    go : (i : ℕ) → i < n → length (take m l) ≡ m → (b : Bool) → ltb i m ≡ b → getD (fill n (take m l)) i 0 ≡ getD l i 0
-    go i g lt true q =
-        lib.ListN.List·getD-append (take m l) (replicate (n - length (take m l)) 0) 0 i (omega (arith, ltb-true i m q)) ∙ getD-take m l i 0 (ltb-true i m q)
-    go i g lt false q = fill-past n (take m l) i (omega (arith, ltb-false i m q)) ∙ sym (z i g (ltb-false i m q))
-
--- ---- unused places
-
-used-or-zero : (l : List ℕ) (m i : ℕ) → (m ≤ i → getD l i 0 ≡ 0) → ltb i m || eqb (getD l i 0) 0 ≡ true
-used-or-zero l m i h = go (ltb i m) refl
-  where
-    go : (b : Bool) → ltb i m ≡ b → b || eqb (getD l i 0) 0 ≡ true
-    go true e = refl
-    go false e = eq-eqb (getD l i 0) 0 (h (ltb-false i m e))
-
-zero-past : (l : List ℕ) (m i : ℕ) → ltb i m || eqb (getD l i 0) 0 ≡ true → m ≤ i → getD l i 0 ≡ 0
-zero-past l m i e h = eqb-true (getD l i 0) 0 (rw (le-ltb i m h) at e)
-
-unused-of : (h : Hand) → ((i : ℕ) → h .fields .m ≤ i → getD (h .melds) i 0 ≡ 0) → ((i : ℕ) → 13 - 3 * h .fields .m ≤ i → getD (h .concealed) i 0 ≡ 0) → unusedNotZero h ≡ false
-unfolding unusedNotZero every
-unused-of h zm zt =
-    let em = every-of (λ i. ltb i (h .fields .m) || eqb (getD (h .melds) i 0) 0) 4 (λ i g. used-or-zero (h .melds) (h .fields .m) i (zm i)) in
-    let et = every-of (λ i. ltb i (13 - 3 * h .fields .m) || eqb (getD (h .concealed) i 0) 0) 13 (λ i g. used-or-zero (h .concealed) (13 - 3 * h .fields .m) i (zt i)) in
-    nots _ _ em et
-  where
-    nots : (a b : Bool) → a ≡ true → b ≡ true → not a || not b ≡ false
-    nots a b p q = rw (p, q)
-
-zeros-of : (h : Hand) → unusedNotZero h ≡ false → ((i : ℕ) → i < 4 → h .fields .m ≤ i → getD (h .melds) i 0 ≡ 0) × ((i : ℕ) → i < 13 → 13 - 3 * h .fields .m ≤ i → getD (h .concealed) i 0 ≡ 0)
-unfolding unusedNotZero every
-zeros-of h e =
-    let p = or-both (not (all 4 (λ i. ltb i (h .fields .m) || eqb (getD (h .melds) i 0) 0))) (not (all 13 (λ i. ltb i (13 - 3 * h .fields .m) || eqb (getD (h .concealed) i 0) 0))) e in (
-      λ i g l. zero-past (h .melds) (h .fields .m) i (every-at (λ j. ltb j (h .fields .m) || eqb (getD (h .melds) j 0) 0) 4 i (not-false _ (p .0)) g) l,
-      λ i g l. zero-past (h .concealed) (13 - 3 * h .fields .m) i (every-at (λ j. ltb j (13 - 3 * h .fields .m) || eqb (getD (h .concealed) j 0) 0) 13 i (not-false _ (p .1)) g) l,
-    )
 
 -- ---- what a sound answer says
 
@@ -295,48 +181,6 @@ module _ (s : List ℕ) (h : Hand) (y : ReadAs s h) where
 
 -- ---- the other way: what is written fits its bits
 
-fit-cons : (w v : ℕ) (ws vs : List ℕ) → v < 2 ^ w → FitIn ws vs → FitIn (w ∷ ws) (v ∷ vs)
-fit-cons w v ws vs h t zero = h
-fit-cons w v ws vs h t (suc k) = t k
-
-fit-nil : FitIn [] []
-fit-nil k = omega arith
-
--- a test that `omega` proves part by part
-abbrev AllFit : List ℕ → List ℕ → Type 0
-AllFit [] vs = _≡_ {A = ℕ} (length vs) 0
-AllFit (w ∷ ws) [] = _<_ 0 1
-AllFit (w ∷ ws) (v ∷ vs) = (v < 2 ^ w) × AllFit ws vs
-
-fit-all : (ws vs : List ℕ) → AllFit ws vs → FitIn ws vs
-fit-all [] [] h = fit-nil
-fit-all [] (v ∷ vs) h = absurd (suc-ne-zero _ h)
-fit-all (w ∷ ws) [] h = λ k. pow-pos (getD (w ∷ ws) k 0)
-fit-all (w ∷ ws) (v ∷ vs) h = fit-cons w v ws vs (h .0) (fit-all ws vs (h .1))
-
-fit-run : (n w : ℕ) (s : List ℕ) → length s ≤ n → Below (2 ^ w) s → FitIn (replicate n w) s
-fit-run zero w [] e h = fit-nil
-fit-run zero w (x ∷ s) e h = absurd (not-suc-le-zero e)
-fit-run (suc n) w [] e h = λ k. pow-pos (getD (replicate (suc n) w) k 0)
-fit-run (suc n) w (x ∷ s) e h = fit-cons w x (replicate n w) s (h 0) (fit-run n w s (le-of-suc-le-suc e) (λ k. h (suc k)))
-
-fit-append : (ws vs us xs : List ℕ) → length ws ≡ length vs → FitIn ws vs → FitIn us xs → FitIn (ws ++ us) (vs ++ xs)
-fit-append [] [] us xs e h g = g
-fit-append [] (v ∷ vs) us xs e h g = absurd (suc-ne-zero _ (sym e))
-fit-append (w ∷ ws) [] us xs e h g = absurd (suc-ne-zero _ e)
-fit-append (w ∷ ws) (v ∷ vs) us xs e h g =
-    fit-cons w v (ws ++ us) (vs ++ xs) (h 0) (fit-append ws vs us xs (suc-inj e) (λ k. h (suc k)) g)
-
-app-inj : (a b c d : List ℕ) → length a ≡ length b → a ++ c ≡ b ++ d → (a ≡ b) × (c ≡ d)
-app-inj [] [] c d e q = (refl, q)
-app-inj [] (y ∷ b) c d e q = absurd (suc-ne-zero _ (sym e))
-app-inj (x ∷ a) [] c d e q = absurd (suc-ne-zero _ e)
-app-inj (x ∷ a) (y ∷ b) c d e q =
-    let hd : x ≡ y = cc in
-    let tl : a ++ c ≡ b ++ d = cc in
-    let r = app-inj a b c d (suc-inj e) tl in
-    (rw (hd, r .0), r .1)
-
 -- the first k tiles fit six bits
 tiles-below : (k : ℕ) (l : List ℕ) → ((i : ℕ) → i < k → getD l i 0 ≤ 33) → Below 64 (take k l)
 tiles-below k l h i = go (ltb i k) refl
@@ -344,23 +188,6 @@ tiles-below k l h i = go (ltb i k) refl
     go : (b : Bool) → ltb i k ≡ b → getD (take k l) i 0 < 64
     go true e = rw (getD-take k l i 0 (ltb-true i k e)) (omega (arith, h i (ltb-true i k e)))
     go false e = rw (List·getD-eq-default (take k l) 0 {n = i} (omega (arith, ltb-false i k e, length-take k l))) (omega arith)
-
--- what an accepted hand has
-pub record Accepted (h : Hand) : Type 0 where
-  pub large : tooLarge (h .fields) ≡ false
-  pub unused : unusedNotZero h ≡ false
-  pub clean : Clean h 0
-
-cond-two : (b : Bool) (n : ℕ) → cond b 2 n ≡ 0 → (b ≡ false) × (n ≡ 0)
-cond-two true n e = absurd (omega arith)
-cond-two false n e = (refl, e)
-
-pub accepted-of : (h : Hand) → unwritable h ≡ 0 → Accepted h
-unfolding unwritable
-accepted-of h e =
-    let p = cond-two (tooLarge (h .fields) || unusedNotZero h) (refusalOf h 0) e in
-    let q = or-both (tooLarge (h .fields)) (unusedNotZero h) (p .0) in
-    record { large = q .0; unused = q .1; clean = clean-of h 0 (p .1) }
 
 fit-head : (h : Hand) → Accepted h → FitIn head (headList (h .fields))
 fit-head h y =

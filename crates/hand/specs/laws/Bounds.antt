@@ -1,0 +1,46 @@
+-- The fields of a hand that was read are within their ranges. Assumes nothing.
+use Prim.Native.Nat.{ℕ, _≤_}
+use mathlib.Core.Path.{_≡_, ap, sym, _∙_, subst}
+use mathlib.Core.Bool.{Bool, false, _||_}
+use mathlib.Core.List.{List}
+use borrow.Author.Tests.{ltb-false}
+use lib.Dec.{ltb}
+use Rattle.tiles.specs.laws.Below.{or-both}
+use Rattle.bits.specs.Bits.{bitsOf}
+use Rattle.fields.specs.declared.Fields.{Fields}
+use Rattle.fields.specs.declared.Hand.{Hand}
+use Rattle.fields.specs.Refusals.{tooLarge}
+use Rattle.hand.specs.declared.Answer.{Answer}
+use Rattle.hand.specs.declared.Answer.the-variants.{Sound}
+use Rattle.hand.specs.Record.{numberOf, handOf, countIn, handIn, readOf}
+use Rattle.hand.specs.laws.Clean.{kinds-of, Accepted, accepted-of}
+use Rattle.hand.specs.laws.Round.{as-read, accepted-back}
+use Rattle.hand.specs.laws.Claims.{is-read}
+
+pub record Bounds (h : Hand) : Type 0 where
+  pub few : h .fields .m ≤ 4
+  pub winner : h .fields .winner ≤ 3
+  pub discarder : h .fields .discarder ≤ 3
+  pub winning : h .fields .winning ≤ 33
+  pub indicator : h .fields .indicator ≤ 33
+
+-- what a hand that Write accepts has
+pub bounds-of : (h : Hand) → Accepted h → Bounds h
+bounds-of h y =
+    let f = h .fields in
+    let p = four (ltb 4 (f .m)) (ltb 1 (f .how)) (ltb 3 (f .winner)) (ltb 3 (f .discarder)) (ltb 3 (f .riichi)) (ltb 7 (f .situation)) (y .large) in
+    let k = kinds-of h 0 (y .clean .fields) in
+    record { few = ltb-false 4 (f .m) (p .0); winner = ltb-false 3 (f .winner) (p .1); discarder = ltb-false 3 (f .discarder) (p .2); winning = k .winning; indicator = k .indicator }
+  where
+    four : (a b c d u v : Bool) → a || b || c || d || u || v ≡ false → (a ≡ false) × (c ≡ false) × (d ≡ false)
+    four a b c d u v q =
+        let q3 = or-both (a || b || c) d (or-both (a || b || c || d) u (or-both (a || b || c || d || u) v q .0) .0) in
+        let q2 = or-both (a || b) c (q3 .0) in
+        (or-both a b (q2 .0) .0, q2 .1, q3 .1)
+
+-- what is read as sound
+pub read-bounds : (s : List ℕ) → numberOf (readOf s .answer) ≡ 0 → Bounds (handOf (readOf s))
+read-bounds s e =
+    let y = is-read s e in
+    let h : Hand = handIn (countIn s) (bitsOf s) in
+    subst (λ (x : Hand). Bounds x) (sym (ap handOf (as-read s h y))) (bounds-of h (accepted-of h (accepted-back s h y)))
