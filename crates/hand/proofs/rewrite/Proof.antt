@@ -9,7 +9,8 @@ use Rattle.hand.specs.declared.Answer.{Answer}
 use Rattle.hand.specs.declared.Answer.the-variants.{Sound, Refused}
 use Rattle.hand.specs.declared.HandRead.{HandRead}
 use Rattle.hand.specs.declared.Written.{Written}
-use Rattle.hand.specs.Record.{numberOf, fieldsOf, handOf, readOf, writtenOf, bufferOf, rewrittenBy, rebufferBy, rewrittenOf, rebufferOf}
+use Rattle.hand.specs.Record.{numberOf, handOf, readOf, writtenOf, bufferOf, rewrittenBy, rebufferBy, rewrittenOf, rebufferOf}
+use Rattle.hand.specs.laws.Bounds.{answer-is, hand-is}
 use Rattle.hand.proofs.rewrite.Statement.{statement}
 use Rattle.hand.proofs.rewrite.Tie as tie
 
@@ -17,23 +18,16 @@ back-refused : (s buf : List ℕ) (r : HandRead) (n w : ℕ) → r ≡ readOf s 
     → (_≡_ {A = Written} (record { refusal = w; len = 0 }) (rewrittenOf s buf)) × (buf ≡ rebufferOf s buf)
 unfolding rewrittenOf rebufferOf rewrittenBy rebufferBy
 back-refused s buf r n w e told q =
-    let a : readOf s .answer ≡ Refused n = ap (λ (x : HandRead). x .answer) (sym e) ∙ told in
     let k : w ≡ n = q ∙ ap numberOf told in
-    (ap (λ (x : ℕ). record { refusal = x; len = 0 }) k ∙ ap (λ (x : Answer). rewrittenBy x (handOf (readOf s)) buf) (sym a), ap (λ (x : Answer). rebufferBy x (handOf (readOf s)) buf) (sym a))
+    (ap (λ (x : ℕ). record { refusal = x; len = 0 }) k ∙ ap (λ (x : Answer). rewrittenBy x (handOf (readOf s)) buf) (sym (answer-is s r e told)), ap (λ (x : Answer). rebufferBy x (handOf (readOf s)) buf) (sym (answer-is s r e told)))
 
 module _ (s buf : List ℕ) (r : HandRead) (f : Fields) (e : r ≡ readOf s) (told : r .answer ≡ Sound f) where
-  a : readOf s .answer ≡ Sound f
-  a = ap (λ (x : HandRead). x .answer) (sym e) ∙ told
-
-  same : record { fields = f; melds = r .melds; concealed = r .concealed } ≡ handOf (readOf s)
-  same = ap (λ (x : Answer). record { fields = fieldsOf x; melds = r .melds; concealed = r .concealed }) (sym told) ∙ ap handOf e
-
   back-sound : (w : Written) (out : List ℕ) → w ≡ writtenOf (record { fields = f; melds = r .melds; concealed = r .concealed }) buf
       → out ≡ bufferOf (record { fields = f; melds = r .melds; concealed = r .concealed }) buf → (w ≡ rewrittenOf s buf) × (out ≡ rebufferOf s buf)
   unfolding rewrittenOf rebufferOf rewrittenBy rebufferBy
   back-sound w out p q = (
-    p ∙ ap (λ (h : Hand). writtenOf h buf) same ∙ ap (λ (x : Answer). rewrittenBy x (handOf (readOf s)) buf) (sym a),
-    q ∙ ap (λ (h : Hand). bufferOf h buf) same ∙ ap (λ (x : Answer). rebufferBy x (handOf (readOf s)) buf) (sym a),
+    p ∙ ap (λ (h : Hand). writtenOf h buf) (hand-is s r e f told) ∙ ap (λ (x : Answer). rewrittenBy x (handOf (readOf s)) buf) (sym (answer-is s r e told)),
+    q ∙ ap (λ (h : Hand). bufferOf h buf) (hand-is s r e f told) ∙ ap (λ (x : Answer). rebufferBy x (handOf (readOf s)) buf) (sym (answer-is s r e told)),
   )
 
 pub rewrite-spec : {M : Type 1} → statement M

@@ -11,8 +11,9 @@ use Rattle.fields.specs.declared.Fields.{Fields}
 use Rattle.fields.specs.declared.Hand.{Hand}
 use Rattle.fields.specs.Refusals.{tooLarge}
 use Rattle.hand.specs.declared.Answer.{Answer}
-use Rattle.hand.specs.declared.Answer.the-variants.{Sound}
-use Rattle.hand.specs.Record.{numberOf, handOf, countIn, handIn, readOf}
+use Rattle.hand.specs.declared.Answer.the-variants.{Sound, Refused}
+use Rattle.hand.specs.declared.HandRead.{HandRead}
+use Rattle.hand.specs.Record.{numberOf, fieldsOf, handOf, countIn, handIn, readOf}
 use Rattle.hand.specs.laws.Clean.{kinds-of, Accepted, accepted-of}
 use Rattle.hand.specs.laws.Round.{as-read, accepted-back}
 use Rattle.hand.specs.laws.Claims.{is-read}
@@ -44,3 +45,11 @@ read-bounds s e =
     let y = is-read s e in
     let h : Hand = handIn (countIn s) (bitsOf s) in
     subst (λ (x : Hand). Bounds x) (sym (ap handOf (as-read s h y))) (bounds-of h (accepted-of h (accepted-back s h y)))
+
+-- what a reader's answer says of the record: r is what Read gave
+module _ (s : List ℕ) (r : HandRead) (e : r ≡ readOf s) where
+  pub answer-is : {a : Answer} → r .answer ≡ a → readOf s .answer ≡ a
+  answer-is told = ap (λ (x : HandRead). x .answer) (sym e) ∙ told
+
+  pub hand-is : (f : Fields) → r .answer ≡ Sound f → record { fields = f; melds = r .melds; concealed = r .concealed } ≡ handOf (readOf s)
+  hand-is f told = ap (λ (x : Answer). record { fields = fieldsOf x; melds = r .melds; concealed = r .concealed }) (sym told) ∙ ap handOf e

@@ -2,20 +2,15 @@
 use mathlib.Core.Path.{_≡_, refl}
 use mathlib.Core.List.{List, [], _∷_}
 use mathlib.Core.Logic.{inl, inr}
-use Prim.Native.Nat.{ℕ, _+_}
+use Prim.Native.Nat.{ℕ}
 use native.Mathlib.Omega.{arith}
 use Rattle.tiles.specs.Below.{every, number}
 use Rattle.tiles.specs.Groups.{isGroup, at, uses}
-use Rattle.tiles.specs.Tally.{tallyOf}
+use Rattle.tiles.specs.Tally.{held, tallyOf}
 use Rattle.reading.specs.declared.Reading.{Reading}
 use Rattle.reading.specs.Reading.{holds, isSevenPairs, isOrphans, ofForm}
 use Rattle.reading.specs.Order.{Before}
 use Rattle.reading.specs.Readings.{concatMap, isEmpty, less, fits, without, passes, step, splits, regularOf, placedAt, placed, paired, formed, readings}
-
--- how many of the tiles are of kind k
-held : List ℕ → ℕ → ℕ
-held [] k = 0
-held (x ∷ l) k = at x 1 k + held l k
 
 -- of tiles, m melds and the winning kind
 abbrev readingsOf : List ℕ → ℕ → ℕ → List Reading
