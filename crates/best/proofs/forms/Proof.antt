@@ -1,0 +1,37 @@
+-- `best::forms` meets its contract: each form where its test holds. Assumes nothing.
+use mathlib.Core.Path.{_≡_, sym, ap, _∙_}
+use mathlib.Core.Logic.{⊎-elim}
+use mathlib.Core.List.{[], _∷_}
+use Prim.Native.Nat.{ℕ, _≤_}
+use native.Mathlib.Omega.{arith}
+use borrow.Author.Needs.{needs}
+use Rattle.reading.specs.declared.Reading.{Reading}
+use Rattle.reading.specs.Reading.{isSevenPairs, ofForm}
+use Rattle.reading.specs.Judged.{judged}
+use Rattle.reading.specs.Readings.{when}
+use Rattle.reading.specs.laws.Fold.{judged-with, judged-none, formed-with, formed-none}
+use Rattle.best.specs.Best.{judgeOf}
+use Rattle.best.proofs.forms.Statement.{statement}
+use Rattle.best.proofs.forms.Tie as tie
+
+paired : (c : tie.Joined2) → c .if2 .b ≡ judged (judgeOf (c .before .before .before .args .h)) (c .before .before .before .args .best) (when (isSevenPairs (c .before .before .before .args .t)) (λ _. ofForm 1 ∷ []))
+paired c =
+    ⊎-elim
+    (λ w. w .3 ∙ judged-with (judgeOf _) _ _ _ _ (sym (c .before .is-seven-pairs .ensures) ∙ w .0 .taken) (w .2 .ensures ∙ ap (judgeOf _ _) (w .1 .ensures)))
+    (λ w. w .1 ∙ judged-none (judgeOf _) _ _ _ (sym (c .before .is-seven-pairs .ensures) ∙ w .0 .left))
+    (c .if2 .came)
+
+place-zero : (r : Reading) (f : ℕ) → r ≡ ofForm f → r .place ≤ 4
+place-zero r f e = rw e (omega arith)
+
+pub forms-spec : {M : Type 1} → statement M
+forms-spec =
+    tie.close
+    (tie.spec (λ c. formed-none (judgeOf _) _ _ _ (c .if1 .taken))
+    (λ c κs. search needs) (λ c κs. search needs) (λ c κs. (c .before .before .before .before .pre, place-zero (c .of-form .result) 1 (c .of-form .ensures))) (λ c κs. search needs) (λ c κs. search needs) (λ c κs. (c .before .before .before .before .before .before .pre, place-zero (c .of-form2 .result) 2 (c .of-form2 .ensures)))
+    (λ c.
+    formed-with (judgeOf _) _ _ _ _ _ (c .before .before .before .before .before .before .if1 .left) (paired (c .before .before .before .before))
+    (judged-with (judgeOf _) _ _ _ _ (sym (c .before .before .before .is-orphans .ensures) ∙ c .before .before .if3 .taken) (c .judge2 .ensures ∙ ap (judgeOf _ _) (c .before .of-form2 .ensures))))
+    (λ c.
+    formed-with (judgeOf _) _ _ _ _ _ (c .before .before .before .before .if1 .left) (paired (c .before .before))
+    (judged-none (judgeOf _) _ _ _ (sym (c .before .is-orphans .ensures) ∙ c .if3 .left))))

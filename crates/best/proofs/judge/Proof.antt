@@ -1,0 +1,35 @@
+-- `best::judge` meets its contract: by whether the reading has a yaku and beats what is kept. Assumes nothing.
+use borrow.Author.Needs.{needs}
+use mathlib.Core.Path.{_≡_, ap, sym, _∙_}
+use mathlib.Core.Bool.{Bool, true, false, _&&_, _||_, not}
+use Rattle.reading.specs.declared.Reading.{Reading}
+use Rattle.yaku.specs.Yaku.{hasYaku}
+use Rattle.value.specs.declared.Value.{Value}
+use Rattle.best.specs.declared.Table.{Table}
+use Rattle.best.specs.declared.Best.{Best}
+use Rattle.best.specs.Best.{worth, beats, judgeOf}
+use Rattle.best.proofs.judge.Statement.{statement}
+use Rattle.best.proofs.judge.Tie as tie
+
+module _ (t : Table) (b : Best) (r : Reading) (v : Value) (x y : Bool) (ev : v ≡ worth t r) (ex : x ≡ hasYaku (v .yaku)) (ey : y ≡ beats v (b .value)) where
+  test : x && (not (b .valued) || y) ≡ hasYaku (worth t r .yaku) && (not (b .valued) || beats (worth t r) (b .value))
+  test = rw (← ev, ← ex, ← ey)
+
+  taken : x && (not (b .valued) || y) ≡ true → record { seen = true; valued = true; value = v } ≡ judgeOf t b r
+  unfolding judgeOf
+  taken e = rw (sym test ∙ e) (ap (λ (z : Value). record { seen = true; valued = true; value = z }) ev)
+
+  left : x && (not (b .valued) || y) ≡ false → record { seen = true; valued = b .valued; value = b .value } ≡ judgeOf t b r
+  unfolding judgeOf
+  left e = rw (sym test ∙ e)
+
+pub judge-spec : {M : Type 1} → statement M
+judge-spec =
+    tie.close
+    (tie.spec (λ c κs. search needs) (λ c κs. search needs) (λ c κs. search needs)
+    (λ c.
+    let a = c .before .before .before .before .before .before .before .args in
+    taken (a .t) (a .b) (a .r) (c .before .before .before .before .before .worth .result) (c .before .before .before .has-yaku .result) (c .before .beats .result) (c .before .before .before .before .before .worth .ensures) (c .before .before .before .has-yaku .ensures) (c .before .beats .ensures) (c .if1 .taken))
+    (λ c.
+    let a = c .before .before .before .before .before .before .before .args in
+    left (a .t) (a .b) (a .r) (c .before .before .before .before .before .worth .result) (c .before .before .before .has-yaku .result) (c .before .beats .result) (c .before .before .before .before .before .worth .ensures) (c .before .before .before .has-yaku .ensures) (c .before .beats .ensures) (c .if1 .left)))

@@ -1,0 +1,9 @@
+-- `best::none` meets its contract. Assumes nothing.
+use mathlib.Core.Path.{refl}
+use Rattle.best.specs.Best.{noneOf}
+use Rattle.best.proofs.none.Statement.{statement}
+use Rattle.best.proofs.none.Tie as tie
+
+pub none-spec : {M : Type 1} → statement M
+unfolding noneOf
+none-spec = tie.close (tie.spec (λ c. refl))

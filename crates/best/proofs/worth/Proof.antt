@@ -1,0 +1,28 @@
+-- `best::worth` meets its contract: the parts of the reading are valued. Assumes nothing.
+use borrow.Author.Needs.{needs}
+use Prim.Native.Nat.{_≤_}
+use mathlib.Core.Path.{_≡_, ap, _∙_}
+use Rattle.reading.specs.declared.Reading.{Reading}
+use Rattle.yaku.specs.declared.Parts.{Parts}
+use Rattle.value.specs.Value.{valueOf}
+use Rattle.best.specs.declared.Table.{Table}
+use Rattle.best.specs.Best.{partsOf, worth}
+use Rattle.best.proofs.worth.Statement.{statement}
+use Rattle.best.proofs.worth.Tie as tie
+
+place-kept : (t : Table) (r : Reading) (p : Parts) → p ≡ partsOf t r → r .place ≤ 4 → p .place ≤ 4
+unfolding partsOf
+place-kept t r p e h = rw e h
+
+pub worth-spec : {M : Type 1} → statement M
+unfolding worth
+worth-spec =
+    tie.close
+    (tie.spec (λ c κs. c .before .before .before .pre .1)
+    (λ c κs.
+    let s = c .before .before .before .before in
+    let r = s .pre .0 in
+    (r .tests, (place-kept (s .args .t) (s .args .r) (c .parts .result) (c .parts .ensures) (s .pre .1), r .round, r .own, r .dora)))
+    (λ c.
+    let t = c .before .before .before .before .before .args .t in
+    c .value-of .ensures .0 ∙ ap (λ (p : Parts). valueOf (t .won) p (t .dora) (t .seats)) (c .before .parts .ensures)))

@@ -1,0 +1,180 @@
+-- The search keeps the first of those readings with a yaku that no other beats. Assumes nothing.
+use mathlib.Core.Bool.{Bool, true, false, _&&_, _||_, not, cond, false≢true}
+use mathlib.Core.List.{List, [], _∷_, List·Memᴰ as Member, List·Memᴰ·head, List·Memᴰ·tail, List·Memᴰ·cases-cons, List·Memᴰ·not-nil}
+use mathlib.Core.Logic.{_⊎_, inl, inr, ⊎-elim}
+use mathlib.Core.Path.{_≡_, refl, sym, ap, _∙_, subst}
+use Prim.Native.Nat.{ℕ, _≤_, _<_}
+use native.Mathlib.Nat.{eq-or-lt-of-le}
+use native.Mathlib.Omega.{arith}
+use borrow.Author.Tests.{ltb-true, ltb-false, eqb-true, eqb-false}
+use lib.Dec.{ltb, eqb}
+use Rattle.reading.specs.declared.Reading.{Reading}
+use Rattle.reading.specs.Order.{Lex, Before, Each, none, also, Pairwise, ended, first}
+use Rattle.reading.specs.Judged.{judged}
+use Rattle.reading.specs.laws.Lists.{each-member}
+use Rattle.yaku.specs.Yaku.{hasYaku}
+use Rattle.value.specs.declared.Value.{Value}
+use Rattle.best.specs.declared.Table.{Table}
+use Rattle.best.specs.declared.Best.{Best}
+use Rattle.best.specs.Best.{worth, isValued, beats, noneOf, judgeOf}
+
+-- ---- the order of values: gain, then h, then fu
+
+abbrev pub figures : Value → List ℕ
+figures v = v .gain .0 ∷ v .han .0 ∷ v .fu .0 ∷ []
+
+-- v beats w
+pub beats-lex : (v w : Value) → beats v w ≡ true → Lex (figures w) (figures v)
+unfolding beats
+beats-lex v w e = go (ltb (w .gain .0) (v .gain .0)) (eqb (v .gain .0) (w .gain .0)) (ltb (w .han .0) (v .han .0)) (eqb (v .han .0) (w .han .0)) (ltb (w .fu .0) (v .fu .0)) refl refl refl refl refl e
+  where
+    go : (a b c d f : Bool) → ltb (w .gain .0) (v .gain .0) ≡ a → eqb (v .gain .0) (w .gain .0) ≡ b → ltb (w .han .0) (v .han .0) ≡ c → eqb (v .han .0) (w .han .0) ≡ d → ltb (w .fu .0) (v .fu .0) ≡ f
+        → a || (b && (c || (d && f))) ≡ true → Lex (figures w) (figures v)
+    go true b c d f ea eb ec ed ef q = inl (ltb-true _ _ ea)
+    go false false c d f ea eb ec ed ef q = absurd (false≢true q)
+    go false true true d f ea eb ec ed ef q = inr (sym (eqb-true _ _ eb), inl (ltb-true _ _ ec))
+    go false true false false f ea eb ec ed ef q = absurd (false≢true q)
+    go false true false true false ea eb ec ed ef q = absurd (false≢true q)
+    go false true false true true ea eb ec ed ef q = inr (sym (eqb-true _ _ eb), inr (sym (eqb-true _ _ ed), inl (ltb-true _ _ ef)))
+
+equal : (a b c d x y : ℕ) → a ≡ b → c ≡ d → x ≡ y → a ∷ c ∷ x ∷ [] ≡ b ∷ d ∷ y ∷ []
+equal a b c d x y p q r = cc
+
+-- v does not beat w: w is above, or they are equal
+pub not-beats-lex : (v w : Value) → beats v w ≡ false → Lex (figures v) (figures w) ⊎ (figures v ≡ figures w)
+unfolding beats
+not-beats-lex v w e = go (ltb (w .gain .0) (v .gain .0)) (eqb (v .gain .0) (w .gain .0)) (ltb (w .han .0) (v .han .0)) (eqb (v .han .0) (w .han .0)) (ltb (w .fu .0) (v .fu .0)) refl refl refl refl refl e
+  where
+    under : (a b : ℕ) → ltb b a ≡ false → eqb a b ≡ false → a < b
+    under a b p q = ⊎-elim (λ r. absurd (eqb-false a b q r)) (λ l. l) (eq-or-lt-of-le (ltb-false b a p))
+
+    same : (a b : ℕ) → ltb b a ≡ false → (a < b) ⊎ (a ≡ b)
+    same a b p = ⊎-elim (λ r. inr r) (λ l. inl l) (eq-or-lt-of-le (ltb-false b a p))
+
+    go : (a b c d f : Bool) → ltb (w .gain .0) (v .gain .0) ≡ a → eqb (v .gain .0) (w .gain .0) ≡ b → ltb (w .han .0) (v .han .0) ≡ c → eqb (v .han .0) (w .han .0) ≡ d → ltb (w .fu .0) (v .fu .0) ≡ f
+        → a || (b && (c || (d && f))) ≡ false → Lex (figures v) (figures w) ⊎ (figures v ≡ figures w)
+    go true b c d f ea eb ec ed ef q = absurd (false≢true (sym q))
+    go false false c d f ea eb ec ed ef q = inl (inl (under _ _ ea eb))
+    go false true true d f ea eb ec ed ef q = absurd (false≢true (sym q))
+    go false true false false f ea eb ec ed ef q = inl (inr (eqb-true _ _ eb, inl (under _ _ ec ed)))
+    go false true false true true ea eb ec ed ef q = absurd (false≢true (sym q))
+    go false true false true false ea eb ec ed ef q =
+        ⊎-elim (λ l. inl (inr (eqb-true _ _ eb, inr (eqb-true _ _ ed, inl l))))
+        (λ r. inr (equal _ _ _ _ _ _ (eqb-true _ _ eb) (eqb-true _ _ ed) r)) (same _ _ ef)
+
+lex-trans : (a b c : List ℕ) → Lex a b → Lex b c → Lex a c
+lex-trans [] b c h g = absurd h
+lex-trans (x ∷ a) [] c h g = absurd h
+lex-trans (x ∷ a) (y ∷ b) [] h g = absurd g
+lex-trans (x ∷ a) (y ∷ b) (z ∷ c) h g =
+    ⊎-elim
+    (λ l. ⊎-elim (λ k. inl (omega arith)) (λ k. inl (rw (k .0) at l)) g)
+    (λ l. ⊎-elim (λ k. inl (rw (l .0) k)) (λ k. inr (l .0 ∙ k .0, lex-trans a b c (l .1) (k .1))) g)
+    h
+
+-- ---- what is kept
+
+-- r is reported rather than q: its figures are above, or they are equal and r is q or comes before it
+abbrev pub Over : Table → Reading → Reading → Type 0
+Over t r q = Lex (figures (worth t q)) (figures (worth t r)) ⊎ ((figures (worth t q) ≡ figures (worth t r)) × ((r ≡ q) ⊎ Before r q))
+
+-- the first of the readings S with a yaku that no other beats, or none
+pub record Kept (t : Table) (S : Reading → Type 0) (b : Best) : Type 0 where
+  pub unseen : b .seen ≡ false → (q : Reading) → S q → ⊥
+  pub seen : b .seen ≡ true → (r : Reading) × S r
+  pub worthless : b .valued ≡ false → (q : Reading) → S q → isValued t q ≡ false
+  pub best : b .valued ≡ true → (r : Reading) × S r × (isValued t r ≡ true) × (b .value ≡ worth t r) × ((q : Reading) → S q → isValued t q ≡ true → Over t r q)
+
+abbrev With : (Reading → Type 0) → Reading → Reading → Type 0
+With S x q = S q ⊎ (q ≡ x)
+
+module _ (t : Table) (S : Reading → Type 0) (b : Best) (x : Reading) (k : Kept t S b) (later : (q : Reading) → S q → Before q x) where
+  -- the reading that is kept, where x does not beat it or has no yaku
+  keeps : (r : Reading) → ((q : Reading) → S q → isValued t q ≡ true → Over t r q) → (isValued t x ≡ true → Over t r x) → (q : Reading) → With S x q → isValued t q ≡ true → Over t r q
+  keeps r o ox q m v = ⊎-elim (λ s. o q s v) (λ e. rw e (ox (rw e at v))) m
+
+  -- x is taken: it beats what was kept, or nothing was
+  taken : isValued t x ≡ true → (not (b .valued) || beats (worth t x) (b .value)) ≡ true → Kept t (With S x) (record { seen = true; valued = true; value = worth t x })
+  taken vx e = record {
+    unseen = λ z. absurd (false≢true (sym z));
+    seen = λ _. (x, inr refl);
+    worthless = λ z. absurd (false≢true (sym z));
+    best = λ _. (x, inr refl, vx, refl, λ q m v. ⊎-elim (λ s. over q s v (b .valued) refl) (λ z. inr (ap (λ (y : Reading). figures (worth t y)) z, inl (sym z))) m);
+  }
+    where
+      above : (r : Reading) → b .value ≡ worth t r → beats (worth t x) (b .value) ≡ true → Lex (figures (worth t r)) (figures (worth t x))
+      above r e1 e2 = beats-lex (worth t x) (worth t r) (rw e1 at e2)
+
+      beyond : (q r : Reading) → Over t r q → Lex (figures (worth t r)) (figures (worth t x)) → Over t x q
+      beyond q r o l = ⊎-elim (λ h. inl (lex-trans (figures (worth t q)) (figures (worth t r)) (figures (worth t x)) h l)) (λ h. inl (subst (λ (z : List ℕ). Lex z (figures (worth t x))) (sym (h .0)) l)) o
+
+      over : (q : Reading) → S q → isValued t q ≡ true → (c : Bool) → b .valued ≡ c → Over t x q
+      over q s v false z = absurd (false≢true (sym (k .worthless z q s) ∙ v))
+      over q s v true z =
+          let y = k .best z in
+          let h : beats (worth t x) (b .value) ≡ true = rw z at e in
+          beyond q (y .0) (y .4 q s v) (above (y .0) (y .3) h)
+
+  -- x is not taken: it has no yaku, or does not beat what is kept
+  passed : (isValued t x ≡ true → (b .valued ≡ true) × (beats (worth t x) (b .value) ≡ false)) → Kept t (With S x) (record { seen = true; valued = b .valued; value = b .value })
+  passed h = record {
+    unseen = λ z. absurd (false≢true (sym z));
+    seen = λ _. (x, inr refl);
+    worthless = λ z q m. ⊎-elim (λ s. k .worthless z q s) (λ e. rw e (no-yaku z (isValued t x) refl)) m;
+    best = λ z.
+        let y = k .best z in
+        (y .0, inl (y .1), y .2, y .3, keeps (y .0) (y .4) (λ v. behind (y .0) (y .1) (y .3) (h v .1)));
+  }
+    where
+      no-yaku : b .valued ≡ false → (c : Bool) → isValued t x ≡ c → isValued t x ≡ false
+      no-yaku z true e = absurd (false≢true (sym z ∙ h e .0))
+      no-yaku z false e = e
+
+      behind : (r : Reading) → S r → b .value ≡ worth t r → beats (worth t x) (b .value) ≡ false → Over t r x
+      behind r s e1 e2 = ⊎-elim (λ l. inl l) (λ q. inr (q, inr (later r s))) (not-beats-lex (worth t x) (worth t r) (rw e1 at e2))
+
+  kept-step : Kept t (With S x) (judgeOf t b x)
+  unfolding judgeOf
+  kept-step = go (isValued t x) (b .valued) (beats (worth t x) (b .value)) refl refl refl
+    where
+      go : (v w z : Bool) → isValued t x ≡ v → b .valued ≡ w → beats (worth t x) (b .value) ≡ z
+          → Kept t (With S x) (cond (v && (not w || z)) (record { seen = true; valued = true; value = worth t x }) (record { seen = true; valued = b .valued; value = b .value }))
+      go false w z ev ew ez = passed (λ e. absurd (false≢true (sym ev ∙ e)))
+      go true false z ev ew ez = taken ev (rw ew refl)
+      go true true true ev ew ez = taken ev (rw (ew, ez) refl)
+      go true true false ev ew ez = passed (λ _. (ew, ez))
+
+pub kept-same : (t : Table) (S T : Reading → Type 0) (b : Best) → ((q : Reading) → S q → T q) → ((q : Reading) → T q → S q) → Kept t S b → Kept t T b
+kept-same t S T b to from k = record {
+  unseen = λ z q s. k .unseen z q (from q s);
+  seen = λ z. let y = k .seen z in (y .0, to (y .0) (y .1));
+  worthless = λ z q s. k .worthless z q (from q s);
+  best = λ z. let y = k .best z in (y .0, to (y .0) (y .1), y .2, y .3, λ q s v. y .4 q (from q s) v);
+}
+
+kept-fold : (t : Table) (rs : List Reading) (S : Reading → Type 0) (b : Best) → Kept t S b → ((q r : Reading) → S q → Member r rs → Before q r) → Pairwise Before rs
+    → Kept t (λ q. S q ⊎ Member q rs) (judged (judgeOf t) b rs)
+unfolding judged
+kept-fold t [] S b k later p = kept-same t S (λ q. S q ⊎ Member q []) b (λ q s. inl s) (λ q m. ⊎-elim (λ s. s) (λ n. absurd (List·Memᴰ·not-nil n)) m) k
+kept-fold t (x ∷ rs) S b k later (first e p) =
+    kept-same t (λ q. With S x q ⊎ Member q rs) (λ q. S q ⊎ Member q (x ∷ rs)) _
+    (λ q m. ⊎-elim (λ w. ⊎-elim (λ s. inl s) (λ z. inr (List·Memᴰ·head z)) w) (λ n. inr (List·Memᴰ·tail n)) m)
+    (λ q m. ⊎-elim (λ s. inl (inl s)) (λ n. ⊎-elim (λ z. inl (inr z)) (λ o. inr o) (List·Memᴰ·cases-cons n)) m)
+    (kept-fold t rs (With S x) (judgeOf t b x) (kept-step t S b x k (λ q s. later q x s (List·Memᴰ·head refl)))
+    (λ q r w m. ⊎-elim (λ s. later q r s (List·Memᴰ·tail m)) (λ z. rw z (each-member e m)) w) p)
+
+-- before any reading
+kept-none : (t : Table) → Kept t (λ q. ⊥) noneOf
+unfolding noneOf
+kept-none t = record {
+  unseen = λ z q s. s;
+  seen = λ z. absurd (false≢true z);
+  worthless = λ z q s. absurd s;
+  best = λ z. absurd (false≢true z);
+}
+
+-- after a list in order: each of it was held against the others
+pub kept-all : (t : Table) (rs : List Reading) → Pairwise Before rs → Kept t (λ q. Member q rs) (judged (judgeOf t) noneOf rs)
+kept-all t rs p =
+    kept-same t (λ q. ⊥ ⊎ Member q rs) (λ q. Member q rs) _ (λ q m. ⊎-elim (λ z. absurd z) (λ n. n) m) (λ q m. inr m)
+    (kept-fold t rs (λ q. ⊥) noneOf (kept-none t) (λ q r z m. absurd z) p)

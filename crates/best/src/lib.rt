@@ -1,0 +1,240 @@
+// The best reading of a tally: every reading is searched, valued and held against the best so far.
+ghost use mathlib.Core.Path.{_≡_};
+ghost use mathlib.Core.Bool.{cond};
+ghost use Prim.Native.Nat.{_<_, _≤_};
+ghost use lib.Dec.{eqb};
+ghost use Rattle.reading.specs.Readings.{placed, formed};
+ghost use Rattle.reading.specs.Judged.{judged};
+ghost use Rattle.reading.specs.laws.Fold.{searched};
+ghost use Rattle.best.specs.Best.{joined as joinedOf, partsOf, worth as worthOf, beats as beatsOf, noneOf, judgeOf, bestOf, Ready};
+use points::Seats;
+use reading::Reading;
+use value::Value;
+use yaku::Parts;
+use yaku::TileTests;
+use yaku::Won;
+
+// What is the same in every reading: how the hand was won, the tests of its tiles, the seats, the dora's kind, the melds' groups and ways.
+pub struct Table {
+    pub won: Won,
+    pub tests: TileTests,
+    pub seats: Seats,
+    pub dora: u8,
+    pub codes: [u8; 4],
+    pub ways: [u8; 4],
+}
+
+// What the search keeps: whether a reading was seen, whether one had a yaku, and the best of those.
+pub struct Best {
+    pub seen: bool,
+    pub valued: bool,
+    pub value: Value,
+}
+
+// The group of a reading or, where it has none, of the melds.
+fn pick(g: u8, c: u8) -> u8
+    ensures { λ r. ⌜ r ≡ cond (eqb g 68) c g ⌝ }
+{
+    if g == 68 { c } else { g }
+}
+
+fn joined(g: [u8; 4], c: [u8; 4]) -> [u8; 4]
+    ensures { λ r. ⌜ r ≡ joinedOf g c ⌝ }
+{
+    [
+        pick(g[0], c[0]),
+        pick(g[1], c[1]),
+        pick(g[2], c[2]),
+        pick(g[3], c[3]),
+    ]
+}
+
+fn parts(t: Table, r: Reading) -> Parts
+    requires { ⌜ r .place ≤ 4 ⌝ }
+    ensures { λ p. ⌜ p ≡ partsOf t r ⌝ }
+{
+    let rg = r.groups;
+    let mc = t.codes;
+    let mw = t.ways;
+    let groups = joined(rg, mc);
+    let ways = groups::ways_at(mw, t.won.ron, r.place);
+    Parts {
+        form: r.form,
+        pair: r.pair,
+        groups,
+        ways,
+        place: r.place,
+    }
+}
+
+fn worth(t: Table, r: Reading) -> Value
+    requires { ⌜ Ready t × (r .place ≤ 4) ⌝ }
+    ensures { λ v. ⌜ v ≡ worthOf t r ⌝ }
+{
+    let w = t.won;
+    let x = t.tests;
+    let s = t.seats;
+    value::value_of(w, x, parts(t, r), t.dora, s)
+}
+
+fn beats(v: Value, w: Value) -> bool
+    ensures { λ r. ⌜ r ≡ beatsOf v w ⌝ }
+{
+    (w.gain.0 < v.gain.0)
+        | ((v.gain.0 == w.gain.0)
+            & ((w.han.0 < v.han.0) | ((v.han.0 == w.han.0) & (w.fu.0 < v.fu.0))))
+}
+
+fn none() -> Best
+    ensures { λ r. ⌜ r ≡ noneOf ⌝ }
+{
+    let y = [false; 37];
+    let v = Value {
+        yaku: y,
+        han: points::Han(0),
+        fu: points::Fu(0),
+        basic: points::Points(0),
+        gain: points::Points(0),
+    };
+    Best {
+        seen: false,
+        valued: false,
+        value: v,
+    }
+}
+
+// The better of what is kept and a reading; of equals what is kept.
+fn judge(t: Table, b: Best, r: Reading) -> Best
+    requires { ⌜ Ready t × (r .place ≤ 4) ⌝ }
+    ensures { λ x. ⌜ x ≡ judgeOf t b r ⌝ }
+{
+    let kept = b.value;
+    let v = worth(t, r);
+    let y = v.yaku;
+    if yaku::has_yaku(y) & (!b.valued | beats(v, kept)) {
+        return Best {
+            seen: true,
+            valued: true,
+            value: v,
+        };
+    }
+    Best {
+        seen: true,
+        valued: b.valued,
+        value: kept,
+    }
+}
+
+// Each place of a pair and groups that holds the winning kind.
+fn places(h: Table, pair: u8, groups: [u8; 4], size: u8, win: u8, best: Best) -> Best
+    requires { ⌜ Ready h × (size ≤ 4) ⌝ }
+    ensures { λ r. ⌜ r ≡ judged (judgeOf h) best (placed size win pair groups) ⌝ }
+{
+    let mut b = best;
+    let mut p: u8 = 0;
+    while p <= size {
+        if reading::holds(pair, groups, p, win) {
+            b = judge(
+                h,
+                b,
+                Reading {
+                    form: 0,
+                    pair,
+                    groups,
+                    place: p,
+                },
+            );
+        }
+        p += 1;
+    }
+    b
+}
+
+// Each splitting of t into left groups of the codes from code on, behind the groups that so has.
+fn split(
+    h: Table,
+    t: [u8; 34],
+    code: u8,
+    left: u8,
+    so: [u8; 4],
+    size: u8,
+    win: u8,
+    pair: u8,
+    best: Best,
+) -> Best
+    requires { ⌜ Ready h × (left ≤ size) × (size ≤ 4) ⌝ }
+    ensures { λ r. ⌜ r ≡ searched (judgeOf h) size win pair so left code t best ⌝ }
+{
+    if left == 0 {
+        if reading::is_empty(t) {
+            return places(h, pair, so, size, win, best);
+        }
+        return best;
+    }
+    let mut found = best;
+    let mut c = code;
+    while c < 68 {
+        if reading::fits(t, c) {
+            let mut groups = so;
+            groups[(size - left) as usize] = c;
+            found = split(
+                h,
+                reading::without(t, c),
+                c,
+                left - 1,
+                groups,
+                size,
+                win,
+                pair,
+                found,
+            );
+        }
+        if !reading::passes(t, c) {
+            return found;
+        }
+        c += 1;
+    }
+    found
+}
+
+// The forms without groups.
+fn forms(h: Table, t: [u8; 34], m: u8, best: Best) -> Best
+    requires { ⌜ Ready h ⌝ }
+    ensures { λ r. ⌜ r ≡ judged (judgeOf h) best (formed t m) ⌝ }
+{
+    if m != 0 {
+        return best;
+    }
+    let mut b = best;
+    if reading::is_seven_pairs(t) {
+        b = judge(h, b, reading::of_form(1));
+    }
+    if reading::is_orphans(t) {
+        b = judge(h, b, reading::of_form(2));
+    }
+    b
+}
+
+// The best of every reading of the tally t with m melds, won by the kind win.
+pub fn best_of(h: Table, t: [u8; 34], m: u8, win: u8) -> Best
+    requires { ⌜ Ready h × (m ≤ 4) ⌝ }
+    ensures { λ r. ⌜ r ≡ bestOf h t m win ⌝ }
+{
+    let mut b = none();
+    for k in 0..34 {
+        if 2 <= t[k] {
+            b = split(
+                h,
+                reading::without_pair(t, k),
+                0,
+                4 - m,
+                [68, 68, 68, 68],
+                4 - m,
+                win,
+                k as u8,
+                b,
+            );
+        }
+    }
+    forms(h, t, m, b)
+}

@@ -1,0 +1,11 @@
+-- `groups::placed` meets its contract. Assumes nothing.
+use borrow.Author.Needs.{needs}
+use Rattle.groups.proofs.placed.Statement.{statement}
+use Rattle.groups.proofs.placed.Tie as tie
+
+pub placed-spec : {M : Type 1} → statement M
+placed-spec =
+    tie.close
+    (tie.spec
+    (λ c. search needs) (λ c. search needs) (λ c. search needs) (λ c. search needs) (λ c. rw (c .if1 .taken))
+    (λ c. search needs))

@@ -1,0 +1,3 @@
+pub mod Signed
+pub mod Balance
+pub mod Bounds

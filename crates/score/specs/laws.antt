@@ -1,0 +1,4 @@
+pub mod Settled
+pub mod Best
+pub mod Z
+pub mod Changes

@@ -1,0 +1,80 @@
+-- What the game needs to know of a scored hand: four changes, none over 48,000, summing to 0. Assumes nothing.
+use mathlib.Core.Path.{_≡_, refl, sym, ap, _∙_, subst}
+use mathlib.Core.Bool.{Bool, true, false, cond}
+use mathlib.Core.List.{List}
+use Prim.Native.Nat.{ℕ, zero, suc, _≤_, _<_}
+use native.Mathlib.Omega.{arith}
+use borrow.Author.Tests.{eqb-true}
+use lib.Dec.{eqb}
+use lib.IntN.{ℤ, pos, _+ℤ_, _-ℤ_}
+use lib.ListN.{getD, length, replicate}
+use Rattle.fields.specs.declared.Hand.{Hand}
+use Rattle.fields.specs.Hand.{isRon, concealedTally}
+use Rattle.points.specs.declared.Seats.{Seats}
+use Rattle.points.specs.Points.{pays, gain, change as changeOf, changes}
+use Rattle.points.specs.Claims.{changes-sum-zero}
+use Rattle.points.specs.laws.Bounds.{pays-le, gain-le}
+use Rattle.best.specs.Best.{bestOf}
+use Rattle.score.specs.declared.Scored.{Scored}
+use Rattle.score.specs.Score.{tableOf, seatsOf, refusedWith, settledOf}
+use Rattle.score.specs.laws.Settled.{best-le}
+use Rattle.score.specs.laws.Best.{answers}
+use Rattle.score.specs.laws.Z.{Within, sub-parts}
+
+abbrev pub change : Hand → ℕ → ℕ → ℕ → ℤ
+change h dealer wind i = getD (settledOf h dealer wind .changes) i (pos 0)
+
+-- ---- of the payments for basic points a
+
+module _ (s : Seats) (ron : Bool) (a : ℕ) (h : a ≤ 8000) where
+  one-within : (i : ℕ) → i < 4 → Within (changeOf s ron a i) 48000
+  unfolding changeOf
+  one-within i l = go (eqb (s .winner) i) refl
+    where
+      go : (b : Bool) → eqb (s .winner) i ≡ b → Within (cond b (pos (gain s ron a)) (pos 0 -ℤ pos (pays s ron a i))) 48000
+      go true e =
+          let w : s .winner ≡ i = eqb-true (s .winner) i e in
+          (gain-le s a h ron (omega arith), omega arith)
+      go false e =
+          let p = sub-parts (pos 0) (pos (pays s ron a i)) in
+          (omega arith, omega (arith, pays-le s a h ron i))
+
+  all-within : (i : ℕ) → Within (getD (changes s ron a) i (pos 0)) 48000
+  unfolding changes
+  all-within zero = one-within 0 (omega arith)
+  all-within (suc zero) = one-within 1 (omega arith)
+  all-within (suc (suc zero)) = one-within 2 (omega arith)
+  all-within (suc (suc (suc zero))) = one-within 3 (omega arith)
+  all-within (suc (suc (suc (suc i)))) = (omega arith, omega arith)
+
+zeros-within : (i : ℕ) → Within (getD (replicate 4 (pos 0)) i (pos 0)) 48000
+zeros-within zero = (omega arith, omega arith)
+zeros-within (suc zero) = (omega arith, omega arith)
+zeros-within (suc (suc zero)) = (omega arith, omega arith)
+zeros-within (suc (suc (suc zero))) = (omega arith, omega arith)
+zeros-within (suc (suc (suc (suc i)))) = (omega arith, omega arith)
+
+four-changes : (s : Seats) (ron : Bool) (a : ℕ) → length (changes s ron a) ≡ 4
+unfolding changes
+four-changes s ron a = refl
+
+-- ---- of a scored hand: zeros where it is refused, else its payments
+
+module _ (P : List ℤ → Type 0) (h : Hand) (dealer wind : ℕ) (none : P (replicate 4 (pos 0))) (paid : (a : ℕ) → a ≤ 8000 → P (changes (seatsOf h dealer) (isRon (h .fields)) a)) where
+  of-changes : P (settledOf h dealer wind .changes)
+  of-changes =
+      let to : (x : Scored) → settledOf h dealer wind ≡ x → P (x .changes) → P (settledOf h dealer wind .changes) = λ x e p. subst (λ (y : Scored). P (y .changes)) (sym e) p in
+      answers h dealer wind (λ s e. to (refusedWith 6) e none) (λ s v e. to (refusedWith 7) e none)
+      (λ s v e. to _ e (paid _ (best-le (tableOf h dealer wind) (concealedTally h) (h .fields .m) (h .fields .winning))))
+
+module _ (h : Hand) (dealer wind : ℕ) where
+  pub changes-four : length (settledOf h dealer wind .changes) ≡ 4
+  changes-four = of-changes (λ l. length l ≡ 4) h dealer wind refl (λ a _. four-changes (seatsOf h dealer) (isRon (h .fields)) a)
+
+  pub changes-within : (i : ℕ) → Within (change h dealer wind i) 48000
+  changes-within i = of-changes (λ l. Within (getD l i (pos 0)) 48000) h dealer wind (zeros-within i) (λ a l. all-within (seatsOf h dealer) (isRon (h .fields)) a l i)
+
+  pub changes-zero-sum : h .fields .winner ≤ 3 → change h dealer wind 0 +ℤ change h dealer wind 1 +ℤ change h dealer wind 2 +ℤ change h dealer wind 3 ≡ pos 0
+  changes-zero-sum w =
+      of-changes (λ l. getD l 0 (pos 0) +ℤ getD l 1 (pos 0) +ℤ getD l 2 (pos 0) +ℤ getD l 3 (pos 0) ≡ pos 0) h dealer wind refl
+      (λ a _. changes-sum-zero (seatsOf h dealer) (isRon (h .fields)) a (omega arith))

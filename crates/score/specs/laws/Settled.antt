@@ -1,0 +1,118 @@
+-- What a sound hand and a record score, case by case. Assumes nothing.
+use Prim.Native.Nat.{ℕ, _≤_}
+use mathlib.Core.Path.{_≡_, refl, sym, ap, _∙_, subst}
+use mathlib.Core.Bool.{Bool, true, false, _&&_, _||_, not, cond}
+use mathlib.Core.List.{List, [], _∷_}
+use native.Mathlib.Omega.{arith}
+use borrow.Author.Tests.{ltb-false, lt-ltb, leb-true, le-ltb}
+use lib.Dec.{ltb, leb}
+use Rattle.tiles.specs.laws.Below.{or-both}
+use Rattle.fields.specs.declared.Fields.{Fields}
+use Rattle.fields.specs.declared.Hand.{Hand}
+use Rattle.fields.specs.Hand.{isRon, concealedTally}
+use Rattle.hand.specs.declared.Answer.{Answer}
+use Rattle.hand.specs.declared.Answer.the-variants.{Sound, Refused}
+use Rattle.hand.specs.declared.HandRead.{HandRead}
+use Rattle.hand.specs.Record.{numberOf, handOf, readOf}
+use Rattle.hand.specs.laws.Bounds.{Bounds, read-bounds, answer-is, hand-is}
+use Rattle.reading.specs.declared.Reading.{Reading}
+use Rattle.reading.specs.Readings.{readings}
+use Rattle.reading.specs.Judged.{judged}
+use Rattle.points.specs.Points.{plain, limit, ordinary, basic}
+use Rattle.value.specs.declared.Value.{Value}
+use Rattle.value.specs.Value.{valueOf}
+use Rattle.best.specs.declared.Table.{Table}
+use Rattle.best.specs.declared.Best.{Best}
+use Rattle.best.specs.Best.{partsOf, worth, isValued, beats, noneOf, judgeOf, bestOf}
+use Rattle.score.specs.declared.Scored.{Scored}
+use Rattle.score.specs.Score.{tableOf, seatsOf, refusedWith, acceptedAs, settledBy, settledOf, scoredBy, scoreOf}
+
+-- ---- basic points are at most 8,000
+
+cond-le : (b : Bool) (x y n : ℕ) → x ≤ n → y ≤ n → cond b x y ≤ n
+cond-le true x y n h g = h
+cond-le false x y n h g = g
+
+limit-le : (h : ℕ) → limit h ≤ 6000
+unfolding limit
+limit-le h = cond-le (leb h 5) _ _ 6000 (omega arith) (cond-le (leb h 7) _ _ 6000 (omega arith) (cond-le (leb h 10) _ _ 6000 (omega arith) (omega arith)))
+
+ordinary-le : (h f : ℕ) → ordinary h f ≤ 6000
+unfolding ordinary
+ordinary-le h f = go (leb 5 h) (ltb 2000 (plain h f)) refl
+  where
+    go : (a b : Bool) → ltb 2000 (plain h f) ≡ b → cond (a || b) (limit h) (plain h f) ≤ 6000
+    go true b e = limit-le h
+    go false true e = limit-le h
+    go false false e = omega (arith, ltb-false 2000 (plain h f) e)
+
+pub basic-le : (y : Bool) (h f : ℕ) → basic y h f ≤ 8000
+unfolding basic
+basic-le y h f = cond-le y _ _ 8000 (omega arith) (omega (arith, ordinary-le h f))
+
+worth-le : (t : Table) (r : Reading) → worth t r .basic .0 ≤ 8000
+unfolding worth valueOf
+worth-le t r = basic-le _ _ _
+
+judge-le : (t : Table) (b : Best) (r : Reading) → b .value .basic .0 ≤ 8000 → judgeOf t b r .value .basic .0 ≤ 8000
+unfolding judgeOf
+judge-le t b r h = go (isValued t r && (not (b .valued) || beats (worth t r) (b .value)))
+  where
+    go : (c : Bool) → cond {A = Best} c (record { seen = true; valued = true; value = worth t r }) (record { seen = true; valued = b .valued; value = b .value }) .value .basic .0 ≤ 8000
+    go true = worth-le t r
+    go false = h
+
+judged-le : (t : Table) (b : Best) (rs : List Reading) → b .value .basic .0 ≤ 8000 → judged (judgeOf t) b rs .value .basic .0 ≤ 8000
+unfolding judged
+judged-le t b [] h = h
+judged-le t b (r ∷ rs) h = judged-le t (judgeOf t b r) rs (judge-le t b r h)
+
+pub best-le : (t : Table) (c : List ℕ) (m win : ℕ) → bestOf t c m win .value .basic .0 ≤ 8000
+unfolding bestOf noneOf
+best-le t c m win = judged-le t noneOf (readings c m win) (omega arith)
+
+pub basic-kept : (b : Best) (t : Table) (c : List ℕ) (m win : ℕ) → b ≡ bestOf t c m win → b .value .basic .0 ≤ 8000
+basic-kept b t c m win e = rw e (best-le t c m win)
+
+-- ---- a sound hand, by what the search kept
+
+module _ (h : Hand) (dealer wind : ℕ) (t : Table) (c : List ℕ) (b : Best) (et : t ≡ tableOf h dealer wind) (ec : c ≡ concealedTally h) (eb : b ≡ bestOf t c (h .fields .m) (h .fields .winning)) where
+  settled-by : settledBy b (seatsOf h dealer) (isRon (h .fields)) ≡ settledOf h dealer wind
+  unfolding settledOf
+  settled-by =
+      ap (λ (x : Best). settledBy x (seatsOf h dealer) (isRon (h .fields)))
+      (eb ∙ ap (λ (x : Table). bestOf x c (h .fields .m) (h .fields .winning)) et ∙ ap (λ (x : List ℕ). bestOf (tableOf h dealer wind) x (h .fields .m) (h .fields .winning)) ec)
+
+  pub settled-accepted : b .seen ≡ true → b .valued ≡ true → acceptedAs (b .value) (seatsOf h dealer) (isRon (h .fields)) ≡ settledOf h dealer wind
+  unfolding settledBy
+  settled-accepted s v = rw (s, v) at settled-by
+
+  pub settled-seven : b .seen ≡ true → b .valued ≡ false → refusedWith 7 ≡ settledOf h dealer wind
+  unfolding settledBy
+  settled-seven s v = rw (s, v) at settled-by
+
+  pub settled-six : b .seen ≡ false → refusedWith 6 ≡ settledOf h dealer wind
+  unfolding settledBy
+  settled-six s = rw s at settled-by
+
+-- ---- a record
+
+pub scored-eight : (s : List ℕ) (dealer wind : ℕ) → ltb 3 dealer || ltb 1 wind ≡ true → refusedWith 8 ≡ scoreOf s dealer wind
+unfolding scoreOf
+scored-eight s dealer wind e = rw e
+
+pub sound-bounds : (s : List ℕ) (r : HandRead) (f : Fields) → r ≡ readOf s → r .answer ≡ Sound f → Bounds (record { fields = f; melds = r .melds; concealed = r .concealed })
+sound-bounds s r f e told = subst (λ (x : Hand). Bounds x) (sym (hand-is s r e f told)) (read-bounds s (ap numberOf (answer-is s r e told)))
+
+module _ (s : List ℕ) (dealer wind : ℕ) (r : HandRead) (q : ltb 3 dealer || ltb 1 wind ≡ false) (e : r ≡ readOf s) where
+  by-answer : (a : Answer) → r .answer ≡ a → scoredBy a (handOf (readOf s)) dealer wind ≡ scoreOf s dealer wind
+  unfolding scoreOf
+  by-answer a told = rw q (ap (λ (x : Answer). scoredBy x (handOf (readOf s)) dealer wind) (sym (answer-is s r e told)))
+
+  pub scored-refused : (n w : ℕ) (x : Scored) → r .answer ≡ Refused n → w ≡ numberOf (r .answer) → x ≡ refusedWith w → x ≡ scoreOf s dealer wind
+  unfolding scoredBy
+  scored-refused n w x told why ex = ex ∙ ap refusedWith (why ∙ ap numberOf told) ∙ by-answer (Refused n) told
+
+  pub scored-sound : (f : Fields) (x : Scored) → r .answer ≡ Sound f → x ≡ settledOf (record { fields = f; melds = r .melds; concealed = r .concealed }) dealer wind → x ≡ scoreOf s dealer wind
+  unfolding scoredBy
+  scored-sound f x told ex = ex ∙ ap (λ (y : Hand). settledOf y dealer wind) (hand-is s r e f told) ∙ by-answer (Sound f) told

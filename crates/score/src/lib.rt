@@ -1,0 +1,199 @@
+// Score: a record, the dealer and the round wind give the best reading's h, fu, yaku and four changes, or a refusal (01, Score).
+ghost use mathlib.Core.Path.{_≡_};
+ghost use mathlib.Core.Bool.{cond};
+ghost use Prim.Native.Nat.{_-_, _<_, _≤_};
+ghost use lib.Dec.{ltb};
+ghost use lib.ListN.{getD};
+ghost use Rattle.groups.specs.Melds.{meldCode, meldWay};
+ghost use Rattle.best.specs.Best.{Ready};
+ghost use Rattle.score.specs.Score.{wonOf, meldCodes, meldWays, tableOf, refusedWith, acceptedAs, settledOf, scoreOf};
+use best::Table;
+use fields::Hand;
+use hand::Answer;
+use points::Seats;
+use value::Value;
+use yaku::Won;
+
+// What Score gives: 0 and h, fu, the yaku set (yaku n at n) and the four changes, or the refusal and zeros.
+#[repr(C)]
+pub struct Scored {
+    pub refusal: u8,
+    pub h: u16,
+    pub fu: u8,
+    pub yaku: [bool; 37],
+    pub changes: [i32; 4],
+}
+
+fn won_of(h: Hand, dealer: u8, wind: u8) -> Won
+    requires { ⌜ (h .fields .winner ≤ 3) × (dealer ≤ 3) × (wind ≤ 1) ⌝ }
+    ensures { λ r. ⌜ r ≡ wonOf h dealer wind ⌝ }
+{
+    let f = h.fields;
+    let d = h.melds;
+    let t = fields::hand_tally(h);
+    Won {
+        tally: t,
+        win: f.winning,
+        round: 27 + wind,
+        own: 27 + (f.winner + 4 - dealer) % 4,
+        riichi: f.riichi,
+        situation: f.situation,
+        ron: f.how == 1,
+        closed: fields::is_closed(f.m, d),
+        bare: f.m == 0,
+    }
+}
+
+// The group of the meld at a place, or none.
+fn code_at(d: [u8; 4], m: u8, i: u8) -> u8
+    requires { ⌜ (m ≤ 4) × (i < 4) ⌝ }
+    ensures { λ r. ⌜ r ≡ cond (ltb i (4 - m)) 68 (meldCode (getD d (i - (4 - m)) 0)) ⌝ }
+{
+    let free = 4 - m;
+    if i < free {
+        68
+    } else {
+        groups::meld_code(d[(i - free) as usize])
+    }
+}
+
+// The way of the meld at a place, or concealed.
+fn way_at(d: [u8; 4], m: u8, i: u8) -> u8
+    requires { ⌜ (m ≤ 4) × (i < 4) ⌝ }
+    ensures { λ r. ⌜ r ≡ cond (ltb i (4 - m)) 0 (meldWay (getD d (i - (4 - m)) 0)) ⌝ }
+{
+    let free = 4 - m;
+    if i < free {
+        0
+    } else {
+        groups::meld_way(d[(i - free) as usize])
+    }
+}
+
+fn meld_codes(h: Hand) -> [u8; 4]
+    requires { ⌜ h .fields .m ≤ 4 ⌝ }
+    ensures { λ r. ⌜ r ≡ meldCodes h ⌝ }
+{
+    let d = h.melds;
+    let m = h.fields.m;
+    [
+        code_at(d, m, 0),
+        code_at(d, m, 1),
+        code_at(d, m, 2),
+        code_at(d, m, 3),
+    ]
+}
+
+fn meld_ways(h: Hand) -> [u8; 4]
+    requires { ⌜ h .fields .m ≤ 4 ⌝ }
+    ensures { λ r. ⌜ r ≡ meldWays h ⌝ }
+{
+    let d = h.melds;
+    let m = h.fields.m;
+    [
+        way_at(d, m, 0),
+        way_at(d, m, 1),
+        way_at(d, m, 2),
+        way_at(d, m, 3),
+    ]
+}
+
+// What is the same in every reading of the hand.
+fn table_of(h: Hand, dealer: u8, wind: u8) -> Table
+    requires { ⌜ (h .fields .m ≤ 4) × (h .fields .winner ≤ 3) × (dealer ≤ 3) × (wind ≤ 1) ⌝ }
+    ensures { λ r. ⌜ (r ≡ tableOf h dealer wind) × Ready r ⌝ }
+{
+    let won = won_of(h, dealer, wind);
+    let t = won.tally;
+    let tests = yaku::tile_tests(t, won.bare);
+    let codes = meld_codes(h);
+    let ways = meld_ways(h);
+    let seats = Seats {
+        winner: h.fields.winner,
+        dealer,
+        discarder: h.fields.discarder,
+    };
+    Table {
+        won,
+        tests,
+        seats,
+        dora: tiles::dora(h.fields.indicator),
+        codes,
+        ways,
+    }
+}
+
+fn refused(n: u8) -> Scored
+    ensures { λ r. ⌜ r ≡ refusedWith n ⌝ }
+{
+    let none = [false; 37];
+    let zero = [0i32; 4];
+    Scored {
+        refusal: n,
+        h: 0,
+        fu: 0,
+        yaku: none,
+        changes: zero,
+    }
+}
+
+fn accepted(v: Value, s: Seats, ron: bool) -> Scored
+    requires { ⌜ v .basic .0 ≤ 8000 ⌝ }
+    ensures { λ r. ⌜ r ≡ acceptedAs v s ron ⌝ }
+{
+    let y = v.yaku;
+    let a = v.basic;
+    let c = points::changes(s, ron, a);
+    Scored {
+        refusal: 0,
+        h: v.han.0,
+        fu: v.fu.0,
+        yaku: y,
+        changes: c,
+    }
+}
+
+// What a hand that read as sound scores: an inner call of Score and of the game.
+pub fn settle(h: Hand, dealer: u8, wind: u8) -> Scored
+    requires { ⌜ (h .fields .m ≤ 4) × (h .fields .winner ≤ 3) × (dealer ≤ 3) × (wind ≤ 1) ⌝ }
+    ensures { λ r. ⌜ r ≡ settledOf h dealer wind ⌝ }
+{
+    let t = table_of(h, dealer, wind);
+    let c = fields::concealed_tally(h);
+    let b = best::best_of(t, c, h.fields.m, h.fields.winning);
+    if b.seen {
+        if b.valued {
+            let v = b.value;
+            let s = Seats {
+                winner: h.fields.winner,
+                dealer,
+                discarder: h.fields.discarder,
+            };
+            return accepted(v, s, h.fields.how == 1);
+        }
+        return refused(7);
+    }
+    refused(6)
+}
+
+// Score.
+pub fn score(s: &[u8], dealer: u8, wind: u8) -> Scored
+    ensures { λ r. ⌜ r ≡ scoreOf (now (s .entry)) dealer wind ⌝ }
+{
+    if (3 < dealer) | (1 < wind) {
+        return refused(8);
+    }
+    let r = hand::read(s);
+    let a = r.answer;
+    let Answer::Sound(f) = a else {
+        return refused(hand::why(a));
+    };
+    let melds = r.melds;
+    let concealed = r.concealed;
+    let h = Hand {
+        fields: f,
+        melds,
+        concealed,
+    };
+    settle(h, dealer, wind)
+}

@@ -1,0 +1,55 @@
+-- `text::signed` meets its contract. Assumes nothing.
+use mathlib.Core.Path.{_≡_, ap, _∙_}
+use mathlib.Core.List.{_∷_}
+use native.Mathlib.Omega.{arith}
+use lib.ListN.{length, length-set}
+use mir.Facts.{toZ-ofZ}
+use borrow.Author.Needs.{needs}
+use Rattle.text.specs.Text.{digitsOf, signedOf}
+use Rattle.text.specs.laws.Digits.{signed-negative, signed-positive}
+use Rattle.text.specs.laws.Put.{put-none, put-then, put-after}
+use Rattle.text.proofs.signed.Statement.{statement}
+use Rattle.text.proofs.signed.Tie as tie
+
+-- what is to be written, at the size that was computed
+negative : (c : tie.Then1) → signedOf (c .before .before .before .args .n) ≡ 45 ∷ digitsOf (c .before .size .result)
+negative c =
+    let s = c .before .before .before in
+    signed-negative (s .args .n) (rw (toZ-ofZ (s .fits .n)) at (c .if1 .taken)) ∙ rw (c .before .size .ensures, toZ-ofZ (s .fits .n))
+
+positive : (c : tie.Else1) → signedOf (c .before .before .before .args .n) ≡ digitsOf (c .before .size .result)
+positive c =
+    let s = c .before .before .before in
+    signed-positive (s .args .n) (rw (toZ-ofZ (s .fits .n)) at (c .if1 .left)) ∙ rw (c .before .size .ensures, toZ-ofZ (s .fits .n))
+
+digits-requires : tie.Need-digits-requires
+digits-requires c κs =
+    let s = c .before .before .before .before .args in
+    rw (length-set (s .buf .now) (s .at) 45) (omega (arith, ap length (negative (c .before))))
+
+same-length : tie.Need-same-length
+same-length c =
+    let s = c .before .before .before .before .before .before .before .args in
+    c .before .before .digits .kept .0 ∙ length-set (s .buf .now) (s .at) 45
+
+returns : tie.Need-returns
+returns c =
+    let s = c .before .before .before .before .before .before .before .args in
+    rw (negative (c .before .before .before .before)) (put-then (put-after 45 (put-none (s .buf .now) (s .at))) (c .before .before .digits .ensures))
+
+returns-2 : tie.Need-returns-2
+returns-2 c = rw (positive (c .before .before .before .before)) (c .before .before .digits2 .ensures)
+
+pub signed-spec : {M : Type 1} → statement M
+signed-spec =
+    tie.close
+    (tie.spec
+    (λ c κs. search needs)
+    (λ c. omega (arith, ap length (negative c)))
+    (λ c. search needs)
+    digits-requires
+    same-length
+    returns
+    (λ c κs. omega (arith, ap length (positive (c .before))))
+    (λ c. search needs)
+    returns-2)

@@ -1,0 +1,50 @@
+-- Numbers as text and a line of `tally` (01, Log), as bytes: 48 to 57 the digits, 45 a minus, 32 a space, 10 a line feed.
+use mathlib.Core.Bool.{cond}
+use mathlib.Core.List.{List, [], _∷_, _++_}
+use Prim.Native.Nat.{ℕ, zero, suc, _+_, _/_, _%_}
+use lib.Dec.{ltb, leb}
+use lib.ListN.{length, getD, drop}
+use lib.IntN.{ℤ, pos, negsuc}
+
+-- the last k digits of n, or all where it has fewer: those of a tenth of n, then n % 10
+unfoldable pub lastDigits : ℕ → ℕ → List ℕ
+lastDigits zero n = []
+lastDigits (suc k) n = cond (ltb n 10) [] (lastDigits k (n / 10)) ++ ((48 + n % 10) ∷ [])
+
+-- "most significant digit first": all digits, since n has at most suc n of them
+unfoldable pub digitsOf : ℕ → List ℕ
+digitsOf n = lastDigits (suc n) n
+
+-- "a minus before negatives"
+unfoldable pub signedOf : ℤ → List ℕ
+signedOf (pos n) = digitsOf n
+signedOf (negsuc n) = 45 ∷ digitsOf (suc n)
+
+-- "one space between fields, a line feed after each line"
+unfoldable pub joined : List (List ℕ) → List ℕ
+joined [] = 10 ∷ []
+joined (f ∷ []) = f ++ (10 ∷ [])
+joined (f ∷ g ∷ fs) = f ++ (32 ∷ joined (g ∷ fs))
+
+-- the score of a seat
+abbrev pub scoreOf : List ℤ → ℕ → List ℕ
+scoreOf scores seat = signedOf (getD scores seat (pos 0))
+
+-- "entry from 1, letter R W D C, refusal (0 accepted), scores of seats 0 to 3, sticks"
+unfoldable pub lineOf : ℕ → ℕ → ℕ → List ℤ → ℕ → List ℕ
+lineOf entry letter refusal scores sticks =
+    joined (digitsOf entry ∷ (letter ∷ []) ∷ digitsOf refusal ∷ scoreOf scores 0 ∷ scoreOf scores 1 ∷ scoreOf scores 2 ∷ scoreOf scores 3 ∷ digitsOf sticks ∷ [])
+
+-- a text written at the start of a buffer, if there is room for it: how long it is, 0 if there is not
+abbrev pub lengthIn : List ℕ → List ℕ → ℕ
+lengthIn buf text = cond (leb (length text) (length buf)) (length text) 0
+
+-- "a refused call .. writes nothing, and bytes past what a call writes stay"
+abbrev pub bufferWith : List ℕ → List ℕ → List ℕ
+bufferWith buf text = cond (leb (length text) (length buf)) (text ++ drop (length text) buf) buf
+
+unfoldable pub lineLength : List ℕ → ℕ → ℕ → ℕ → List ℤ → ℕ → ℕ
+lineLength buf entry letter refusal scores sticks = lengthIn buf (lineOf entry letter refusal scores sticks)
+
+unfoldable pub lineBuffer : List ℕ → ℕ → ℕ → ℕ → List ℤ → ℕ → List ℕ
+lineBuffer buf entry letter refusal scores sticks = bufferWith buf (lineOf entry letter refusal scores sticks)

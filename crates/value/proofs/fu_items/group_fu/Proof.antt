@@ -1,0 +1,18 @@
+-- `value::fu_items::group_fu` meets its contract: each return is the case that its tests say. Assumes nothing.
+use borrow.Author.Needs.{needs}
+use native.Mathlib.Omega.{arith}
+use borrow.Author.Tests.{lt-ltb, le-ltb, le-leb, lt-leb}
+use Rattle.value.specs.Fu.{groupFu}
+use Rattle.value.proofs.fu_items.group_fu.Statement.{statement}
+use Rattle.value.proofs.fu_items.group_fu.Tie as tie
+
+pub group-fu-spec : {M : Type 1} → statement M
+unfolding groupFu
+group-fu-spec =
+    tie.close
+    (tie.spec
+    (λ c. (rw (lt-leb 34 _ (c .if1 .taken)), search needs)) (λ c κs. search needs) (λ c κs. search needs)
+    (λ c. search needs)
+    (λ c. (rw (le-leb 34 _ (c .before .before .before .before .if1 .left), lt-ltb _ _ (c .before .before .if2 .taken), ← c .before .is-yaochu .ensures, c .if3 .taken, ← c .before .before .before .triplet-fu .ensures .0), omega arith))
+    (λ c. (rw (le-leb 34 _ (c .before .before .before .before .if1 .left), lt-ltb _ _ (c .before .before .if2 .taken), ← c .before .is-yaochu .ensures, c .if3 .left, ← c .before .before .before .triplet-fu .ensures .0), omega arith))
+    (λ c. (rw (le-leb 34 _ (c .before .before .if1 .left), le-ltb _ _ (c .if2 .left)), search needs)))

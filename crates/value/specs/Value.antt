@@ -1,0 +1,29 @@
+-- What a reading is worth.
+use mathlib.Core.Bool.{Bool}
+use Prim.Native.Nat.{ℕ}
+use Rattle.yaku.specs.Yaku.{yakuOf, isYakuman}
+use Rattle.yaku.specs.declared.Won.{Won}
+use Rattle.yaku.specs.declared.Parts.{Parts}
+use Rattle.points.specs.Points.{basic, gain}
+use Rattle.points.specs.declared.Seats.{Seats}
+use Rattle.value.specs.Han.{hanOf}
+use Rattle.value.specs.Fu.{fuOf}
+use Rattle.value.specs.declared.Value.{Value}
+
+-- a yakuman is among the yaku of the reading
+abbrev pub yakuman : Won → Parts → Bool
+yakuman w p = isYakuman (yakuOf w p)
+
+-- the basic points A
+abbrev pub basicOf : Won → Parts → ℕ → ℕ
+basicOf w p dora = basic (yakuman w p) (hanOf w p dora (yakuman w p)) (fuOf w p (yakuman w p))
+
+-- the yaku, h, fu, A, and what the winner gains
+unfoldable pub valueOf : Won → Parts → ℕ → Seats → Value
+valueOf w p dora s = record {
+  yaku = yakuOf w p;
+  han = record { 0 = hanOf w p dora (yakuman w p) };
+  fu = record { 0 = fuOf w p (yakuman w p) };
+  basic = record { 0 = basicOf w p dora };
+  gain = record { 0 = gain s (w .ron) (basicOf w p dora) };
+}

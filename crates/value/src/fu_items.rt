@@ -1,0 +1,152 @@
+// Fu, item by item, and their sum.
+ghost use mathlib.Core.Path.{_≡_};
+ghost use mathlib.Core.Bool.{cond};
+ghost use Prim.Native.Nat.{_≤_};
+ghost use Rattle.value.specs.Fu.{fu, tripletFu, groupFu, earned as earnedOf, added as addedOf, rounded as roundedOf, baseAlone, itemsOf};
+use crate::Items;
+use points::Fu;
+use yaku::Parts;
+use yaku::Won;
+
+// A triplet of simples.
+fn triplet_fu(way: u8) -> u8
+    ensures { λ r. ⌜ r ≡ tripletFu way ⌝ }
+    ensures { λ r. ⌜ r ≤ 16 ⌝ }
+{
+    if way == 0 {
+        4
+    } else if way == 1 {
+        2
+    } else if way == 2 {
+        8
+    } else {
+        16
+    }
+}
+
+fn group_fu(c: u8, way: u8) -> Fu
+    ensures { λ r. ⌜ r ≡ fu (groupFu c way) ⌝ }
+    ensures { λ r. ⌜ r .0 ≤ 32 ⌝ }
+{
+    if c < 34 {
+        return Fu(0);
+    }
+    let n = triplet_fu(way);
+    if c < 68 {
+        if tiles::is_yaochu(c - 34) {
+            Fu(2 * n)
+        } else {
+            Fu(n)
+        }
+    } else {
+        Fu(0)
+    }
+}
+
+fn fu_if(b: bool, n: u8) -> Fu
+    ensures { λ r. ⌜ r ≡ fu (cond b n 0) ⌝ }
+    ensures { λ r. ⌜ r .0 ≤ n ⌝ }
+{
+    if b { Fu(n) } else { Fu(0) }
+}
+
+fn base_alone(n: u8) -> Items
+    ensures { λ i. ⌜ i ≡ baseAlone n ⌝ }
+{
+    Items {
+        base: Fu(n),
+        ron: Fu(0),
+        pair: Fu(0),
+        g0: Fu(0),
+        g1: Fu(0),
+        g2: Fu(0),
+        g3: Fu(0),
+        wait: Fu(0),
+        tsumo: Fu(0),
+        rounding: Fu(0),
+    }
+}
+
+// The items of a regular reading, before rounding.
+fn earned(w: Won, p: Parts) -> Items
+    requires { ⌜ p .place ≤ 4 ⌝ }
+    ensures { λ i. ⌜ i ≡ earnedOf w p 0 ⌝ }
+    ensures { λ i. ⌜ addedOf i ≤ 164 ⌝ }
+{
+    let g = p.groups;
+    let ways = p.ways;
+    let pinfu = groups::pinfu(w.closed, g, p.pair, p.place, w.win, w.round, w.own);
+    let ron = fu_if(w.closed & w.ron, 10);
+    let pair = fu_if(groups::is_value(w.round, w.own, p.pair), 2);
+    let g0 = group_fu(g[0], ways[0]);
+    let g1 = group_fu(g[1], ways[1]);
+    let g2 = group_fu(g[2], ways[2]);
+    let g3 = group_fu(g[3], ways[3]);
+    let wait = fu_if(
+        groups::earns_wait(p.place, groups::placed(g, p.place), w.win),
+        2,
+    );
+    let tsumo = fu_if(!w.ron & !pinfu, 2);
+    Items {
+        base: Fu(20),
+        ron,
+        pair,
+        g0,
+        g1,
+        g2,
+        g3,
+        wait,
+        tsumo,
+        rounding: Fu(0),
+    }
+}
+
+// The sum of the items.
+pub fn added(i: Items) -> Fu
+    requires { ⌜ addedOf i ≤ 255 ⌝ }
+    ensures { λ r. ⌜ r .0 ≡ addedOf i ⌝ }
+{
+    Fu(
+        i.base.0
+            + i.ron.0
+            + i.pair.0
+            + i.g0.0
+            + i.g1.0
+            + i.g2.0
+            + i.g3.0
+            + i.wait.0
+            + i.tsumo.0
+            + i.rounding.0,
+    )
+}
+
+// Up to tens, and an open 20 to 30.
+fn rounded(closed: bool, f: Fu) -> Fu
+    requires { ⌜ f .0 ≤ 164 ⌝ }
+    ensures { λ r. ⌜ r .0 ≡ roundedOf closed (f .0) ⌝ }
+    ensures { λ r. ⌜ (f .0 ≤ r .0) × (r .0 ≤ 170) ⌝ }
+{
+    let n = (f.0 + 9) / 10 * 10;
+    if !closed & (n == 20) { Fu(30) } else { Fu(n) }
+}
+
+// The items of a reading.
+pub fn items_of(w: Won, p: Parts, yakuman: bool) -> Items
+    requires { ⌜ p .place ≤ 4 ⌝ }
+    ensures { λ i. ⌜ i ≡ itemsOf w p yakuman ⌝ }
+    ensures { λ i. ⌜ addedOf i ≤ 170 ⌝ }
+{
+    let form = p.form;
+    if yakuman {
+        return base_alone(0);
+    }
+    if form == 1 {
+        return base_alone(25);
+    }
+    let mut i = earned(w, p);
+    let n = added(i);
+    let r = rounded(w.closed, n);
+    let more = Fu(r.0 - n.0);
+    i.rounding = more;
+    i
+}

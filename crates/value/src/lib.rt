@@ -1,0 +1,78 @@
+// What a reading is worth: its yaku, h, fu, the basic points and the winner's gain.
+ghost use mathlib.Core.Path.{_≡_};
+ghost use Prim.Native.Nat.{_<_, _≤_};
+ghost use Rattle.yaku.specs.OfTiles.{tileTestsOf};
+ghost use Rattle.yaku.specs.Yaku.{yakuOf};
+ghost use Rattle.value.specs.Han.{hanOf};
+ghost use Rattle.value.specs.Value.{valueOf};
+use points::Fu;
+use points::Han;
+use points::Points;
+use points::Seats;
+use yaku::Parts;
+use yaku::TileTests;
+use yaku::Won;
+
+pub mod fu_items;
+mod yaku_han;
+
+// What each thing earns, in fu, and what rounding adds.
+pub struct Items {
+    pub base: Fu,
+    pub ron: Fu,
+    pub pair: Fu,
+    pub g0: Fu,
+    pub g1: Fu,
+    pub g2: Fu,
+    pub g3: Fu,
+    pub wait: Fu,
+    pub tsumo: Fu,
+    pub rounding: Fu,
+}
+
+pub struct Value {
+    pub yaku: [bool; 37],
+    pub han: Han,
+    pub fu: Fu,
+    pub basic: Points,
+    pub gain: Points,
+}
+
+// h, where y is the list of the yaku.
+fn hand_han(w: Won, p: Parts, y: [bool; 37], dora: u8, yakuman: bool) -> Han
+    requires { ⌜ y ≡ yakuOf w p ⌝ }
+    requires { ⌜ (w .round < 34) × (w .own < 34) × (dora < 34) ⌝ }
+    ensures { λ h. ⌜ h .0 ≡ hanOf w p dora yakuman ⌝ }
+    ensures { λ h. ⌜ h .0 ≤ 482 ⌝ }
+{
+    let t = w.tally;
+    let g = p.groups;
+    if yakuman {
+        return Han(0);
+    }
+    let v = groups::value_han(g, w.round, w.own, groups::little_dragons(g, p.pair));
+    let d = t[dora as usize];
+    yaku_han::han(y, w.closed, v, d)
+}
+
+// The value of a reading. `dora` is the kind of the dora.
+pub fn value_of(w: Won, x: TileTests, p: Parts, dora: u8, s: Seats) -> Value
+    requires { ⌜ x ≡ tileTestsOf (w .tally) (w .bare) ⌝ }
+    requires { ⌜ (p .place ≤ 4) × (w .round < 34) × (w .own < 34) × (dora < 34) ⌝ }
+    ensures { λ v. ⌜ v ≡ valueOf w p dora s ⌝ }
+    ensures { λ v. ⌜ (v .han .0 ≤ 482) × (v .fu .0 ≤ 170) × (v .basic .0 ≤ 8000) × (v .gain .0 ≤ 192000) ⌝ }
+{
+    let y = yaku::yaku_of(w, x, p);
+    let yakuman = yaku::is_yakuman(y);
+    let h = hand_han(w, p, y, dora, yakuman);
+    let f = fu_items::added(fu_items::items_of(w, p, yakuman));
+    let a = points::basic(yakuman, h, f);
+    let g = points::gain(s, w.ron, a);
+    Value {
+        yaku: y,
+        han: h,
+        fu: f,
+        basic: a,
+        gain: g,
+    }
+}

@@ -1,0 +1,12 @@
+-- `yaku::yaku_of` meets its contract. Assumes nothing.
+use borrow.Author.Needs.{needs}
+use Rattle.yaku.specs.Yaku.{yakuOf}
+use Rattle.yaku.proofs.yaku_of.Statement.{statement}
+use Rattle.yaku.proofs.yaku_of.Tie as tie
+
+pub yaku-of-spec : {M : Type 1} → statement M
+unfolding yakuOf
+yaku-of-spec =
+    tie.close
+    (tie.spec
+    (λ c κs. search needs) (λ c κs. search needs) (λ c. rw (← c .before .tests .ensures) (c .listed .ensures)))

@@ -1,0 +1,110 @@
+-- The yaku of a reading (01, Yaku), as a list of 37: yaku n at place n, and false at place 0.
+use mathlib.Core.Bool.{Bool, false, _&&_, not, cond}
+use mathlib.Core.List.{List, [], _∷_}
+use Prim.Native.Nat.{ℕ, _+_}
+use lib.ListN.{getD}
+use lib.Dec.{eqb, leb, ltb}
+use Rattle.tiles.specs.Below.{any, table, some}
+use Rattle.tiles.specs.Kinds.{isHonour, isTerminal, isYaochu, isSimple}
+use Rattle.yaku.specs.OfTiles.{only, honourPresent, halfFlush, flush, isGreen, gates}
+use Rattle.groups.specs.Tests.{littleDragons, valueHan, pinfu, twins, inThreeSuits, straight, outside, triplets, concealed, kans, dragons, fourWinds}
+use Rattle.yaku.specs.declared.Won.{Won}
+use Rattle.yaku.specs.declared.Parts.{Parts}
+
+-- how many han yaku 3 counts
+abbrev pub valueHanOf : Won → Parts → ℕ
+valueHanOf w p = valueHan (p .groups) (w .round) (w .own) (littleDragons (p .groups) (p .pair))
+
+-- each of the 36, whatever the others say
+unfoldable pub testsOf : Won → Parts → List Bool
+testsOf w p =
+    false
+    -- 1 "tsumo c"
+    ∷ (w .closed && not (w .ron))
+    -- 2 "all simples"
+    ∷ only (w .tally) isSimple
+    -- 3 "value triplet": it counts at least one
+    ∷ ltb 0 (valueHanOf w p)
+    -- 4 "pinfu c"
+    ∷ pinfu (w .closed) (p .groups) (p .pair) (p .place) (w .win) (w .round) (w .own)
+    -- 5 "one twin run c"
+    ∷ (w .closed && eqb (twins (p .groups)) 1)
+    -- 6 "chankan"
+    ∷ eqb (w .situation) 2
+    -- 7 "rinshan"
+    ∷ eqb (w .situation) 1
+    -- 8 "last tile tsumo"
+    ∷ (eqb (w .situation) 3 && not (w .ron))
+    -- 9 "last tile ron"
+    ∷ (eqb (w .situation) 3 && w .ron)
+    -- 10 "riichi c"
+    ∷ (w .closed && eqb (w .riichi) 1)
+    -- 11 "double riichi c, instead of 10"
+    ∷ (w .closed && eqb (w .riichi) 2)
+    -- 12 "seven pairs c"
+    ∷ (w .closed && eqb (p .form) 1)
+    -- 13 "same run in three suits"
+    ∷ inThreeSuits 0 (p .groups)
+    -- 14 "123 456 789 of a suit"
+    ∷ straight (p .groups)
+    -- 15 "yaochu in every group and pair, a run among them, an honour present"
+    ∷ (outside (p .groups) (p .pair) && honourPresent (w .tally))
+    -- 16 "same triplet in three suits"
+    ∷ inThreeSuits 34 (p .groups)
+    -- 17 "four triplets"
+    ∷ triplets (p .groups)
+    -- 18 "three concealed triplets"
+    ∷ eqb (concealed (p .groups) (p .ways)) 3
+    -- 19 "three kans"
+    ∷ eqb (kans (p .ways)) 3
+    -- 20 "only yaochu"
+    ∷ only (w .tally) isYaochu
+    -- 21 "two twin runs (four equal runs too) c, instead of 5"
+    ∷ (w .closed && eqb (twins (p .groups)) 2)
+    -- 22 "as 15 with no honour"
+    ∷ (outside (p .groups) (p .pair) && not (honourPresent (w .tally)))
+    -- 23 "one suit and honours, both present"
+    ∷ halfFlush (w .tally)
+    -- 24 "two dragon triplets and a dragon pair"
+    ∷ littleDragons (p .groups) (p .pair)
+    -- 25 "one suit"
+    ∷ flush (w .tally)
+    -- 26 "first turn, dealer": its own wind is East
+    ∷ (eqb (w .situation) 4 && eqb (w .own) 27)
+    -- 27 "first turn, other seat"
+    ∷ (eqb (w .situation) 4 && not (eqb (w .own) 27))
+    -- 28 "three dragon triplets"
+    ∷ eqb (dragons (p .groups)) 3
+    -- 29 "three wind triplets and a wind pair, or four"
+    ∷ fourWinds (p .groups) (p .pair)
+    -- 30 "four concealed triplets c"
+    ∷ (w .closed && eqb (concealed (p .groups) (p .ways)) 4)
+    -- 31 "four kans"
+    ∷ eqb (kans (p .ways)) 4
+    -- 32 "honours only, seven pairs too"
+    ∷ only (w .tally) isHonour
+    -- 33 "terminals only"
+    ∷ only (w .tally) isTerminal
+    -- 34 "only sou 2 3 4 6 8 and hatsu"
+    ∷ only (w .tally) isGreen
+    -- 35 "m = 0, one suit's 1112345678999 and one more of it"
+    ∷ gates (w .tally) (w .bare)
+    -- 36 "thirteen orphans"
+    ∷ eqb (p .form) 2
+    ∷ []
+
+-- a yakuman, 26 to 36, is among them
+unfoldable pub isYakuman : List Bool → Bool
+isYakuman y = any 11 (λ i. getD y (26 + i) false)
+
+-- "With a yakuman only yakuman are listed"
+unfoldable pub listed : List Bool → List Bool
+listed y = cond (isYakuman y) (table 37 0 (λ n. leb 26 n && getD y n false)) y
+
+-- the yaku of a reading
+unfoldable pub yakuOf : Won → Parts → List Bool
+yakuOf w p = listed (testsOf w p)
+
+-- a yaku is listed
+unfoldable pub hasYaku : List Bool → Bool
+hasYaku y = some 37 (λ n. getD y n false)
