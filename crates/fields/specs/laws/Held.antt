@@ -6,14 +6,10 @@ use native.Mathlib.Omega.{arith}
 use lib.Dec.{ltb, eqb}
 use lib.ListN.{getD}
 use Rattle.tiles.specs.Groups.{at}
-use Rattle.tiles.specs.laws.Below.{number-le}
+use Rattle.tiles.specs.laws.Below.{number-le, cond-le}
 use Rattle.tiles.specs.laws.Tally.{at-le}
 use Rattle.fields.specs.declared.Hand.{Hand}
 use Rattle.fields.specs.Hand.{meldTile, meldKind, meldHolds, inMelds, inConcealed, inHand, others}
-
-cond-le : (b : Bool) (x y n : ℕ) → x ≤ n → y ≤ n → cond b x y ≤ n
-cond-le true x y n h g = h
-cond-le false x y n h g = g
 
 pub meld-le : (b k : ℕ) → meldHolds b k ≤ 4
 unfolding meldHolds

@@ -7,13 +7,10 @@ use native.Mathlib.Omega.{arith}
 use borrow.Author.Tests.{ne-eqb}
 use lib.Dec.{eqb}
 use Rattle.tiles.specs.Below.{sum}
+use Rattle.tiles.specs.laws.Below.{cond-le}
 use Rattle.points.specs.declared.Seats.{Seats}
 use Rattle.points.specs.Points.{hundreds, share, pays, gain}
 use Rattle.points.specs.laws.Balance.{winner-pays-nothing}
-
-cond-le : (b : Bool) (x y n : ℕ) → x ≤ n → y ≤ n → cond b x y ≤ n
-cond-le true x y n h g = h
-cond-le false x y n h g = g
 
 hundreds-le : (x n : ℕ) → x ≤ 100 * n → hundreds x ≤ 100 * n
 unfolding hundreds

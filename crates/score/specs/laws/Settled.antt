@@ -6,7 +6,7 @@ use mathlib.Core.List.{List, [], _∷_}
 use native.Mathlib.Omega.{arith}
 use borrow.Author.Tests.{ltb-false, lt-ltb, leb-true, le-ltb}
 use lib.Dec.{ltb, leb}
-use Rattle.tiles.specs.laws.Below.{or-both}
+use Rattle.tiles.specs.laws.Below.{or-both, cond-le}
 use Rattle.fields.specs.declared.Fields.{Fields}
 use Rattle.fields.specs.declared.Hand.{Hand}
 use Rattle.fields.specs.Hand.{isRon, concealedTally}
@@ -28,10 +28,6 @@ use Rattle.score.specs.declared.Scored.{Scored}
 use Rattle.score.specs.Score.{tableOf, seatsOf, refusedWith, acceptedAs, settledBy, settledOf, scoredBy, scoreOf}
 
 -- ---- basic points are at most 8,000
-
-cond-le : (b : Bool) (x y n : ℕ) → x ≤ n → y ≤ n → cond b x y ≤ n
-cond-le true x y n h g = h
-cond-le false x y n h g = g
 
 limit-le : (h : ℕ) → limit h ≤ 6000
 unfolding limit

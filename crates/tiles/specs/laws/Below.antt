@@ -131,3 +131,8 @@ module _ (p : ℕ → Bool) where
       go : count n p ≤ n → (b : Bool) → count n p + cond b 1 0 ≤ suc n
       go h true = omega arith
       go h false = omega arith
+
+-- both branches under a bound
+pub cond-le : (b : Bool) (x y n : ℕ) → x ≤ n → y ≤ n → cond b x y ≤ n
+cond-le true x y n h g = h
+cond-le false x y n h g = g
