@@ -1,5 +1,6 @@
 -- The fields of a hand that was read are within their ranges. Assumes nothing.
-use Prim.Native.Nat.{ℕ, _≤_}
+use Prim.Native.Nat.{ℕ, zero, suc, _≤_, _<_}
+use native.Mathlib.Omega.{arith}
 use mathlib.Core.Path.{_≡_, ap, sym, _∙_, subst}
 use mathlib.Core.Bool.{Bool, false, _||_}
 use mathlib.Core.List.{List}
@@ -53,3 +54,15 @@ module _ (s : List ℕ) (r : HandRead) (e : r ≡ readOf s) where
 
   pub hand-is : (f : Fields) → r .answer ≡ Sound f → record { fields = f; melds = r .melds; concealed = r .concealed } ≡ handOf (readOf s)
   hand-is f told = ap (λ (x : Answer). record { fields = fieldsOf x; melds = r .melds; concealed = r .concealed }) (sym told) ∙ ap handOf e
+
+  pub hand-bounds : (f : Fields) → r .answer ≡ Sound f → Bounds (record { fields = f; melds = r .melds; concealed = r .concealed })
+  hand-bounds f told = subst (λ (x : Hand). Bounds x) (sym (hand-is f told)) (read-bounds s (ap numberOf (answer-is told)))
+
+-- a refusal has a number
+pub refused-number : (s : List ℕ) (n : ℕ) → readOf s .answer ≡ Refused n → 0 < n
+refused-number s zero e =
+    let x : Hand = handIn (countIn s) (bitsOf s) in
+    let a : readOf s .answer ≡ Sound (x .fields) = ap (λ (r : HandRead). r .answer) (as-read s x (is-read s (ap numberOf e))) in
+    let z : _≡_ {A = ℕ} 0 1 = cc in
+    absurd (omega arith)
+refused-number s (suc n) e = omega arith

@@ -6,8 +6,8 @@ use native.Mathlib.Omega.{arith}
 use borrow.Author.Tests.{ltb-false}
 use lib.Dec.{ltb}
 use Rattle.tiles.specs.laws.Below.{or-both}
-use Rattle.hand.specs.Record.{numberOf}
-use Rattle.score.specs.laws.Settled.{sound-bounds, scored-eight, scored-refused, scored-sound}
+use Rattle.hand.specs.laws.Bounds.{hand-bounds}
+use Rattle.score.specs.laws.Settled.{scored-eight, scored-refused, scored-sound}
 use Rattle.score.proofs.score.Statement.{statement}
 use Rattle.score.proofs.score.Tie as tie
 
@@ -21,6 +21,6 @@ score-spec =
     (λ c κs.
     let a = c .before .before .before .before .before .before .before .before .args in
     let q = or-both (ltb 3 (a .dealer)) (ltb 1 (a .wind)) (c .before .before .before .before .before .before .if1 .left) in
-    let b = sound-bounds (a .s .now) (c .before .before .before .before .before .read .result) _ (c .before .before .before .before .before .read .ensures) (c .before .before .before .a .given .1) in
+    let b = hand-bounds (a .s .now) (c .before .before .before .before .before .read .result) (c .before .before .before .before .before .read .ensures) _ (c .before .before .before .a .given .1) in
     (b .few, b .winner, ltb-false 3 (a .dealer) (q .0), ltb-false 1 (a .wind) (q .1)))
     (λ c. scored-sound (c .before .before .before .before .before .before .before .before .before .args .s .now) (c .before .before .before .before .before .before .before .before .before .args .dealer) (c .before .before .before .before .before .before .before .before .before .args .wind) (c .before .before .before .before .before .before .read .result) (c .before .before .before .before .before .before .before .if1 .left) (c .before .before .before .before .before .before .read .ensures) _ (c .settle .result) (c .before .before .before .before .a .given .1) (c .settle .ensures)))

@@ -1,6 +1,6 @@
 -- What a sound hand and a record score, case by case. Assumes nothing.
 use Prim.Native.Nat.{ℕ, _≤_}
-use mathlib.Core.Path.{_≡_, refl, sym, ap, _∙_, subst}
+use mathlib.Core.Path.{_≡_, refl, sym, ap, _∙_}
 use mathlib.Core.Bool.{Bool, true, false, _&&_, _||_, not, cond}
 use mathlib.Core.List.{List, [], _∷_}
 use native.Mathlib.Omega.{arith}
@@ -14,7 +14,7 @@ use Rattle.hand.specs.declared.Answer.{Answer}
 use Rattle.hand.specs.declared.Answer.the-variants.{Sound, Refused}
 use Rattle.hand.specs.declared.HandRead.{HandRead}
 use Rattle.hand.specs.Record.{numberOf, handOf, readOf}
-use Rattle.hand.specs.laws.Bounds.{Bounds, read-bounds, answer-is, hand-is}
+use Rattle.hand.specs.laws.Bounds.{answer-is, hand-is}
 use Rattle.reading.specs.declared.Reading.{Reading}
 use Rattle.reading.specs.Readings.{readings}
 use Rattle.reading.specs.Judged.{judged}
@@ -96,9 +96,6 @@ module _ (h : Hand) (dealer wind : ℕ) (t : Table) (c : List ℕ) (b : Best) (e
 pub scored-eight : (s : List ℕ) (dealer wind : ℕ) → ltb 3 dealer || ltb 1 wind ≡ true → refusedWith 8 ≡ scoreOf s dealer wind
 unfolding scoreOf
 scored-eight s dealer wind e = rw e
-
-pub sound-bounds : (s : List ℕ) (r : HandRead) (f : Fields) → r ≡ readOf s → r .answer ≡ Sound f → Bounds (record { fields = f; melds = r .melds; concealed = r .concealed })
-sound-bounds s r f e told = subst (λ (x : Hand). Bounds x) (sym (hand-is s r e f told)) (read-bounds s (ap numberOf (answer-is s r e told)))
 
 module _ (s : List ℕ) (dealer wind : ℕ) (r : HandRead) (q : ltb 3 dealer || ltb 1 wind ≡ false) (e : r ≡ readOf s) where
   by-answer : (a : Answer) → r .answer ≡ a → scoredBy a (handOf (readOf s)) dealer wind ≡ scoreOf s dealer wind

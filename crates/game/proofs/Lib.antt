@@ -1,0 +1,2 @@
+pub mod Elem
+pub mod Sums

@@ -1,0 +1,7 @@
+-- `game::ready` meets its contract. Assumes nothing.
+use native.Mathlib.Nat.{div-one}
+use Rattle.game.proofs.ready.Statement.{statement}
+use Rattle.game.proofs.ready.Tie as tie
+
+pub ready-spec : {M : Type 1} → statement M
+ready-spec = tie.close (tie.spec (λ c. rw (div-one (c .args .bits))))

@@ -1,0 +1,9 @@
+pub mod Form
+pub mod Steps
+pub mod Refusals
+pub mod Sound
+pub mod Accepted
+pub mod Balance
+pub mod Kept
+pub mod Lists
+pub mod Tiles

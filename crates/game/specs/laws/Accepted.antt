@@ -1,0 +1,54 @@
+-- What a booking that no refusal meets has. Assumes nothing.
+use mathlib.Core.Path.{_≡_, refl}
+use mathlib.Core.Bool.{Bool, true, false, not, _&&_, cond}
+use mathlib.Core.List.{List}
+use Prim.Native.Nat.{ℕ, suc, _≤_}
+use native.Mathlib.Omega.{arith}
+use borrow.Author.Tests.{ltb-false, ltb-true}
+use lib.Dec.{ltb}
+use Rattle.tiles.specs.Below.{any}
+use Rattle.hand.specs.Record.{numberOf, readOf}
+use Rattle.game.specs.declared.Game.{Game}
+use Rattle.game.specs.Booking.{riichi, win, draw, chombo}
+use Rattle.game.specs.Ledger.{isDeclared, isReady, notOpen, handFor, scoredFor, riichiMismatch, refusalFor}
+
+cond-zero : (b : Bool) (n m : ℕ) → cond b (suc n) m ≡ 0 → (b ≡ false) × (m ≡ 0)
+cond-zero true n m e = absurd (omega arith)
+cond-zero false n m e = (refl, e)
+
+own-zero : (n m : ℕ) → cond (ltb 0 n) n m ≡ 0 → (n ≡ 0) × (m ≡ 0)
+own-zero n m e = go (ltb 0 n) refl e
+  where
+    go : (b : Bool) → ltb 0 n ≡ b → cond b n m ≡ 0 → (n ≡ 0) × (m ≡ 0)
+    go true q e = absurd (omega (arith, ltb-true 0 n q))
+    go false q e = (omega (arith, ltb-false 0 n q), e)
+
+module _ (g : Game) where
+  pub riichi-accepted : (seat : ℕ) → refusalFor g (riichi seat) ≡ 0 → (seat ≤ 3) × (notOpen g ≡ false) × (isDeclared g seat ≡ false)
+  unfolding refusalFor
+  riichi-accepted seat e =
+      let p = cond-zero (ltb 3 seat) 7 (cond (notOpen g) 9 (cond (isDeclared g seat) 10 0)) e in
+      let q = cond-zero (notOpen g) 8 (cond (isDeclared g seat) 10 0) (p .1) in
+      (ltb-false 3 seat (p .0), q .0, cond-zero (isDeclared g seat) 9 0 (q .1) .0)
+
+  pub chombo-accepted : (seat : ℕ) → refusalFor g (chombo seat) ≡ 0 → (seat ≤ 3) × (notOpen g ≡ false)
+  unfolding refusalFor
+  chombo-accepted seat e =
+      let p = cond-zero (ltb 3 seat) 7 (cond (notOpen g) 9 0) e in
+      (ltb-false 3 seat (p .0), cond-zero (notOpen g) 8 0 (p .1) .0)
+
+  pub draw-accepted : (bits : ℕ) → refusalFor g (draw bits) ≡ 0 → notOpen g ≡ false
+  unfolding refusalFor
+  draw-accepted bits e =
+      let x : Bool = any 4 (λ i. isDeclared g i && not (isReady bits i)) in
+      cond-zero (notOpen g) 8 (cond x 12 0) (cond-zero (ltb 15 bits) 7 (cond (notOpen g) 9 (cond x 12 0)) e .1) .0
+
+  pub win-accepted : (s : List ℕ) → refusalFor g (win s) ≡ 0 → (notOpen g ≡ false) × (numberOf (readOf s .answer) ≡ 0) × (scoredFor g s .refusal ≡ 0)
+  unfolding refusalFor
+  win-accepted s e =
+      let m : ℕ = cond (riichiMismatch g (handFor s)) 11 0 in
+      let v : ℕ = scoredFor g s .refusal in
+      let n : ℕ = numberOf (readOf s .answer) in
+      let p = cond-zero (notOpen g) 8 (cond (ltb 0 n) n (cond (ltb 0 v) v m)) e in
+      let q = own-zero n (cond (ltb 0 v) v m) (p .1) in
+      (p .0, q .0, own-zero v m (q .1) .0)

@@ -1,0 +1,2 @@
+pub mod ThinNumber
+pub mod ThinSlice

@@ -1,0 +1,28 @@
+-- `handset::hb_win` meets its contract: it is `proofs/ThinSlice.antt`'s function over `game::win`. Assumes nothing.
+use Prim.Native.Nat.{ℕ}
+use mathlib.Core.List.{List}
+use contract.Running.{givenOf, tables, tablesOf}
+use denote.Triple.Spec.{tripleOf}
+use denote.Triple.Table.{entered, cited}
+use Rattle.game.specs.declared.Game.{Game}
+use Rattle.game.specs.Booking.{win}
+use Rattle.game.specs.Runs.{Booked}
+use Rattle.game.proofs.win.Symbol as callee-def
+use Rattle.game.proofs.win.Symbol.{name as #callee}
+use Rattle.game.proofs.win.Met as callee-thm
+use Rattle.handset.proofs.ThinSlice.{Callee, thin-meets}
+use Rattle.handset.proofs.hb_win.Key.{name as #self}
+use Rattle.handset.proofs.hb_win as f
+use Rattle.handset.proofs.hb_win.Statement as stated
+use Rattle.handset.proofs.hb_win.Code as code
+
+abbrev Promise : Game → List ℕ → ℕ → Game → Type 0
+Promise g a n k = Booked g (win a) n k
+
+pub hb-win-spec : {M : Type 1} → stated.statement M
+unfolding code.routine tablesOf
+hb-win-spec 𝓤 H 𝓜 𝓖 𝓡 =
+    entered 𝓤 H (tripleOf 𝓤 H (𝓖 .A) f.signature (f.spec 𝓤 H (𝓖 .A) (𝓜 .mem) (𝓡 .run)))
+    (tables 𝓤 H 𝓜 𝓡 code.env .C) (tables 𝓤 H 𝓜 𝓡 code.env .Λ) #self code.function (code.unfolded 𝓤 H 𝓜 𝓡)
+    (thin-meets #callee Promise 𝓤 H (𝓖 .A) (givenOf 𝓤 H 𝓜 𝓖) (tablesOf 𝓤 H 𝓜 (tables 𝓤 H 𝓜 𝓡 code.env))
+    (cited 𝓤 H (Callee #callee Promise 𝓤 H (𝓖 .A)) 𝓜 𝓡 code.env #callee callee-def.routine code.calls-game·win (callee-thm.met 𝓤 H 𝓜 𝓖 𝓡)))
