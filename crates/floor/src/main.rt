@@ -1,0 +1,41 @@
+// The lowest score that a game from a fresh one can reach, by a run: in each of 200 hands seat 1 declares riichi, at 1,000, and
+// discards into the dealer's yakuman, at 48,000. Seat 1 then has 30,000 - 200 * 49,000 = -9,770,000, and the game is over.
+use game::Game;
+use libc::STDOUT_FILENO;
+
+// Thirteen orphans won by seat 0 from seat 1.
+const WIN: [u8; 13] = [136, 30, 0, 0, 65, 40, 164, 211, 110, 58, 243, 240, 66];
+
+fn hand_of(g: Game) -> Game {
+    let a = game::riichi(g, 1);
+    let h = a.game;
+    let record = WIN;
+    let b = game::win(h, &record);
+    b.game
+}
+
+// The first n bytes.
+fn put(line: &[u8], n: usize) {
+    if n <= line.len() {
+        io::write_all(STDOUT_FILENO, &line[..n]);
+    }
+}
+
+fn show(g: Game, entry: u32, letter: u8, answer: u8) {
+    let mut line = [0u8; 96];
+    let s = g.scores;
+    let n = text::line(&mut line, entry, letter, answer, s, g.sticks);
+    put(&line, n);
+}
+
+fn main() {
+    let mut g = game::fresh_game();
+    for k in 0..200usize {
+        let h = hand_of(g);
+        g = h;
+    }
+    show(g, 400, b'W', 0);
+    let after = game::draw(g, 0);
+    let h = after.game;
+    show(h, 401, b'D', after.answer);
+}
