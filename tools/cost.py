@@ -1,0 +1,67 @@
+#!/usr/bin/env python3
+"""cost.py: what one Score costs, in instructions (valgrind --tool=callgrind) and in bytes of stack (frames of the compiled program).
+
+It runs the program `vectors` (target/bin/vectors, made by `rt check vectors`) on hands of crates/vectors/stdin. A figure is that of
+one entry: reading 48 bytes, Score, and comparing. Mean: over the first 10,000 entries. Worst: over all one-suit hands and over each
+block of 50 of those 10,000, by the difference between a run with a hand 20 times more and one without.
+"""
+import os, re, subprocess, sys, tempfile
+here = os.path.join(os.path.dirname(os.path.abspath(__file__)), "..")
+program = os.path.join(here, "target/bin/vectors")
+data = open(os.path.join(here, "crates/vectors/stdin"), "rb").read()
+entries = [data[i:i + 48] for i in range(0, len(data), 48)]
+
+
+def instructions(hands):
+    """How many instructions a run on these entries takes."""
+    with tempfile.TemporaryDirectory() as d:
+        r = subprocess.run(["valgrind", "--tool=callgrind", f"--callgrind-out-file={d}/out", program],
+                           input=b"".join(hands), capture_output=True)
+        return int(re.search(rb"Collected : (\d+)", r.stderr).group(1))
+
+
+def one_suit(e):
+    """All tiles of a sound, accepted record with no meld are of one suit."""
+    n = e[0]
+    bits = "".join(f"{b:08b}" for b in e[1:1 + n])
+    if n != 13 or e[19] != 0:
+        return False
+    tiles = [int(bits[25 + 6 * i:31 + 6 * i], 2) for i in range(13)] + [int(bits[16:22], 2)]
+    return max(tiles) < 27 and len({t // 9 for t in tiles}) == 1
+
+
+def worst(hands, base, block):
+    """The costliest of the hands: block by block, then one by one in the three costliest blocks."""
+    blocks = [hands[i:i + block] for i in range(0, len(hands), block)]
+    cost = sorted(((instructions(b) - base) / len(b), k) for k, b in enumerate(blocks))
+    return max((instructions([h] * 20) - base) / 20 for _, k in cost[-3:] for h in blocks[k])
+
+
+def frames():
+    """Bytes of stack of each function of the program that has a frame."""
+    text = subprocess.run(["objdump", "-d", "-C", "--no-show-raw-insn", program], capture_output=True, text=True).stdout
+    sizes, name = {}, None
+    for line in text.splitlines():
+        m = re.match(r"[0-9a-f]+ <(.*)>:", line)
+        if m:
+            name = m.group(1)
+            sizes[name] = 8
+        elif name and re.search(r"\bpush\b", line):
+            sizes[name] += 8
+        else:
+            m = re.search(r"sub\s+\$0x([0-9a-f]+),%rsp", line)
+            if m and name:
+                sizes[name] += int(m.group(1), 16)
+    return sizes
+
+
+base = instructions([])
+first = entries[:10000]
+print(f"mean over 10,000 mixed entries: {(instructions(first) - base) // 10000} instructions")
+print(f"worst of them: {worst(first, base, 50):.0f} instructions")
+suit = [e for e in entries if one_suit(e)]
+print(f"worst of {len(suit)} one-suit hands: {worst(suit, base, 20):.0f} instructions")
+f = frames()
+leaf = max((f.get(n, 0), n) for n in f if "::" in n and n not in ("best::split", "best::judge", "vectors::say"))
+deep = 5 * f["best::split"] + f["best::judge"] + leaf[0]
+print(f"deepest stack under the caller: 5 frames of split ({f['best::split']}), judge ({f['best::judge']}), {leaf[1]} ({leaf[0]}): {deep} bytes")
