@@ -1,9 +1,11 @@
 #!/usr/bin/env python3
 """cost.py: what one Score costs, in instructions (valgrind --tool=callgrind) and in bytes of stack (frames of the compiled program).
 
-It runs the program `vectors` (target/bin/vectors, made by `rt check vectors`) on hands of crates/vectors/stdin. A figure is that of
-one entry: reading 48 bytes, Score, and comparing. Mean: over the first 10,000 entries. Worst: over all one-suit hands and over each
-block of 50 of those 10,000, by the difference between a run with a hand 20 times more and one without.
+It runs the program `vectors` (made by `rt check vectors floor`) on hands of crates/vectors/stdin. A figure is that of one entry: reading
+48 bytes, Score, and comparing. Mean: over the first 10,000 entries. Costliest found: the hands are measured in blocks, and those of the
+three costliest blocks one by one, so a costly hand among cheap ones can be missed.
+Stack: Score's own frame is inlined into its caller. The program `floor` has it, with Win, in the frame of its main, so that frame stands
+in for it; under it five frames of the search, the judge, and the largest other frame of the scorer, called there or not.
 """
 import os, re, subprocess, sys, tempfile
 here = os.path.join(os.path.dirname(os.path.abspath(__file__)), "..")
@@ -37,9 +39,10 @@ def worst(hands, base, block):
     return max((instructions([h] * 20) - base) / 20 for _, k in cost[-3:] for h in blocks[k])
 
 
-def frames():
-    """Bytes of stack of each function of the program that has a frame."""
-    text = subprocess.run(["objdump", "-d", "-C", "--no-show-raw-insn", program], capture_output=True, text=True).stdout
+def frames(name):
+    """Bytes of stack of each function of a program that has a frame."""
+    path = os.path.join(here, "target/bin", name)
+    text = subprocess.run(["objdump", "-d", "-C", "--no-show-raw-insn", path], capture_output=True, text=True).stdout
     sizes, name = {}, None
     for line in text.splitlines():
         m = re.match(r"[0-9a-f]+ <(.*)>:", line)
@@ -55,13 +58,19 @@ def frames():
     return sizes
 
 
-base = instructions([])
-first = entries[:10000]
-print(f"mean over 10,000 mixed entries: {(instructions(first) - base) // 10000} instructions")
-print(f"worst of them: {worst(first, base, 50):.0f} instructions")
-suit = [e for e in entries if one_suit(e)]
-print(f"worst of {len(suit)} one-suit hands: {worst(suit, base, 20):.0f} instructions")
-f = frames()
-leaf = max((f.get(n, 0), n) for n in f if "::" in n and n not in ("best::split", "best::judge", "vectors::say"))
-deep = 5 * f["best::split"] + f["best::judge"] + leaf[0]
-print(f"deepest stack under the caller: 5 frames of split ({f['best::split']}), judge ({f['best::judge']}), {leaf[1]} ({leaf[0]}): {deep} bytes")
+def stack():
+    """An upper estimate of the stack that Score takes, by the frames of the compiled code."""
+    f = frames("floor")
+    leaf = max(f[n] for n in f if n.split("::")[0] in ("fields", "hand", "groups", "yaku", "points", "value", "reading"))
+    deep = f["main"] + 5 * f["best::split"] + f["best::judge"] + leaf
+    print(f"stack: caller with Score {f['main']}, 5 times split {f['best::split']}, judge {f['best::judge']}, another {leaf}: {deep} bytes")
+
+
+stack()
+if "--stack" not in sys.argv:
+    base = instructions([])
+    first = entries[:10000]
+    print(f"mean over 10,000 mixed entries: {(instructions(first) - base) // 10000} instructions")
+    print(f"costliest found of them: {worst(first, base, 50):.0f} instructions")
+    suit = [e for e in entries if one_suit(e)]
+    print(f"costliest found of {len(suit)} one-suit hands: {worst(suit, base, 20):.0f} instructions")
