@@ -12,6 +12,7 @@ ghost use Rattle.fields.specs.Hand.{eachMeld, someMeld, meldHolds, conce
 ghost use Rattle.fields.specs.Refusals.{tileOver33, chiWithoutRun, wrongDiscarder, wrongFields, tooLarge, unusedNotZero, inRecord, situationBy, refusalOf, unwritable as unwritableOf};
 
 // The numbers of a hand, in the record's order: how 0 tsumo, 1 ron; m the meld count.
+#[repr(C)]
 pub struct Fields {
     pub how: u8,
     pub winner: u8,
@@ -24,6 +25,7 @@ pub struct Fields {
 }
 
 // A meld is 64 times its kind and its tile. Unused places are 0.
+#[repr(C)]
 pub struct Hand {
     pub fields: Fields,
     pub melds: [u8; 4],

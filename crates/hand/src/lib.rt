@@ -28,6 +28,7 @@ pub struct HandRead {
 }
 
 // What Write gives: 0 and the record's length, or the refusal and 0.
+#[repr(C)]
 pub struct Written {
     pub refusal: u8,
     pub len: usize,

@@ -1,7 +1,97 @@
-// The bookings as the handset's firmware links them: each is lent the game and updates it there. They take all input.
+// The public calls as the handset's firmware links them, with one prefix. They take all input; the bookings are lent the game and update it there.
+ghost use mathlib.Core.Path.{_≡_};
+ghost use Rattle.hand.specs.Record.{fieldsOf, writtenOf, bufferOf};
+ghost use Rattle.score.specs.Score.{scoreOf};
 ghost use Rattle.game.specs.Booking as Booking;
+ghost use Rattle.game.specs.Ledger.{fresh};
 ghost use Rattle.game.specs.Runs.{Booked};
+ghost use Rattle.text.specs.Text.{lineLength, lineBuffer};
+ghost use Rattle.handset.specs.Interface.{readHandOf, nextEntryBy, nextEntryOf};
+use fields::Fields;
+use fields::Hand;
 use game::Game;
+use hand::Answer;
+use hand::Written;
+use log::Next;
+use score::Scored;
+
+// What Read gives: 0 and the hand, or the refusal and an all-zero hand.
+#[repr(C)]
+pub struct ReadHand {
+    pub refusal: u8,
+    pub hand: Hand,
+}
+
+// What Next entry gives: an entry with its length, header included; the log's end; or refusal 14. Else all zero.
+#[repr(C)]
+pub struct NextEntry {
+    pub refusal: u8,
+    pub end: bool,
+    pub kind: u8,
+    pub argument: u8,
+    pub length: usize,
+}
+
+// The fields of an answer, zero where the record is refused.
+fn fields_of(a: Answer) -> Fields
+    ensures { λ r. ⌜ r ≡ fieldsOf a ⌝ }
+{
+    match a {
+        Answer::Sound(f) => f,
+        Answer::Refused(_) => Fields {
+            how: 0,
+            winner: 0,
+            discarder: 0,
+            riichi: 0,
+            situation: 0,
+            indicator: 0,
+            winning: 0,
+            m: 0,
+        },
+    }
+}
+
+#[no_mangle]
+pub extern "C" fn hb_read(s: &[u8]) -> ReadHand
+    ensures { λ r. ⌜ r ≡ readHandOf (now (s .entry)) ⌝ }
+{
+    let r = hand::read(s);
+    let a = r.answer;
+    let melds = r.melds;
+    let concealed = r.concealed;
+    let fields = fields_of(a);
+    let hand = Hand {
+        fields,
+        melds,
+        concealed,
+    };
+    ReadHand {
+        refusal: hand::why(a),
+        hand,
+    }
+}
+
+#[no_mangle]
+pub extern "C" fn hb_write(h: Hand, buf: &mut [u8]) -> Written
+    ensures { λ r. ⌜ r ≡ writtenOf h (now (buf .entry)) ⌝ }
+    ensures { λ _. ⌜ now (buf .exit) ≡ bufferOf h (now (buf .entry)) ⌝ }
+{
+    hand::write(h, buf)
+}
+
+#[no_mangle]
+pub extern "C" fn hb_score(s: &[u8], dealer: u8, wind: u8) -> Scored
+    ensures { λ r. ⌜ r ≡ scoreOf (now (s .entry)) dealer wind ⌝ }
+{
+    score::score(s, dealer, wind)
+}
+
+#[no_mangle]
+pub extern "C" fn hb_fresh() -> Game
+    ensures { λ r. ⌜ r ≡ fresh ⌝ }
+{
+    game::fresh_game()
+}
 
 #[no_mangle]
 pub extern "C" fn hb_riichi(g: &mut Game, seat: u8) -> u8
@@ -37,4 +127,52 @@ pub extern "C" fn hb_chombo(g: &mut Game, seat: u8) -> u8
     let b = game::chombo(*g, seat);
     *g = b.game;
     b.answer
+}
+
+fn flat(n: Next) -> NextEntry
+    ensures { λ r. ⌜ r ≡ nextEntryBy n ⌝ }
+{
+    match n {
+        Next::Entry {
+            kind,
+            argument,
+            length,
+        } => NextEntry {
+            refusal: 0,
+            end: false,
+            kind,
+            argument,
+            length,
+        },
+        Next::End => NextEntry {
+            refusal: 0,
+            end: true,
+            kind: 0,
+            argument: 0,
+            length: 0,
+        },
+        Next::Bad => NextEntry {
+            refusal: 14,
+            end: false,
+            kind: 0,
+            argument: 0,
+            length: 0,
+        },
+    }
+}
+
+#[no_mangle]
+pub extern "C" fn hb_next(s: &[u8], at: usize) -> NextEntry
+    ensures { λ r. ⌜ r ≡ nextEntryOf (now (s .entry)) at ⌝ }
+{
+    flat(log::next_entry(s, at))
+}
+
+#[no_mangle]
+pub extern "C" fn hb_line(buf: &mut [u8], entry: u32, letter: u8, refusal: u8, g: Game) -> usize
+    ensures { λ r. ⌜ r ≡ lineLength (now (buf .entry)) entry letter refusal (g .scores) (g .sticks) ⌝ }
+    ensures { λ _. ⌜ now (buf .exit) ≡ lineBuffer (now (buf .entry)) entry letter refusal (g .scores) (g .sticks) ⌝ }
+{
+    let scores = g.scores;
+    text::line(buf, entry, letter, refusal, scores, g.sticks)
 }

@@ -14,7 +14,7 @@ use Rattle.log.specs.declared.Next.{Next}
 use Rattle.log.specs.declared.Next.the-variants.{Entry, End, Bad}
 
 -- an answer, with the equation that says so
-either : (P : Type 0) (x : Next) → (x ≡ End → P) → (x ≡ Bad → P) → ((k a n : ℕ) → x ≡ Entry k a n → P) → P
+pub either : (P : Type 0) (x : Next) → (x ≡ End → P) → (x ≡ Bad → P) → ((k a n : ℕ) → x ≡ Entry k a n → P) → P
 either P (Entry k a n) end bad entry = entry k a n refl
 either P End end bad entry = end refl
 either P Bad end bad entry = bad refl

@@ -1,0 +1,18 @@
+-- `play::book` meets its contract, kind by kind. Assumes nothing.
+use borrow.Author.Needs.{needs}
+use borrow.Author.Tests.{eq-eqb, ne-eqb}
+use Rattle.play.proofs.book.Statement.{statement}
+use Rattle.play.proofs.book.Tie as tie
+
+pub book-spec : {M : Type 1} → statement M
+book-spec =
+    tie.close
+    (tie.spec
+    (λ c κs. search needs)
+    (λ c. rw (eq-eqb _ 0 (c .before .if1 .taken)) (c .riichi .ensures))
+    (λ c κs. search needs)
+    (λ c. rw (ne-eqb _ 0 (c .before .before .if1 .left), eq-eqb _ 1 (c .before .if2 .taken)) (c .win .ensures))
+    (λ c κs. search needs)
+    (λ c. rw (ne-eqb _ 0 (c .before .before .before .if1 .left), ne-eqb _ 1 (c .before .before .if2 .left), eq-eqb _ 2 (c .before .if3 .taken)) (c .draw .ensures))
+    (λ c κs. search needs)
+    (λ c. rw (ne-eqb _ 0 (c .before .before .before .if1 .left), ne-eqb _ 1 (c .before .before .if2 .left), ne-eqb _ 2 (c .before .if3 .left)) (c .chombo .ensures)))

@@ -1,0 +1,13 @@
+-- `play::letter` meets its contract, kind by kind. Assumes nothing.
+use borrow.Author.Tests.{eq-eqb, ne-eqb}
+use Rattle.play.proofs.letter.Statement.{statement}
+use Rattle.play.proofs.letter.Tie as tie
+
+pub letter-spec : {M : Type 1} → statement M
+letter-spec =
+    tie.close
+    (tie.spec
+    (λ c. rw (eq-eqb _ 0 (c .if1 .taken)))
+    (λ c. rw (ne-eqb _ 0 (c .before .if1 .left), eq-eqb _ 1 (c .if2 .taken)))
+    (λ c. rw (ne-eqb _ 0 (c .before .before .if1 .left), ne-eqb _ 1 (c .before .if2 .left), eq-eqb _ 2 (c .if3 .taken)))
+    (λ c. rw (ne-eqb _ 0 (c .before .before .if1 .left), ne-eqb _ 1 (c .before .if2 .left), ne-eqb _ 2 (c .if3 .left))))
