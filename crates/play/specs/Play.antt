@@ -1,5 +1,5 @@
 -- A log booked into a game (01, Log): its bookings, one entry booked, and the text that program `tally` prints.
-use mathlib.Core.Bool.{cond}
+use mathlib.Core.Bool.{_||_, cond}
 use mathlib.Core.List.{List, [], _∷_, _++_, map}
 use Prim.Native.Nat.{ℕ, _+_}
 use lib.Dec.{eqb}
@@ -13,6 +13,7 @@ use Rattle.log.specs.declared.Next.{Next}
 use Rattle.log.specs.declared.Next.the-variants.{Entry, End, Bad}
 use Rattle.text.specs.Text.{lineOf}
 use Rattle.play.specs.declared.Step.{Step}
+use Rattle.play.specs.declared.Turn.{Turn}
 
 -- "kind (0 riichi, 1 win, 2 draw, 3 chombo)"; Next entry gives no other
 abbrev pub bookingBy : ℕ → ℕ → List ℕ → Booking
@@ -54,5 +55,23 @@ textFrom k g (entry ∷ rest) =
     entryLine k (entry .kind) (refusalFor g b) (after g b) ++ textFrom (k + 1) (after g b) rest
 
 -- what `tally` prints of a log: "entry from 1"; "Bytes past 65,536 aren't read. At 14 it stops, with no line for it."
-unfoldable pub tallyOf : List ℕ → List ℕ
-tallyOf log = textFrom 1 fresh (entriesFrom (take 65536 log) 0)
+unfoldable pub tallyText : List ℕ → List ℕ
+tallyText log = textFrom 1 fresh (entriesFrom (take 65536 log) 0)
+
+-- ---- line by line
+
+-- the text from where a walk stands
+abbrev pub textLeft : Turn → List ℕ → List ℕ
+textLeft t log = textFrom (t .entry) (t .game) (entriesFrom log (t .at))
+
+-- the line of the entry there, booked: none where there is no entry, or no number for it in 32 bits
+unfoldable pub nextLine : Turn → List ℕ → List ℕ
+nextLine t log =
+    let s = stepOf (t .game) log (t .at) in
+    cond (eqb (s .length) 0 || eqb (t .entry) 4294967295) [] (entryLine (t .entry) (s .kind) (s .answer) (s .game))
+
+-- where the walk then stands, n bytes being written: as before where none are
+unfoldable pub turnBy : ℕ → Turn → List ℕ → Turn
+turnBy n t log =
+    let s = stepOf (t .game) log (t .at) in
+    cond (eqb n 0) (record { game = t .game; at = t .at; entry = t .entry; written = 0 }) (record { game = s .game; at = t .at + s .length; entry = t .entry + 1; written = n })

@@ -1,10 +1,11 @@
 // A log booked into a game (01, Log). The public calls take all input.
 ghost use mathlib.Core.Path.{_≡_};
 ghost use Prim.Native.Nat.{_≤_};
-ghost use Rattle.game.specs.Ledger.{ledgerFrom};
+ghost use lib.ListN.{length};
+ghost use Rattle.game.specs.Ledger.{fresh, ledgerFrom};
 ghost use Rattle.game.specs.Runs.{Booked};
-ghost use Rattle.text.specs.Text.{lineLength, lineBuffer};
-ghost use Rattle.play.specs.Play.{bookingBy, bookingsFrom, stepOf, letterOf};
+ghost use Rattle.text.specs.Text.{lengthIn, bufferWith};
+ghost use Rattle.play.specs.Play.{bookingBy, bookingsFrom, stepOf, letterOf, entryLine, nextLine, turnBy};
 use game::Answered;
 use game::Game;
 use log::Next;
@@ -92,26 +93,91 @@ pub fn play(g: Game, s: &[u8]) -> Game
     h
 }
 
-fn letter(kind: u8) -> u8
-    ensures { λ r. ⌜ r ≡ letterOf kind ⌝ }
+fn letter(k: u8) -> u8
+    ensures { λ r. ⌜ r ≡ letterOf k ⌝ }
 {
-    if kind == 0 {
+    if k == 0 {
         return b'R';
     }
-    if kind == 1 {
+    if k == 1 {
         return b'W';
     }
-    if kind == 2 {
+    if k == 2 {
         return b'D';
     }
     b'C'
 }
 
 // The line of entry k, booked, at the start of a buffer, or nothing where the buffer is too short.
-pub fn line(buf: &mut [u8], k: u32, t: Step) -> usize
-    ensures { λ r. ⌜ r ≡ lineLength (now (buf .entry)) k (letterOf (t .kind)) (t .answer) (t .game .scores) (t .game .sticks) ⌝ }
-    ensures { λ _. ⌜ now (buf .exit) ≡ lineBuffer (now (buf .entry)) k (letterOf (t .kind)) (t .answer) (t .game .scores) (t .game .sticks) ⌝ }
+fn entry_line(buf: &mut [u8], k: u32, t: Step) -> usize
+    ensures { λ r. ⌜ r ≡ lengthIn (now (buf .entry)) (entryLine k (t .kind) (t .answer) (t .game)) ⌝ }
+    ensures { λ _. ⌜ now (buf .exit) ≡ bufferWith (now (buf .entry)) (entryLine k (t .kind) (t .answer) (t .game)) ⌝ }
+    ensures { λ _. ⌜ length (entryLine k (t .kind) (t .answer) (t .game)) ≤ 83 ⌝ }
 {
     let s = t.game.scores;
     text::line(buf, k, letter(t.kind), t.answer, s, t.game.sticks)
+}
+
+// Where a walk that prints stands: the game, the offset and the number of the next entry, and how many bytes were written last.
+pub struct Turn {
+    pub game: Game,
+    pub at: usize,
+    pub entry: u32,
+    pub written: usize,
+}
+
+// Before the first entry.
+pub fn start() -> Turn
+    ensures { λ r. ⌜ r ≡ record { game = fresh; at = 0; entry = 1; written = 0 } ⌝ }
+{
+    let g = game::fresh_game();
+    Turn {
+        game: g,
+        at: 0,
+        entry: 1,
+        written: 0,
+    }
+}
+
+// Where it stands, nothing being written.
+fn stay(t: Turn) -> Turn
+    ensures { λ r. ⌜ r ≡ record { game = t .game; at = t .at; entry = t .entry; written = 0 } ⌝ }
+{
+    let g = t.game;
+    Turn {
+        game: g,
+        at: t.at,
+        entry: t.entry,
+        written: 0,
+    }
+}
+
+// Books the next entry of a log and writes its line at the start of a buffer; nothing where there is no entry or no room.
+pub fn next_line(t: Turn, s: &[u8], buf: &mut [u8]) -> Turn
+    ensures { λ r. ⌜ r ≡ turnBy (lengthIn (now (buf .entry)) (nextLine t (now (s .entry)))) t (now (s .entry)) ⌝ }
+    ensures { λ _. ⌜ now (buf .exit) ≡ bufferWith (now (buf .entry)) (nextLine t (now (s .entry))) ⌝ }
+    ensures { λ _. ⌜ length (nextLine t (now (s .entry))) ≤ 83 ⌝ }
+{
+    let g = t.game;
+    let at = t.at;
+    let entry = t.entry;
+    let b = book_at(g, s, at);
+    let length = b.length;
+    if length == 0 {
+        return stay(t);
+    }
+    if entry == 4294967295 {
+        return stay(t);
+    }
+    let n = entry_line(buf, entry, b);
+    if n == 0 {
+        return stay(t);
+    }
+    let after = b.game;
+    Turn {
+        game: after,
+        at: at + length,
+        entry: entry + 1,
+        written: n,
+    }
 }

@@ -3,4 +3,3 @@ pub mod Back
 pub mod Put
 pub mod Size
 pub mod Elem
-pub mod Fits

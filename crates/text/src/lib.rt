@@ -104,7 +104,7 @@ fn put_line(
     number(buf, d, sticks, b'\n')
 }
 
-// A line at the start of a buffer, or nothing where it is too short.
+// A line at the start of a buffer, or nothing where it is too short; 83 bytes are enough.
 pub fn line(
     buf: &mut [u8],
     entry: u32,
@@ -115,6 +115,7 @@ pub fn line(
 ) -> usize
     ensures { λ r. ⌜ r ≡ lineLength (now (buf .entry)) entry letter refusal scores sticks ⌝ }
     ensures { λ _. ⌜ now (buf .exit) ≡ lineBuffer (now (buf .entry)) entry letter refusal scores sticks ⌝ }
+    ensures { λ _. ⌜ length (lineOf entry letter refusal scores sticks) ≤ 83 ⌝ }
 {
     let mut text = [0u8; 83];
     let n = put_line(&mut text, entry, letter, refusal, scores, sticks);

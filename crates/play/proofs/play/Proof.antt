@@ -1,7 +1,7 @@
 -- `play::play` meets its contract: what is booked so far, and what the rest of the log's entries make of it, is the whole. Assumes nothing.
 use borrow.Author.Needs.{needs}
 use mathlib.Core.Path.{_≡_, refl, _∙_}
-use Prim.Native.Nat.{_+_, _-_, _≤_, _<_}
+use Prim.Native.Nat.{_-_, _≤_}
 use native.Mathlib.Omega.{arith}
 use lib.ListN.{length}
 use Rattle.game.specs.Ledger.{ledgerFrom}

@@ -1,14 +1,14 @@
 -- A log booked entry by entry, and its text line by line. Assumes nothing.
-use mathlib.Core.Path.{_≡_, refl, sym, ap, _∙_}
-use mathlib.Core.List.{List, [], _∷_, _++_}
+use mathlib.Core.Path.{_≡_, sym, ap, _∙_}
+use mathlib.Core.List.{List, [], _++_}
 use Prim.Native.Nat.{ℕ, _+_, _-_, _≤_, _<_}
 use native.Mathlib.Omega.{arith}
 use lib.ListN.{length, take, drop}
 use Rattle.game.specs.declared.Game.{Game}
-use Rattle.game.specs.Ledger.{refusalFor, after, ledgerFrom}
+use Rattle.game.specs.Ledger.{ledgerFrom}
 use Rattle.game.specs.Runs.{Booked}
 use Rattle.log.specs.Log.{nextOf}
-use Rattle.log.specs.Walk.{entryAt, entriesFrom}
+use Rattle.log.specs.Walk.{entriesFrom}
 use Rattle.log.specs.laws.Next.{next-end, step-inside, after-header}
 use Rattle.log.specs.laws.Walk.{either, entries-turn, entries-end, entries-bad}
 use Rattle.log.specs.declared.Next.{Next}

@@ -1,21 +1,29 @@
--- `printer::print_log` meets its contract: the same turns as `play::play`, with the entry's number. Assumes nothing.
+-- `printer::print_log` meets its contract: what is printed and what is left make up the text. Assumes nothing.
 use borrow.Author.Needs.{needs}
-use mathlib.Core.Path.{_≡_, refl, ap, _∙_}
-use Prim.Native.Nat.{_+_, _-_, _≤_}
+use mathlib.Core.Path.{_≡_, refl, sym}
+use Prim.Native.Nat.{_+_, _-_, _<_}
 use native.Mathlib.Omega.{arith}
-use lib.ListN.{length}
-use Rattle.game.specs.declared.Game.{Game}
-use Rattle.game.specs.Ledger.{fresh, ledgerFrom}
-use Rattle.play.specs.Play.{bookingsFrom}
-use Rattle.play.specs.laws.Turn.{turned, stopped, past-end}
+use lib.ListN.{length, replicate}
+use lib.Seq.{length-take-le}
+use Rattle.printer.proofs.Kept.{Kept, starts, past, ends, fits, turns}
 use Rattle.printer.proofs.print_log.Statement.{statement}
 use Rattle.printer.proofs.print_log.Tie as tie
 
 abbrev Inv-loop : tie.InvT-loop
-Inv-loop s g₀ at₀ k₀ g at k = (at ≤ length s) × (k ≤ at + 1) × (ledgerFrom g (bookingsFrom s at) ≡ ledgerFrom fresh (bookingsFrom s 0))
+Inv-loop s line₀ t₀ printed₀ line t printed = Kept s line t printed
 
 abbrev μ-loop : tie.MeasureT-loop
-μ-loop s g₀ at₀ k₀ g at k = length s - at
+μ-loop s line₀ t₀ printed₀ line t printed = length s - t .at
+
+inside : tie.Need-array-share-prefix-line Inv-loop μ-loop
+inside c =
+    let l : length (c .before .before .next-line .last .1 .1 .0) ≡ 83 = search needs in
+    omega (arith, l, fits _ (c .before .before .before .before .before .before .before .before .before .pre) (c .before .before .before .before .before .before .loop .line) _ _ (c .before .before .before .before .before .before .loop .inv) _ (c .before .before .next-line .ensures .0) (c .before .before .next-line .ensures .1 .1))
+
+again : (c : tie.After-write-all Inv-loop μ-loop) → Kept (c .before .before .before .before .before .before .before .before .before .before .before .args .s .now) (c .before .before .before .before .next-line .last .1 .1 .0) (c .before .before .before .before .next-line .result) (c .before .before .before .before .before .before .before .before .loop .printed + c .before .before .before .before .next-line .result .written) × (c .before .before .before .before .before .before .before .before .loop .t .at < c .before .before .before .before .next-line .result .at)
+again c =
+    let l : length (c .before .before .before .before .next-line .last .1 .1 .0) ≡ 83 = search needs in
+    turns _ (c .before .before .before .before .before .before .before .before .before .before .before .pre) (c .before .before .before .before .before .before .before .before .loop .line) _ _ (c .before .before .before .before .before .before .before .before .loop .inv) _ (c .before .before .before .before .next-line .ensures .0) (c .before .before .before .before .next-line .ensures .1 .1) (c .before .before .before .before .next-line .last .1 .1 .0) l (c .before .before .if2 .left)
 
 pub print-log-spec : {M : Type 1} → statement M
 print-log-spec =
@@ -24,14 +32,14 @@ print-log-spec =
     Inv-loop
     μ-loop
     (λ c κs. search needs)
-    (λ c. (omega arith, omega arith, ap (λ (g : Game). ledgerFrom g (bookingsFrom (c .before .before .args .s .now) 0)) (c .fresh-game .ensures)))
+    (λ c. starts _ (c .before .before .pre) (replicate 83 0) _ refl (c .start .ensures))
+    (λ c. search needs)
     (λ c κs. search needs)
-    (λ c. stopped _ _ _ _ (c .before .before .book-at .ensures) (c .if1 .taken) ∙ c .before .before .before .before .loop .inv .2)
+    (λ c. ends _ (c .before .before .before .before .before .before .before .before .before .pre) (c .before .before .before .before .before .before .loop .line) _ _ (c .before .before .before .before .before .before .loop .inv) _ (c .before .before .next-line .ensures .0) (c .before .before .next-line .ensures .1 .1) (c .if2 .taken))
+    inside
+    (λ c. sym (length-take-le _ _ (inside (c .before))))
     (λ c κs. search needs)
-    (λ c. omega (arith, turned _ _ _ _ (c .before .before .before .before .book-at .ensures) (c .before .before .if1 .left)))
-    (λ c. omega (arith, c .before .before .before .before .before .before .loop .inv, c .before .before .before .before .before .before .before .before .before .pre, turned _ _ _ _ (c .before .before .before .before .book-at .ensures) (c .before .before .if1 .left)))
-    (λ c. omega (arith, turned _ _ _ _ (c .before .before .before .before .before .book-at .ensures) (c .before .before .before .if1 .left)))
-    (λ c.
-    let t = turned _ _ _ _ (c .before .before .before .before .before .book-at .ensures) (c .before .before .before .if1 .left) in
-    (t .1, omega (arith, t .0, c .before .before .before .before .before .before .before .loop .inv), t .2 ∙ c .before .before .before .before .before .before .before .loop .inv .2))
-    (λ c. past-end _ _ _ (c .loop-test .left) ∙ c .before .loop .inv .2))
+    (λ c. omega (arith, again c, c .before .before .before .before .before .before .before .before .before .before .before .pre))
+    (λ c. omega (arith, again c))
+    (λ c. again c .0)
+    (λ c. past _ (c .before .before .before .before .before .pre) (c .before .before .loop .line) (c .before .before .loop .t) _ (c .before .before .loop .inv) (c .if1 .left)))

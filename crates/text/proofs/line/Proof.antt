@@ -23,7 +23,7 @@ returns c =
     let s = c .before .before .before .before .before .args in
     let t = lineOf (s .entry) (s .letter) (s .refusal) (s .scores) (s .sticks) in
     let h = lt-leb (length t) (length (s .buf .now)) (omega (arith, c .before .before .put-line .ensures .0 .place)) in
-    (simp h, simp h)
+    (simp h, (simp h, omega (arith, c .before .before .put-line .ensures .0 .place)))
 
 returns-2 : tie.Need-returns-2
 unfolding lineLength lineBuffer
@@ -32,7 +32,7 @@ returns-2 c =
     let t = lineOf (s .entry) (s .letter) (s .refusal) (s .scores) (s .sticks) in
     let h = le-leb (length t) (length (s .buf .now)) (omega (arith, c .before .before .before .before .before .before .before .put-line .ensures .0 .place)) in
     let q : take (length t) t ≡ t = take-length t in
-    (c .before .before .copy .ensures .0 ∙ rw (made (c .before .before .before .before .before .before .before), h), c .before .before .copy .ensures .1 ∙ rw (made (c .before .before .before .before .before .before .before), q, h))
+    (c .before .before .copy .ensures .0 ∙ rw (made (c .before .before .before .before .before .before .before), h), (c .before .before .copy .ensures .1 ∙ rw (made (c .before .before .before .before .before .before .before), q, h), omega (arith, c .before .before .before .before .before .before .before .put-line .ensures .0 .place)))
 
 pub line-spec : {M : Type 1} → statement M
 line-spec =

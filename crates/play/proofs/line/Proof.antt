@@ -1,8 +1,0 @@
--- `play::line` meets its contract. Assumes nothing.
-use borrow.Author.Needs.{needs}
-use Rattle.play.proofs.line.Statement.{statement}
-use Rattle.play.proofs.line.Tie as tie
-
-pub line-spec : {M : Type 1} → statement M
-line-spec =
-    tie.close (tie.spec (λ c κs. search needs) (λ c κs. search needs) (λ c. search needs) (λ c. rw (← c .before .before .before .letter .ensures) (c .before .before .line .ensures)))
