@@ -1,0 +1,217 @@
+/* The scoring core of the table handset, as firmware links it (libhandset.a, x86-64). Words in quotes are document 01's.
+ *
+ * Every call takes all input. A refused call gives its number with all else zero and changes
+ * no byte of the lent game or buffer. Bytes past what a call writes stay.
+ *
+ * The caller owes every call:
+ * - a pointer with a length is valid for that length and not null, also where the length is 0;
+ * - a pointer to a game is valid and not null;
+ * - each bool of a game is 0 or 1;
+ * - a game and the bytes lent with it do not overlap;
+ * - one thread at a time for each game and each buffer.
+ */
+#ifndef HERBASSOLH_H
+#define HERBASSOLH_H
+
+#include <stdbool.h>
+#include <stddef.h>
+#include <stdint.h>
+
+#ifdef __cplusplus
+extern "C" {
+#endif
+
+/* Refusals; where several are met, the first that the call lists is given. */
+enum {
+    HB_ACCEPTED = 0,
+    HB_REFUSAL_LENGTH = 1,      /* "under 4 bytes, m over 4, or a length not m's" */
+    HB_REFUSAL_FIELD = 2,       /* "a tile over 33, riichi 3, situation over 4, a chi with no run from that tile, a padding
+                                   bit set, tsumo with discarder not 0, ron with discarder equal to winner"; in Write
+                                   "also m over 4, a field too large for its bits, or an unused place not zero" */
+    HB_REFUSAL_DESCENDING = 3,  /* "concealed tiles descend somewhere" */
+    HB_REFUSAL_OVER_FOUR = 4,   /* "over four of a kind among concealed tiles, winning tile, melds and indicator" */
+    HB_REFUSAL_SITUATION = 5,   /* "riichi without a closed hand; double riichi with a meld; rinshan on ron, with riichi or
+                                   without a kan; chankan on tsumo, or with the winning tile's kind more than once among
+                                   the tiles of 4; first turn with ron, a meld or riichi" */
+    HB_REFUSAL_NO_READING = 6,  /* "no reading" */
+    HB_REFUSAL_NO_YAKU = 7,     /* "readings but none with a yaku" */
+    HB_REFUSAL_ARGUMENT = 8,    /* Score "dealer over 3 or wind over 1"; Riichi, Chombo "seat over 3"; Draw "over 15" */
+    HB_REFUSAL_NOT_OPEN = 9,    /* "over (marked so, or 200 hands finished), or out of form (dealer over 3, wind over 1, over
+                                   200 hands, fewer sticks than declared seats, a score under the floor below, or scores
+                                   plus 1,000 times sticks not 120,000)"; the floor is -9,770,000 */
+    HB_REFUSAL_DECLARED = 10,   /* "declared already this hand" */
+    HB_REFUSAL_RIICHI = 11,     /* "riichi field non-zero and winner not declared, or the reverse" */
+    HB_REFUSAL_NOT_READY = 12,  /* "a declared seat not ready" */
+    HB_REFUSAL_BUFFER = 13,     /* "buffer shorter than the record" */
+    HB_REFUSAL_ENTRY = 14       /* "kind over 3, win argument not 0, m over 4, or bytes missing" */
+};
+
+/* Yaku by number; 26 to 36 are yakuman. */
+enum {
+    HB_YAKU_MENZEN_TSUMO = 1,      /* tsumo, closed */
+    HB_YAKU_TANYAO = 2,            /* all simples */
+    HB_YAKU_YAKUHAI = 3,           /* value triplet */
+    HB_YAKU_PINFU = 4,             /* pinfu */
+    HB_YAKU_IIPEIKOU = 5,          /* one twin run */
+    HB_YAKU_CHANKAN = 6,           /* chankan */
+    HB_YAKU_RINSHAN = 7,           /* rinshan */
+    HB_YAKU_HAITEI = 8,            /* last tile tsumo */
+    HB_YAKU_HOUTEI = 9,            /* last tile ron */
+    HB_YAKU_RIICHI = 10,           /* riichi */
+    HB_YAKU_DOUBLE_RIICHI = 11,    /* double riichi */
+    HB_YAKU_CHIITOITSU = 12,       /* seven pairs */
+    HB_YAKU_SANSHOKU_DOUJUN = 13,  /* same run in three suits */
+    HB_YAKU_ITTSUU = 14,           /* 123 456 789 of a suit */
+    HB_YAKU_CHANTA = 15,           /* yaochu in every group and pair, a run among them, an honour present */
+    HB_YAKU_SANSHOKU_DOUKOU = 16,  /* same triplet in three suits */
+    HB_YAKU_TOITOI = 17,           /* four triplets */
+    HB_YAKU_SANANKOU = 18,         /* three concealed triplets */
+    HB_YAKU_SANKANTSU = 19,        /* three kans */
+    HB_YAKU_HONROUTOU = 20,        /* only yaochu */
+    HB_YAKU_RYANPEIKOU = 21,       /* two twin runs */
+    HB_YAKU_JUNCHAN = 22,          /* as 15 with no honour */
+    HB_YAKU_HONITSU = 23,          /* one suit and honours, both present */
+    HB_YAKU_SHOUSANGEN = 24,       /* two dragon triplets and a dragon pair */
+    HB_YAKU_CHINITSU = 25,         /* one suit */
+    HB_YAKU_TENHOU = 26,           /* first turn, dealer */
+    HB_YAKU_CHIIHOU = 27,          /* first turn, other seat */
+    HB_YAKU_DAISANGEN = 28,        /* three dragon triplets */
+    HB_YAKU_SUUSHIIHOU = 29,       /* three wind triplets and a wind pair (shousuushii), or four (daisuushii) */
+    HB_YAKU_SUUANKOU = 30,         /* four concealed triplets */
+    HB_YAKU_SUUKANTSU = 31,        /* four kans */
+    HB_YAKU_TSUUIISOU = 32,        /* honours only, seven pairs too */
+    HB_YAKU_CHINROUTOU = 33,       /* terminals only */
+    HB_YAKU_RYUUIISOU = 34,        /* only sou 2 3 4 6 8 and hatsu */
+    HB_YAKU_CHUUREN_POUTOU = 35,   /* m = 0, one suit's 1112345678999 and one more of it */
+    HB_YAKU_KOKUSHI_MUSOU = 36     /* thirteen orphans */
+};
+
+/* Tile kinds: HB_MAN + 0 to 8 is man 1 to 9; pin and sou likewise. */
+enum {
+    HB_MAN = 0, HB_PIN = 9, HB_SOU = 18,
+    HB_EAST = 27, HB_SOUTH = 28, HB_WEST = 29, HB_NORTH = 30,
+    HB_WHITE = 31, HB_HATSU = 32, HB_CHUN = 33
+};
+
+/* How a hand was won. */
+enum { HB_TSUMO = 0, HB_RON = 1 };
+
+/* The riichi field. */
+enum { HB_RIICHI_NONE = 0, HB_RIICHI_SINGLE = 1, HB_RIICHI_DOUBLE = 2 };
+
+/* The situation field. */
+enum { HB_ORDINARY = 0, HB_RINSHAN = 1, HB_CHANKAN = 2, HB_LAST_TILE = 3, HB_FIRST_TURN = 4 };
+
+/* Meld kinds; the tile of a chi is its lowest. */
+enum { HB_MELD_CHI = 0, HB_MELD_PON = 1, HB_MELD_OPEN_KAN = 2, HB_MELD_CLOSED_KAN = 3 };
+
+/* A meld as HbHand holds it. */
+#define HB_MELD(kind, tile) ((uint8_t)(64 * (kind) + (tile)))
+
+/* Round winds. */
+enum { HB_ROUND_EAST = 0, HB_ROUND_SOUTH = 1 };
+
+/* Kinds of a log's entry. */
+enum { HB_KIND_RIICHI = 0, HB_KIND_WIN = 1, HB_KIND_DRAW = 2, HB_KIND_CHOMBO = 3 };
+
+/* Letters of a line of tally. */
+enum { HB_LETTER_RIICHI = 'R', HB_LETTER_WIN = 'W', HB_LETTER_DRAW = 'D', HB_LETTER_CHOMBO = 'C' };
+
+/* The length in bytes of a record with m melds, m at most 4: 13, 12, 11, 10, 8. */
+#define HB_RECORD_LENGTH(m) ((103 - 10 * (m) + 7) / 8)
+
+enum {
+    HB_RECORD_MAX = 13,    /* a buffer of so many bytes holds every record */
+    HB_LINE_MAX = 83,      /* a buffer of so many bytes holds every line of tally */
+    HB_LOG_MAX = 65536     /* tally reads so many bytes of a log */
+};
+
+/* The numbers of a hand. */
+typedef struct {
+    uint8_t how, winner, discarder, riichi, situation, indicator, winning, m;
+} HbFields;
+
+/* A hand: m melds, 13 - 3m concealed tiles without the winning tile; unused places are 0. */
+typedef struct {
+    HbFields fields;
+    uint8_t melds[4];
+    uint8_t concealed[13];
+} HbHand;
+
+/* What Read gives: a refusal and an all-zero hand, or 0 and the hand. */
+typedef struct {
+    uint8_t refusal;
+    HbHand hand;
+} HbReadHand;
+
+/* What Write gives: a refusal and 0, or 0 and the record's length. */
+typedef struct {
+    uint8_t refusal;
+    size_t len;
+} HbWritten;
+
+/* What Score gives: a refusal with all else zero, or 0 and the reported reading's figures. */
+typedef struct {
+    uint8_t refusal;
+    uint16_t h;          /* han of the yaku plus dora; 0 with a yakuman */
+    uint8_t fu;          /* 0 with a yakuman */
+    bool yaku[37];       /* yaku n at index n; index 0 is unused */
+    int32_t changes[4];  /* points of seats 0 to 3, summing to 0; sticks left out */
+} HbScored;
+
+/* The game, lent to each booking. */
+typedef struct {
+    int32_t scores[4];
+    uint32_t sticks;
+    bool declared[4];
+    uint8_t dealer, wind, hands;
+    bool over;
+} HbGame;
+
+/* What stands at an offset of a log: an entry, the end (end set, all else zero), or refusal 14 (all else zero). */
+typedef struct {
+    uint8_t refusal;
+    bool end;
+    uint8_t kind, argument;
+    size_t length;  /* of the entry, its header included */
+} HbNextEntry;
+
+/* Read. The hand of a sound record; refusals 1 to 5 in order. */
+HbReadHand hb_read(const uint8_t *record, size_t record_len);
+
+/* Write. The hand's record at the start of buf, and its length; refusals 2, 3, 4, 5, 13 in order. */
+HbWritten hb_write(HbHand hand, uint8_t *buf, size_t buf_len);
+
+/* Score. The reported reading of a record, for a dealer and round wind; refusals 8, 1 to 7 in order. */
+HbScored hb_score(const uint8_t *record, size_t record_len, uint8_t dealer, uint8_t wind);
+
+/* A game at its start: 30,000 each, all else 0 or unset. */
+HbGame hb_fresh(void);
+
+/* The bookings: each gives 0 and updates the game, or gives its refusal and leaves the game. */
+
+/* Riichi of a seat; refusals 8, 9, 10 in order. */
+uint8_t hb_riichi(HbGame *game, uint8_t seat);
+
+/* Win by a record; refusals 9, 1 to 7, 11 in order. */
+uint8_t hb_win(HbGame *game, const uint8_t *record, size_t record_len);
+
+/* Draw; bits: four, seat 0 the most significant, set for ready; refusals 8, 9, 12 in order. */
+uint8_t hb_draw(HbGame *game, uint8_t bits);
+
+/* Chombo of a seat; refusals 8, 9 in order. */
+uint8_t hb_chombo(HbGame *game, uint8_t seat);
+
+/* Next entry of a log from an offset. Its part is log[at] to log[at + length - 1], a win's record what follows the
+ * header byte log[at]; the next offset is at + length. From the log's end on: end. Refusal 14 ends the walk. */
+HbNextEntry hb_next(const uint8_t *log, size_t log_len, size_t at);
+
+/* A line of tally at the start of buf, its line feed included, no zero byte after it: entry (from 1), letter, refusal,
+ * the game's four scores and its sticks. Gives its length, or 0 with buf unchanged where it does not fit. */
+size_t hb_line(uint8_t *buf, size_t buf_len, uint32_t entry, uint8_t letter, uint8_t refusal, HbGame game);
+
+#ifdef __cplusplus
+}
+#endif
+
+#endif

@@ -1,0 +1,49 @@
+//! Compares the linked archive with the other scorer: `compare COUNT SEED [LOGS]`.
+//! COUNT hands, LOGS logs (a thousandth of COUNT, at least 64, where not given). Exit 1 if anything differs.
+
+mod bookings;
+mod ffi;
+mod hands;
+mod lines;
+mod logs;
+mod report;
+mod same;
+
+// The generators of random bookings and games that the other scorer's own tests use.
+#[path = "../../../scorer/tests/chance/mod.rs"]
+mod chance;
+#[path = "../../../scorer/tests/chance/games.rs"]
+mod games;
+
+use std::{env, process::ExitCode, time::Instant};
+
+use report::Report;
+use scorer::rng::Rng;
+
+/// Runs the comparison; whether nothing differs.
+fn run(count: usize, seed: u64, logs: usize) -> bool {
+    let mut report = Report::default();
+    let mut rng = Rng::new(seed);
+    let start = Instant::now();
+    hands::run(&mut report, &mut rng, count);
+    let after_hands = start.elapsed();
+    lines::run(&mut report, &mut rng, count / 10);
+    logs::run(&mut report, &mut rng, logs);
+    let (hands, all) = (after_hands.as_secs(), start.elapsed().as_secs());
+    println!("seed {seed}: {count} hands in {hands} s; with {logs} logs {all} s");
+    report.print()
+}
+
+/// Exit code 0: nothing differs; 1: something does; 2: wrong arguments.
+fn main() -> ExitCode {
+    let numbers: Result<Vec<usize>, _> = env::args().skip(1).map(|word| word.parse()).collect();
+    let (count, seed, logs) = match numbers.as_deref() {
+        Ok([count, seed]) => (*count, *seed, (*count / 1000).max(64)),
+        Ok([count, seed, logs]) => (*count, *seed, *logs),
+        _ => {
+            eprintln!("compare COUNT SEED [LOGS]");
+            return ExitCode::from(2);
+        }
+    };
+    if run(count, seed as u64, logs) { ExitCode::SUCCESS } else { ExitCode::from(1) }
+}

@@ -1,0 +1,550 @@
+/* Tests the linked archive through the header; the figures are document 01's. Exit 1 if a check fails. */
+#include "herbassolh.h"
+
+#include <stdio.h>
+#include <stdlib.h>
+#include <string.h>
+
+#define COUNT_OF(list) (sizeof(list) / sizeof(list)[0])
+
+static int made, failed;
+
+/* Counts a check and says where one fails. */
+static void check_at(int holds, const char *what, int number, int line)
+{
+    made++;
+    if (!holds) {
+        failed++;
+        printf("test.c:%d: %s (case %d)\n", line, what, number);
+    }
+}
+
+#define CHECK(holds) check_at((holds) ? 1 : 0, #holds, 0, __LINE__)
+#define CHECK_CASE(number, holds) check_at((holds) ? 1 : 0, #holds, (int)(number), __LINE__)
+
+/* Layout: also compared by the compiler, with an array of size -1 where it differs. */
+#define SIZE(type, size) \
+    do { typedef char same[sizeof(type) == (size) ? 1 : -1]; CHECK(sizeof(same) == 1 && sizeof(type) == (size)); } while (0)
+#define PLACE(type, field, at) \
+    do { typedef char same[offsetof(type, field) == (at) ? 1 : -1]; CHECK(sizeof(same) == 1 && offsetof(type, field) == (at)); } while (0)
+
+static void layout(void)
+{
+    SIZE(bool, 1);
+    SIZE(size_t, 8);
+    SIZE(HbFields, 8);
+    PLACE(HbFields, how, 0);
+    PLACE(HbFields, winner, 1);
+    PLACE(HbFields, discarder, 2);
+    PLACE(HbFields, riichi, 3);
+    PLACE(HbFields, situation, 4);
+    PLACE(HbFields, indicator, 5);
+    PLACE(HbFields, winning, 6);
+    PLACE(HbFields, m, 7);
+    SIZE(HbHand, 25);
+    PLACE(HbHand, fields, 0);
+    PLACE(HbHand, melds, 8);
+    PLACE(HbHand, concealed, 12);
+    SIZE(HbReadHand, 26);
+    PLACE(HbReadHand, refusal, 0);
+    PLACE(HbReadHand, hand, 1);
+    SIZE(HbWritten, 16);
+    PLACE(HbWritten, refusal, 0);
+    PLACE(HbWritten, len, 8);
+    SIZE(HbScored, 60);
+    PLACE(HbScored, refusal, 0);
+    PLACE(HbScored, h, 2);
+    PLACE(HbScored, fu, 4);
+    PLACE(HbScored, yaku, 5);
+    PLACE(HbScored, changes, 44);
+    SIZE(HbGame, 28);
+    PLACE(HbGame, scores, 0);
+    PLACE(HbGame, sticks, 16);
+    PLACE(HbGame, declared, 20);
+    PLACE(HbGame, dealer, 24);
+    PLACE(HbGame, wind, 25);
+    PLACE(HbGame, hands, 26);
+    PLACE(HbGame, over, 27);
+    SIZE(HbNextEntry, 16);
+    PLACE(HbNextEntry, refusal, 0);
+    PLACE(HbNextEntry, end, 1);
+    PLACE(HbNextEntry, kind, 2);
+    PLACE(HbNextEntry, argument, 3);
+    PLACE(HbNextEntry, length, 8);
+    CHECK(HB_RECORD_LENGTH(0) == 13 && HB_RECORD_LENGTH(1) == 12 && HB_RECORD_LENGTH(2) == 11);
+    CHECK(HB_RECORD_LENGTH(3) == 10 && HB_RECORD_LENGTH(4) == 8);
+}
+
+/* A line of document 01's table: its number, record and score. Points, and h and fu where the table gives them, are the
+ * table's; other h and fu, and the yaku, are by hand from document 01's rules. */
+struct line {
+    int number;
+    uint8_t length, record[13];
+    uint8_t refusal, h, fu, yaku[4];
+    int32_t changes[4];
+};
+
+static const struct line table[] = {
+    {1, 13, {0xb8, 0x1e, 0x64, 0x02, 0x10, 0x62, 0x0a, 0x31, 0x66, 0x1a, 0x9a, 0x6b, 0xb0},
+     0, 2, 30, {HB_YAKU_TANYAO, HB_YAKU_PINFU}, {0, 2000, 0, -2000}},
+    {2, 13, {0x20, 0x1e, 0x64, 0x02, 0x10, 0x62, 0x0a, 0x31, 0x66, 0x1a, 0x9a, 0x6b, 0xb0},
+     0, 3, 20, {HB_YAKU_MENZEN_TSUMO, HB_YAKU_TANYAO, HB_YAKU_PINFU}, {-1300, 2700, -700, -700}},
+    {3, 13, {0x98, 0x1e, 0x64, 0x02, 0x10, 0x62, 0x0a, 0x31, 0x66, 0x1a, 0x9a, 0x6b, 0xb0},
+     0, 2, 30, {HB_YAKU_TANYAO, HB_YAKU_PINFU}, {2900, 0, 0, -2900}},
+    {4, 13, {0x20, 0x1e, 0x68, 0x00, 0x00, 0x00, 0x82, 0x08, 0x41, 0x04, 0x8a, 0x2c, 0x32},
+     0, 6, 20, {HB_YAKU_MENZEN_TSUMO, HB_YAKU_PINFU, HB_YAKU_IIPEIKOU, HB_YAKU_JUNCHAN}, {-6000, 12000, -3000, -3000}},
+    {5, 13, {0xb8, 0x1e, 0x58, 0x00, 0x00, 0x20, 0x84, 0x11, 0xe7, 0xa0, 0x82, 0x28, 0xac},
+     0, 3, 40, {HB_YAKU_RYANPEIKOU}, {0, 5200, 0, -5200}},
+    {6, 12, {0xb8, 0x1e, 0x64, 0x80, 0x88, 0x28, 0xc5, 0x14, 0x61, 0xa7, 0x2e, 0xc0},
+     0, 1, 30, {HB_YAKU_TANYAO}, {0, 1000, 0, -1000}},
+    {7, 12, {0xb8, 0x1e, 0x68, 0x80, 0x18, 0x69, 0xc8, 0xa2, 0x9a, 0x8a, 0xb0, 0xc8},
+     HB_REFUSAL_NO_YAKU, 0, 0, {0}, {0}},
+    {8, 13, {0xb8, 0x1e, 0x60, 0x00, 0x00, 0x05, 0x96, 0x5a, 0xcb, 0x2c, 0xc3, 0x0d, 0x34},
+     0, 4, 50, {HB_YAKU_TOITOI, HB_YAKU_SANANKOU}, {0, 8000, 0, -8000}},
+    {9, 13, {0x20, 0x1e, 0x60, 0x00, 0x00, 0x05, 0x96, 0x5a, 0xcb, 0x2c, 0xc3, 0x0d, 0x34},
+     0, 0, 0, {HB_YAKU_SUUANKOU}, {-16000, 32000, -8000, -8000}},
+    {12, 13, {0xb8, 0x1e, 0x40, 0x00, 0x00, 0x00, 0x06, 0x18, 0xc3, 0x14, 0x51, 0xa6, 0xa0},
+     HB_REFUSAL_NO_READING, 0, 0, {0}, {0}},
+};
+
+/* Line 1 with riichi 1. */
+static const uint8_t with_riichi[] = {0xba, 0x1e, 0x64, 0x02, 0x10, 0x62, 0x0a, 0x31, 0x66, 0x1a, 0x9a, 0x6b, 0xb0};
+
+/* A line of the table with up to four bytes replaced ({0, 0}: none), cut to a length if not 0; Read, Score, Win refuse it. */
+static const struct {
+    uint8_t refusal;
+    int line;
+    size_t length;
+    struct { uint8_t at, value; } edits[4];
+} unsound[] = {
+    {HB_REFUSAL_LENGTH, 1, 3, {{0, 0}}},                                       /* under 4 bytes */
+    {HB_REFUSAL_LENGTH, 1, 13, {{2, 0x66}, {3, 0x82}}},                        /* m 5 */
+    {HB_REFUSAL_LENGTH, 1, 12, {{0, 0}}},                                      /* a length not m's */
+    {HB_REFUSAL_LENGTH, 1, 12, {{0, 0xbe}}},                                   /* 2 is met too, but 1 comes first */
+    {HB_REFUSAL_FIELD, 1, 0, {{1, 0x22}}},                                     /* indicator 34 */
+    {HB_REFUSAL_FIELD, 1, 0, {{2, 0x88}}},                                     /* winning tile 34 */
+    {HB_REFUSAL_FIELD, 1, 0, {{12, 0xc4}}},                                    /* concealed tile 34 */
+    {HB_REFUSAL_FIELD, 6, 0, {{3, 0xb1}, {4, 0x08}}},                          /* pon of 34 */
+    {HB_REFUSAL_FIELD, 1, 0, {{0, 0xbe}}},                                     /* riichi 3 */
+    {HB_REFUSAL_FIELD, 1, 0, {{0, 0xb9}, {1, 0x5e}}},                          /* situation 5 */
+    {HB_REFUSAL_FIELD, 6, 0, {{3, 0x83}}},                                     /* chi from man 8 */
+    {HB_REFUSAL_FIELD, 1, 0, {{12, 0xb1}}},                                    /* a padding bit set */
+    {HB_REFUSAL_FIELD, 2, 0, {{0, 0x38}}},                                     /* tsumo with discarder 3 */
+    {HB_REFUSAL_FIELD, 1, 0, {{0, 0xa8}}},                                     /* ron with discarder 1, winner 1 */
+    {HB_REFUSAL_DESCENDING, 1, 0, {{3, 0x42}}},                                /* first tile 33 */
+    {HB_REFUSAL_OVER_FOUR, 12, 0, {{1, 0x00}}},                                /* indicator man 1, with 1111m */
+    {HB_REFUSAL_SITUATION, 6, 0, {{0, 0xba}}},                                 /* riichi with a chi */
+    {HB_REFUSAL_SITUATION, 6, 0, {{0, 0xbc}, {3, 0xe4}, {4, 0x08}}},           /* double riichi with a closed kan */
+    {HB_REFUSAL_SITUATION, 6, 0, {{1, 0x5e}, {3, 0xe4}, {4, 0x08}}},           /* rinshan on ron */
+    {HB_REFUSAL_SITUATION, 6, 0, {{0, 0x22}, {1, 0x5e}, {3, 0xe4}, {4, 0x08}}},/* rinshan with riichi */
+    {HB_REFUSAL_SITUATION, 2, 0, {{1, 0x5e}}},                                 /* rinshan without a kan */
+    {HB_REFUSAL_SITUATION, 2, 0, {{1, 0x9e}}},                                 /* chankan on tsumo */
+    {HB_REFUSAL_SITUATION, 5, 0, {{1, 0x9e}}},                                 /* chankan with sou 5 held twice */
+    {HB_REFUSAL_SITUATION, 1, 0, {{0, 0xb9}}},                                 /* first turn with ron */
+    {HB_REFUSAL_SITUATION, 6, 0, {{0, 0x21}}},                                 /* first turn with a meld */
+    {HB_REFUSAL_SITUATION, 2, 0, {{0, 0x23}}},                                 /* first turn with riichi */
+};
+
+static const HbHand no_hand;
+
+/* A copy in memory of just that length, so that a memory checker sees a read or write past it. */
+static uint8_t *exact(const uint8_t *bytes, size_t length)
+{
+    uint8_t *copy = malloc(length ? length : 1);
+    if (!copy)
+        exit(2);
+    if (length)
+        memcpy(copy, bytes, length);
+    return copy;
+}
+
+/* The record of an unsound case and its length. */
+static uint8_t *unsound_record(size_t n, size_t *length)
+{
+    const struct line *line = table;
+    while (line->number != unsound[n].line)
+        line++;
+    *length = unsound[n].length ? unsound[n].length : line->length;
+    uint8_t *record = exact(line->record, *length);
+    for (size_t edit = 0; edit < 4; edit++)
+        if (unsound[n].edits[edit].at || unsound[n].edits[edit].value)
+            record[unsound[n].edits[edit].at] = unsound[n].edits[edit].value;
+    return record;
+}
+
+/* Whether a score is a refusal with all else zero. */
+static int is_refused(const HbScored *scored, uint8_t refusal)
+{
+    int zero = scored->h == 0 && scored->fu == 0;
+    for (size_t n = 0; n < 37; n++)
+        zero = zero && !scored->yaku[n];
+    for (size_t seat = 0; seat < 4; seat++)
+        zero = zero && scored->changes[seat] == 0;
+    return zero && scored->refusal == refusal;
+}
+
+/* Whether a score has the yaku of a line, and no other. */
+static int has_yaku(const HbScored *scored, const struct line *line)
+{
+    bool wanted[37] = {false};
+    for (size_t n = 0; n < 4; n++)
+        wanted[line->yaku[n]] = line->yaku[n] != 0;
+    return memcmp(wanted, scored->yaku, sizeof wanted) == 0;
+}
+
+/* Reads, writes back and scores the lines of the table. */
+static void table_of_hands(void)
+{
+    for (size_t n = 0; n < COUNT_OF(table); n++) {
+        const struct line *line = &table[n];
+        uint8_t *record = exact(line->record, line->length);
+        HbReadHand read = hb_read(record, line->length);
+        CHECK_CASE(line->number, read.refusal == 0);
+
+        uint8_t *written = exact(line->record, line->length);
+        memset(written, 0xaa, line->length);
+        HbWritten whole = hb_write(read.hand, written, line->length);
+        CHECK_CASE(line->number, whole.refusal == 0 && whole.len == line->length);
+        CHECK_CASE(line->number, memcmp(written, record, line->length) == 0);
+        HbReadHand again = hb_read(written, line->length);
+        CHECK_CASE(line->number, memcmp(&again, &read, sizeof read) == 0);
+
+        HbScored scored = hb_score(record, line->length, 0, HB_ROUND_EAST);
+        CHECK_CASE(line->number, scored.refusal == line->refusal);
+        CHECK_CASE(line->number, scored.h == line->h);
+        CHECK_CASE(line->number, scored.fu == line->fu);
+        CHECK_CASE(line->number, has_yaku(&scored, line));
+        CHECK_CASE(line->number, memcmp(scored.changes, line->changes, sizeof scored.changes) == 0);
+        free(written);
+        free(record);
+    }
+}
+
+/* The fields of line 1 and the meld of line 6, one by one. */
+static void fields(void)
+{
+    static const uint8_t tiles_1[13] = {1, 2, 3, 4, 5, 6, 11, 12, 13, 19, 19, 23, 24};
+    static const uint8_t tiles_6[13] = {4, 5, 6, 10, 10, 12, 13, 14, 23, 24};
+    HbHand one = hb_read(table[0].record, 13).hand;
+    CHECK(one.fields.how == HB_RON && one.fields.winner == 1 && one.fields.discarder == 3);
+    CHECK(one.fields.riichi == HB_RIICHI_NONE && one.fields.situation == HB_ORDINARY);
+    CHECK(one.fields.indicator == HB_NORTH && one.fields.winning == HB_SOU + 7 && one.fields.m == 0);
+    CHECK(memcmp(one.melds, no_hand.melds, 4) == 0 && memcmp(one.concealed, tiles_1, 13) == 0);
+    HbHand six = hb_read(table[5].record, 12).hand;
+    CHECK(six.fields.m == 1 && six.melds[0] == HB_MELD(HB_MELD_CHI, HB_MAN + 1));
+    CHECK(memcmp(six.melds + 1, no_hand.melds, 3) == 0 && memcmp(six.concealed, tiles_6, 13) == 0);
+}
+
+/* Refusals 1 to 8 of Read and Score. */
+static void refused_records(void)
+{
+    const uint8_t *sound = table[0].record;
+    for (size_t n = 0; n < COUNT_OF(unsound); n++) {
+        size_t length;
+        uint8_t *record = unsound_record(n, &length);
+        HbReadHand read = hb_read(record, length);
+        CHECK_CASE(n, read.refusal == unsound[n].refusal);
+        CHECK_CASE(n, memcmp(&read.hand, &no_hand, sizeof no_hand) == 0);
+        HbScored scored = hb_score(record, length, 0, HB_ROUND_EAST);
+        CHECK_CASE(n, is_refused(&scored, unsound[n].refusal));
+        scored = hb_score(record, length, 4, HB_ROUND_EAST);
+        CHECK_CASE(n, is_refused(&scored, HB_REFUSAL_ARGUMENT));
+        free(record);
+    }
+    for (int n = 0; n < 256; n++) {
+        CHECK_CASE(n, hb_score(sound, 13, (uint8_t)n, 0).refusal == (n > 3 ? HB_REFUSAL_ARGUMENT : 0));
+        CHECK_CASE(n, hb_score(sound, 13, 0, (uint8_t)n).refusal == (n > 1 ? HB_REFUSAL_ARGUMENT : 0));
+    }
+}
+
+/* Writes a hand to a buffer of a length; whether it gives this refusal and the buffer stays. */
+static int write_refused(HbHand hand, size_t length, uint8_t refusal)
+{
+    uint8_t before[16];
+    memset(before, 0x5a, sizeof before);
+    uint8_t *buffer = exact(before, length);
+    HbWritten written = hb_write(hand, buffer, length);
+    int stays = memcmp(buffer, before, length) == 0;
+    free(buffer);
+    return written.refusal == refusal && written.len == 0 && stays;
+}
+
+/* Refusals 2, 3, 4, 5 and 13 of Write, and bytes past a record. */
+static void writing(void)
+{
+    HbHand sound = hb_read(table[0].record, 13).hand, hand;
+    for (size_t length = 0; length < 13; length++)
+        CHECK_CASE(length, write_refused(sound, length, HB_REFUSAL_BUFFER));
+
+    hand = sound, hand.fields.m = 5;
+    CHECK(write_refused(hand, 16, HB_REFUSAL_FIELD));
+    hand = sound, hand.fields.how = 2;
+    CHECK(write_refused(hand, 16, HB_REFUSAL_FIELD));
+    hand = sound, hand.fields.winner = 4;
+    CHECK(write_refused(hand, 16, HB_REFUSAL_FIELD));
+    hand = sound, hand.fields.winning = 34;
+    CHECK(write_refused(hand, 16, HB_REFUSAL_FIELD));
+    hand = sound, hand.melds[3] = 1;
+    CHECK(write_refused(hand, 16, HB_REFUSAL_FIELD));
+    hand = hb_read(table[5].record, 12).hand, hand.concealed[12] = 1;
+    CHECK(write_refused(hand, 16, HB_REFUSAL_FIELD));
+    hand = sound, hand.concealed[0] = HB_CHUN;
+    CHECK(write_refused(hand, 16, HB_REFUSAL_DESCENDING));
+    hand = hb_read(table[9].record, 13).hand, hand.fields.indicator = HB_MAN;
+    CHECK(write_refused(hand, 16, HB_REFUSAL_OVER_FOUR));
+    hand = sound, hand.fields.situation = HB_FIRST_TURN;
+    CHECK(write_refused(hand, 16, HB_REFUSAL_SITUATION));
+    CHECK(write_refused(hand, 0, HB_REFUSAL_SITUATION));
+
+    uint8_t buffer[16], wanted[16];
+    memset(buffer, 0x5a, sizeof buffer);
+    memset(wanted, 0x5a, sizeof wanted);
+    memcpy(wanted, table[0].record, 13);
+    HbWritten written = hb_write(sound, buffer, sizeof buffer);
+    CHECK(written.refusal == 0 && written.len == 13 && memcmp(buffer, wanted, sizeof buffer) == 0);
+}
+
+/* Whether a game has these figures. */
+static int is_game(const HbGame *game, const int32_t *scores, uint32_t sticks, uint8_t dealer, uint8_t wind, uint8_t hands)
+{
+    return memcmp(game->scores, scores, sizeof game->scores) == 0 && game->sticks == sticks && game->dealer == dealer
+        && game->wind == wind && game->hands == hands;
+}
+
+/* Each booking made once on a copy of a game; whether all of them give this refusal and leave every byte. */
+static int all_refused(const HbGame *game, uint8_t refusal)
+{
+    HbGame copy = *game;
+    int same = hb_riichi(&copy, 0) == refusal;
+    same = same && hb_win(&copy, table[0].record, 13) == refusal;
+    same = same && hb_draw(&copy, 15) == refusal;
+    same = same && hb_chombo(&copy, 0) == refusal;
+    return same && memcmp(&copy, game, sizeof copy) == 0;
+}
+
+/* Accepted bookings: what each gives and takes; and refusals 10, 11, 12 among them. */
+static void bookings(void)
+{
+    static const int32_t start[] = {30000, 30000, 30000, 30000};
+    static const int32_t after_win[] = {30000, 32000, 30000, 28000};
+    static const int32_t after_riichi[] = {30000, 31000, 30000, 28000};
+    /* riichi, all simples, pinfu: h 3, fu 30, A 960, 5,800 to the dealer; and the stick */
+    static const int32_t after_riichi_win[] = {30000, 37800, 30000, 22200};
+    static const int32_t after_draw[] = {28500, 32500, 31500, 26500};
+    static const int32_t after_chombo[] = {33000, 35000, 21000, 31000};
+    HbGame game = hb_fresh(), declared;
+    CHECK(is_game(&game, start, 0, 0, HB_ROUND_EAST, 0) && !game.over);
+    CHECK(!game.declared[0] && !game.declared[1] && !game.declared[2] && !game.declared[3]);
+    CHECK(hb_win(&game, with_riichi, 13) == HB_REFUSAL_RIICHI);
+    CHECK(is_game(&game, start, 0, 0, HB_ROUND_EAST, 0));
+    CHECK(hb_win(&game, table[0].record, 13) == 0 && is_game(&game, after_win, 0, 1, HB_ROUND_EAST, 1));
+    CHECK(hb_riichi(&game, 1) == 0 && is_game(&game, after_riichi, 1, 1, HB_ROUND_EAST, 1));
+    CHECK(!game.declared[0] && game.declared[1] && !game.declared[2] && !game.declared[3]);
+
+    declared = game;
+    CHECK(hb_riichi(&game, 1) == HB_REFUSAL_DECLARED && memcmp(&game, &declared, sizeof game) == 0);
+    CHECK(hb_win(&game, table[0].record, 13) == HB_REFUSAL_RIICHI && memcmp(&game, &declared, sizeof game) == 0);
+    CHECK(hb_draw(&game, 11) == HB_REFUSAL_NOT_READY && memcmp(&game, &declared, sizeof game) == 0);
+    CHECK(hb_win(&game, with_riichi, 13) == 0 && is_game(&game, after_riichi_win, 0, 1, HB_ROUND_EAST, 2));
+    CHECK(!game.declared[1]);
+    game = declared;
+    CHECK(hb_draw(&game, 6) == 0 && is_game(&game, after_draw, 1, 1, HB_ROUND_EAST, 2) && !game.declared[1]);
+    game = declared;
+    CHECK(hb_chombo(&game, 2) == 0 && is_game(&game, after_chombo, 0, 1, HB_ROUND_EAST, 2) && !game.declared[1]);
+}
+
+/* Refusals of the bookings by argument, by record and by game; each leaves every byte of the game. */
+static void refused_bookings(void)
+{
+    HbGame fresh = hb_fresh(), game = fresh;
+    for (int n = 4; n < 256; n++) {
+        CHECK_CASE(n, hb_riichi(&game, (uint8_t)n) == HB_REFUSAL_ARGUMENT);
+        CHECK_CASE(n, hb_chombo(&game, (uint8_t)n) == HB_REFUSAL_ARGUMENT);
+        CHECK_CASE(n, n <= 15 || hb_draw(&game, (uint8_t)n) == HB_REFUSAL_ARGUMENT);
+        CHECK_CASE(n, memcmp(&game, &fresh, sizeof game) == 0);
+    }
+    for (size_t n = 0; n < COUNT_OF(unsound); n++) {
+        size_t length;
+        uint8_t *record = unsound_record(n, &length);
+        CHECK_CASE(n, hb_win(&game, record, length) == unsound[n].refusal);
+        CHECK_CASE(n, memcmp(&game, &fresh, sizeof game) == 0);
+        free(record);
+    }
+    CHECK(hb_win(&game, table[6].record, 12) == HB_REFUSAL_NO_YAKU && memcmp(&game, &fresh, sizeof game) == 0);
+    CHECK(hb_win(&game, table[9].record, 13) == HB_REFUSAL_NO_READING && memcmp(&game, &fresh, sizeof game) == 0);
+
+    game = fresh, game.over = true;
+    CHECK(all_refused(&game, HB_REFUSAL_NOT_OPEN));
+    CHECK(hb_riichi(&game, 4) == HB_REFUSAL_ARGUMENT && hb_win(&game, table[0].record, 3) == HB_REFUSAL_NOT_OPEN);
+    game = fresh, game.hands = 200;
+    CHECK(all_refused(&game, HB_REFUSAL_NOT_OPEN));
+    game = fresh, game.hands = 201;
+    CHECK(all_refused(&game, HB_REFUSAL_NOT_OPEN));
+    game = fresh, game.dealer = 4;
+    CHECK(all_refused(&game, HB_REFUSAL_NOT_OPEN));
+    game = fresh, game.wind = 2;
+    CHECK(all_refused(&game, HB_REFUSAL_NOT_OPEN));
+    game = fresh, game.declared[2] = true;
+    CHECK(all_refused(&game, HB_REFUSAL_NOT_OPEN));
+    game = fresh, game.scores[0] = 30001;
+    CHECK(all_refused(&game, HB_REFUSAL_NOT_OPEN));
+    game = fresh, game.sticks = UINT32_MAX;
+    CHECK(all_refused(&game, HB_REFUSAL_NOT_OPEN));
+    game = fresh, game.scores[0] = -9770001, game.scores[1] = 9770001 + 60000;
+    CHECK(all_refused(&game, HB_REFUSAL_NOT_OPEN));
+    game = fresh, game.scores[0] = -9770000, game.scores[1] = 9770000 + 60000;
+    CHECK(hb_riichi(&game, 3) == 0);
+}
+
+/* The end by the deal after eight draws with none ready, and at 200 hands of chombo. */
+static void ends(void)
+{
+    HbGame game = hb_fresh();
+    for (int hand = 0; hand < 8; hand++) {
+        CHECK_CASE(hand, game.dealer == hand % 4 && game.wind == hand / 4 && game.hands == hand && !game.over);
+        CHECK_CASE(hand, hb_draw(&game, 0) == 0);
+    }
+    CHECK(game.over && game.dealer == 3 && game.wind == HB_ROUND_SOUTH && game.hands == 8);
+    CHECK(all_refused(&game, HB_REFUSAL_NOT_OPEN));
+
+    game = hb_fresh();
+    for (int hand = 0; hand < 200; hand++)
+        CHECK_CASE(hand, !game.over && hb_chombo(&game, (uint8_t)(hand % 4)) == 0);
+    CHECK(game.over && game.dealer == 0 && game.wind == HB_ROUND_EAST && game.hands == 200);
+    CHECK(all_refused(&game, HB_REFUSAL_NOT_OPEN));
+}
+
+/* Whether an entry has these values. */
+static int is_entry(HbNextEntry entry, uint8_t refusal, bool end, uint8_t kind, uint8_t argument, size_t length)
+{
+    return entry.refusal == refusal && entry.end == end && entry.kind == kind && entry.argument == argument
+        && entry.length == length;
+}
+
+/* Entries of a log, the end, and each way to refusal 14. */
+static void entries(void)
+{
+    uint8_t log[15] = {0x10};
+    memcpy(log + 1, table[0].record, 13);
+    log[14] = 0x32;
+    CHECK(is_entry(hb_next(log, 15, 0), 0, false, HB_KIND_WIN, 0, 14));
+    CHECK(is_entry(hb_next(log, 15, 14), 0, false, HB_KIND_CHOMBO, 2, 1));
+    CHECK(is_entry(hb_next(log, 15, 15), 0, true, 0, 0, 0));
+    CHECK(is_entry(hb_next(log, 15, 16), 0, true, 0, 0, 0));
+    CHECK(is_entry(hb_next(log, 15, SIZE_MAX), 0, true, 0, 0, 0));
+    for (size_t length = 1; length < 14; length++) {
+        uint8_t *cut = exact(log, length);
+        CHECK_CASE(length, is_entry(hb_next(cut, length, 0), HB_REFUSAL_ENTRY, false, 0, 0, 0));
+        free(cut);
+    }
+    for (int kind = 4; kind < 16; kind++) {
+        log[0] = (uint8_t)(16 * kind);
+        CHECK_CASE(kind, is_entry(hb_next(log, 15, 0), HB_REFUSAL_ENTRY, false, 0, 0, 0));
+    }
+    for (int argument = 1; argument < 16; argument++) {
+        log[0] = (uint8_t)(0x10 + argument);
+        CHECK_CASE(argument, is_entry(hb_next(log, 15, 0), HB_REFUSAL_ENTRY, false, 0, 0, 0));
+    }
+    log[0] = 0x10;
+    log[3] = 0x66, log[4] = 0x82; /* m 5 */
+    CHECK(is_entry(hb_next(log, 15, 0), HB_REFUSAL_ENTRY, false, 0, 0, 0));
+}
+
+/* Books a log; its lines go to text, which holds every line; gives the text's length. */
+static size_t tally(const uint8_t *log, size_t length, uint8_t *text)
+{
+    HbGame game = hb_fresh();
+    size_t at = 0, used = 0;
+    for (uint32_t number = 1;; number++) {
+        HbNextEntry entry = hb_next(log, length, at);
+        if (entry.refusal || entry.end)
+            return used;
+        uint8_t refusal, letter;
+        switch (entry.kind) {
+        case HB_KIND_RIICHI: letter = HB_LETTER_RIICHI, refusal = hb_riichi(&game, entry.argument); break;
+        case HB_KIND_WIN: letter = HB_LETTER_WIN, refusal = hb_win(&game, log + at + 1, entry.length - 1); break;
+        case HB_KIND_DRAW: letter = HB_LETTER_DRAW, refusal = hb_draw(&game, entry.argument); break;
+        default: letter = HB_LETTER_CHOMBO, refusal = hb_chombo(&game, entry.argument); break;
+        }
+        used += hb_line(text + used, HB_LINE_MAX, number, letter, refusal, game);
+        at += entry.length;
+    }
+}
+
+/* Document 01's log 01 24, and one with a win, refused bookings and a bad entry at its end. */
+static void logs(void)
+{
+    static const uint8_t example[] = {0x01, 0x24};
+    static const char lines[] = "1 R 0 30000 29000 30000 30000 1\n2 D 0 29000 32000 29000 29000 1\n";
+    static const char more[] = "1 W 0 30000 32000 30000 28000 0\n2 R 8 30000 32000 30000 28000 0\n"
+                               "3 C 0 33000 23000 33000 31000 0\n";
+    uint8_t text[4 * HB_LINE_MAX], log[17] = {0x10};
+    CHECK(tally(example, 2, text) == sizeof lines - 1 && memcmp(text, lines, sizeof lines - 1) == 0);
+    memcpy(log + 1, table[0].record, 13);
+    log[14] = 0x04, log[15] = 0x31, log[16] = 0x40;
+    CHECK(tally(log, 17, text) == sizeof more - 1 && memcmp(text, more, sizeof more - 1) == 0);
+}
+
+/* A line in buffers of every length up to one past HB_LINE_MAX: written whole, or nothing. */
+static void line_in_buffers(HbGame game, uint32_t entry, uint8_t letter, uint8_t refusal, const char *line)
+{
+    uint8_t wanted[HB_LINE_MAX + 1], before[HB_LINE_MAX + 1];
+    size_t whole = strlen(line);
+    memset(before, 0x5a, sizeof before);
+    for (size_t length = 0; length <= sizeof before; length++) {
+        uint8_t *buffer = exact(before, length);
+        memcpy(wanted, before, sizeof wanted);
+        if (length >= whole)
+            memcpy(wanted, line, whole);
+        CHECK_CASE(length, hb_line(buffer, length, entry, letter, refusal, game) == (length < whole ? 0 : whole));
+        CHECK_CASE(length, memcmp(buffer, wanted, length) == 0);
+        free(buffer);
+    }
+}
+
+/* The shortest line of a game and the longest of any. */
+static void lines(void)
+{
+    HbGame game = hb_fresh();
+    line_in_buffers(game, 1, HB_LETTER_CHOMBO, 9, "1 C 9 30000 30000 30000 30000 0\n");
+    for (size_t seat = 0; seat < 4; seat++)
+        game.scores[seat] = INT32_MIN;
+    game.sticks = UINT32_MAX;
+    line_in_buffers(game, UINT32_MAX, HB_LETTER_WIN, 255,
+                    "4294967295 W 255 -2147483648 -2147483648 -2147483648 -2147483648 4294967295\n");
+}
+
+/* Slices of length 0 with a pointer that is not null. */
+static void empty_slices(void)
+{
+    uint8_t byte = 0x5a;
+    HbGame fresh = hb_fresh(), game = fresh;
+    HbReadHand read = hb_read(&byte, 0);
+    HbScored scored = hb_score(&byte, 0, 0, 0);
+    HbWritten written = hb_write(hb_read(table[0].record, 13).hand, &byte, 0);
+    CHECK(read.refusal == HB_REFUSAL_LENGTH && memcmp(&read.hand, &no_hand, sizeof no_hand) == 0);
+    CHECK(is_refused(&scored, HB_REFUSAL_LENGTH));
+    CHECK(written.refusal == HB_REFUSAL_BUFFER && written.len == 0);
+    CHECK(hb_win(&game, &byte, 0) == HB_REFUSAL_LENGTH && memcmp(&game, &fresh, sizeof game) == 0);
+    CHECK(is_entry(hb_next(&byte, 0, 0), 0, true, 0, 0, 0));
+    CHECK(hb_line(&byte, 0, 1, HB_LETTER_RIICHI, 0, game) == 0);
+    CHECK(byte == 0x5a);
+}
+
+int main(void)
+{
+    layout();
+    table_of_hands();
+    fields();
+    refused_records();
+    writing();
+    bookings();
+    refused_bookings();
+    ends();
+    entries();
+    logs();
+    lines();
+    empty_slices();
+    printf("%d checks, %d failed\n", made, failed);
+    return failed ? 1 : 0;
+}
