@@ -1,12 +1,14 @@
 -- The best reading (01, Readings: "Of the readings with a yaku, the first with the highest winner's gain, then highest h, then fu, is reported").
 use mathlib.Core.Bool.{Bool, true, false, _&&_, _||_, not, cond}
-use mathlib.Core.List.{List}
+use mathlib.Core.List.{List, [], _∷_}
+use mathlib.Core.Logic.{_⊎_}
 use mathlib.Core.Path.{_≡_}
 use Prim.Native.Nat.{ℕ, _<_}
 use lib.Dec.{ltb, eqb}
 use lib.ListN.{getD, replicate}
 use Rattle.tiles.specs.Below.{table}
 use Rattle.reading.specs.declared.Reading.{Reading}
+use Rattle.reading.specs.Order.{Lex, Before}
 use Rattle.reading.specs.Readings.{readings}
 use Rattle.reading.specs.Judged.{judged}
 use Rattle.groups.specs.Melds.{waysAt}
@@ -35,6 +37,16 @@ worth t r = valueOf (t .won) (partsOf t r) (t .dora) (t .seats)
 -- it has a yaku
 abbrev pub isValued : Table → Reading → Bool
 isValued t r = hasYaku (worth t r .yaku)
+
+-- ---- which of two is reported
+
+-- "the highest winner's gain, then highest h, then fu"
+abbrev pub figures : Value → List ℕ
+figures v = v .gain .0 ∷ v .han .0 ∷ v .fu .0 ∷ []
+
+-- "the first with the highest": r's figures are above q's, or they are equal and r is q or comes before it
+abbrev pub Over : Table → Reading → Reading → Type 0
+Over t r q = Lex (figures (worth t q)) (figures (worth t r)) ⊎ ((figures (worth t q) ≡ figures (worth t r)) × ((r ≡ q) ⊎ Before r q))
 
 -- ---- the best one
 

@@ -6,8 +6,7 @@ use mathlib.Core.Logic.{_⊎_, inl, inr, ⊎-elim, _↔_}
 use Rattle.fields.specs.declared.Hand.{Hand}
 use Rattle.fields.specs.Hand.{isRon}
 use Rattle.reading.specs.declared.Reading.{Reading}
-use Rattle.best.specs.Best.{worth, isValued}
-use Rattle.best.specs.laws.First.{Over}
+use Rattle.best.specs.Best.{worth, isValued, Over}
 use Rattle.score.specs.Score.{tableOf, seatsOf, IsReadingOf, acceptedAs, settledOf}
 use Rattle.score.specs.laws.Best.{gain-le, accepted-by, six-none, none-six, seven-worthless, worthless-seven}
 

@@ -16,12 +16,9 @@ use Rattle.yaku.specs.Yaku.{hasYaku}
 use Rattle.value.specs.declared.Value.{Value}
 use Rattle.best.specs.declared.Table.{Table}
 use Rattle.best.specs.declared.Best.{Best}
-use Rattle.best.specs.Best.{worth, isValued, beats, noneOf, judgeOf}
+use Rattle.best.specs.Best.{worth, isValued, figures, Over, beats, noneOf, judgeOf}
 
 -- ---- the order of values: gain, then h, then fu
-
-abbrev pub figures : Value → List ℕ
-figures v = v .gain .0 ∷ v .han .0 ∷ v .fu .0 ∷ []
 
 -- v beats w
 pub beats-lex : (v w : Value) → beats v w ≡ true → Lex (figures w) (figures v)
@@ -73,10 +70,6 @@ lex-trans (x ∷ a) (y ∷ b) (z ∷ c) h g =
     h
 
 -- ---- what is kept
-
--- r is reported rather than q: its figures are above, or they are equal and r is q or comes before it
-abbrev pub Over : Table → Reading → Reading → Type 0
-Over t r q = Lex (figures (worth t q)) (figures (worth t r)) ⊎ ((figures (worth t q) ≡ figures (worth t r)) × ((r ≡ q) ⊎ Before r q))
 
 -- the first of the readings S with a yaku that no other beats, or none
 pub record Kept (t : Table) (S : Reading → Type 0) (b : Best) : Type 0 where
