@@ -22,7 +22,7 @@ use Rattle.points.specs.Points.{changes}
 use Rattle.value.specs.declared.Value.{Value}
 use Rattle.best.specs.declared.Table.{Table}
 use Rattle.best.specs.declared.Best.{Best}
-use Rattle.best.specs.Best.{bestOf}
+use Rattle.best.specs.search.Best.{bestOf}
 use Rattle.score.specs.declared.Scored.{Scored}
 
 -- ---- the hand at the table

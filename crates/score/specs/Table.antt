@@ -25,7 +25,8 @@ use Rattle.points.specs.Points.{plain, limit, ordinary, basic, hundreds, share,
 use Rattle.value.specs.Han.{tableHan, yakuHan, hanOf}
 use Rattle.value.specs.Fu.{tripletFu, groupFu, earned, added, rounded, fuOf}
 use Rattle.value.specs.Value.{valueOf}
-use Rattle.best.specs.Best.{joined, partsOf, worth, beats, noneOf, judgeOf, bestOf}
+use Rattle.best.specs.Best.{joined, partsOf, worth}
+use Rattle.best.specs.search.Best.{beats, noneOf, judgeOf, bestOf}
 use Rattle.score.specs.declared.Scored.{Scored}
 use Rattle.score.specs.Score.{wonOf, meldCodes, meldWays, tableOf, settledBy, settledOf, scoredBy, scoreOf}
 

@@ -5,7 +5,7 @@ ghost use Prim.Native.Nat.{_-_, _<_, _≤_};
 ghost use lib.Dec.{ltb};
 ghost use lib.ListN.{getD};
 ghost use Rattle.groups.specs.Melds.{meldCode, meldWay};
-ghost use Rattle.best.specs.Best.{Ready};
+ghost use Rattle.best.specs.search.Best.{Ready};
 ghost use Rattle.score.specs.Score.{wonOf, meldCodes, meldWays, tableOf, refusedWith, acceptedAs, settledOf, scoreOf};
 use best::Table;
 use fields::Hand;

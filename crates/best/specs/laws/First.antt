@@ -16,7 +16,8 @@ use Rattle.yaku.specs.Yaku.{hasYaku}
 use Rattle.value.specs.declared.Value.{Value}
 use Rattle.best.specs.declared.Table.{Table}
 use Rattle.best.specs.declared.Best.{Best}
-use Rattle.best.specs.Best.{worth, isValued, figures, Over, beats, noneOf, judgeOf}
+use Rattle.best.specs.Best.{worth, isValued, figures, Over}
+use Rattle.best.specs.search.Best.{beats, noneOf, judgeOf}
 
 -- ---- the order of values: gain, then h, then fu
 
@@ -59,7 +60,7 @@ not-beats-lex v w e = go (ltb (w .gain .0) (v .gain .0)) (eqb (v .gain .0) (w .g
         ⊎-elim (λ l. inl (inr (eqb-true _ _ eb, inr (eqb-true _ _ ed, inl l))))
         (λ r. inr (equal _ _ _ _ _ _ (eqb-true _ _ eb) (eqb-true _ _ ed) r)) (same _ _ ef)
 
-lex-trans : (a b c : List ℕ) → Lex a b → Lex b c → Lex a c
+pub lex-trans : (a b c : List ℕ) → Lex a b → Lex b c → Lex a c
 lex-trans [] b c h g = absurd h
 lex-trans (x ∷ a) [] c h g = absurd h
 lex-trans (x ∷ a) (y ∷ b) [] h g = absurd g

@@ -15,7 +15,8 @@ use Rattle.reading.specs.Readings.{readings}
 use Rattle.reading.specs.Claims.{readings-sound, readings-complete, readings-ordered}
 use Rattle.value.specs.declared.Value.{Value}
 use Rattle.best.specs.declared.Best.{Best}
-use Rattle.best.specs.Best.{worth, isValued, figures, Over, bestOf}
+use Rattle.best.specs.Best.{worth, isValued, figures, Over}
+use Rattle.best.specs.search.Best.{bestOf}
 use Rattle.best.specs.laws.First.{Kept, kept-all, kept-same}
 use Rattle.score.specs.declared.Scored.{Scored}
 use Rattle.score.specs.Score.{tableOf, seatsOf, IsReadingOf, refusedWith, acceptedAs, settledBy, settledOf}

@@ -14,7 +14,7 @@ use Rattle.points.specs.declared.Seats.{Seats}
 use Rattle.points.specs.Points.{pays, gain, change as changeOf, changes}
 use Rattle.points.specs.Claims.{changes-sum-zero}
 use Rattle.points.specs.laws.Bounds.{pays-le, gain-le}
-use Rattle.best.specs.Best.{bestOf}
+use Rattle.best.specs.search.Best.{bestOf}
 use Rattle.score.specs.declared.Scored.{Scored}
 use Rattle.score.specs.Score.{tableOf, seatsOf, refusedWith, settledOf}
 use Rattle.score.specs.laws.Settled.{best-le}

@@ -23,7 +23,8 @@ use Rattle.value.specs.declared.Value.{Value}
 use Rattle.value.specs.Value.{valueOf}
 use Rattle.best.specs.declared.Table.{Table}
 use Rattle.best.specs.declared.Best.{Best}
-use Rattle.best.specs.Best.{partsOf, worth, isValued, beats, noneOf, judgeOf, bestOf}
+use Rattle.best.specs.Best.{partsOf, worth, isValued}
+use Rattle.best.specs.search.Best.{beats, noneOf, judgeOf, bestOf}
 use Rattle.score.specs.declared.Scored.{Scored}
 use Rattle.score.specs.Score.{tableOf, seatsOf, refusedWith, acceptedAs, settledBy, settledOf, scoredBy, scoreOf}
 
