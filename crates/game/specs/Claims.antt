@@ -9,7 +9,7 @@ use lib.Signed.{ltZ}
 use Rattle.hand.specs.Claims.{IsSound, sound}
 use Rattle.reading.specs.declared.Reading.{Reading}
 use Rattle.best.specs.Best.{isValued}
-use Rattle.score.specs.Score.{tableOf, IsReadingOf}
+use Rattle.score.specs.Named.{tableOf, IsReadingOf}
 use Rattle.score.specs.Claims.{IsReported, best}
 use Rattle.game.specs.declared.Game.{Game}
 use Rattle.game.specs.Booking.{Booking, riichi, win, draw, chombo}

@@ -12,7 +12,7 @@ use Rattle.tiles.specs.Below.{any, count, table}
 use Rattle.fields.specs.declared.Hand.{Hand}
 use Rattle.hand.specs.Record.{numberOf, readOf}
 use Rattle.score.specs.declared.Scored.{Scored}
-use Rattle.score.specs.Score.{settledOf}
+use Rattle.score.specs.search.Settled.{settledOf}
 use Rattle.game.specs.declared.Game.{Game}
 use Rattle.game.specs.declared.Answered.{Answered}
 use Rattle.game.specs.Booking.{riichi, win, draw, chombo}

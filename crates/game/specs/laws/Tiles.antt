@@ -12,7 +12,8 @@ use Rattle.hand.specs.Record.{numberOf, readOf}
 use Rattle.reading.specs.declared.Reading.{Reading}
 use Rattle.best.specs.Best.{isValued}
 use Rattle.score.specs.declared.Scored.{Scored}
-use Rattle.score.specs.Score.{tableOf, IsReadingOf, settledOf}
+use Rattle.score.specs.Named.{tableOf, IsReadingOf}
+use Rattle.score.specs.search.Settled.{settledOf}
 use Rattle.score.specs.laws.Best.{answers, over-readings, six-none, seven-worthless}
 use Rattle.game.specs.declared.Game.{Game}
 use Rattle.game.specs.Booking.{win}
