@@ -50,7 +50,7 @@ floor = negsuc 9769999
 
 -- ---- refusals
 
--- equal
+-- a and b are equal ("not 120,000" below)
 abbrev pub eqZ : ℤ → ℤ → Bool
 eqZ a b = leZ a b && leZ b a
 
