@@ -1,5 +1,5 @@
 -- The sums of four scores and the sticks, as the machine makes them: each number passes through its 64 bits, `B`, and no sum wraps. Assumes nothing.
-use mathlib.Core.Path.{_≡_, refl}
+use mathlib.Core.Path.{_≡_, sym}
 use mathlib.Core.List.{[], _∷_}
 use Prim.Native.Nat.{ℕ, zero, suc, _+_, _-_, _*_, _<_, _^_}
 use native.Mathlib.Omega.{arith}
@@ -12,7 +12,7 @@ use mir.Facts.{toZ-ofZ, toZ-pos}
 use Rattle.tiles.specs.Below.{table}
 use Rattle.score.specs.laws.Z.{Within, within-add, parts-mag}
 use Rattle.game.specs.Ledger.{eqZ}
-use Rattle.game.specs.laws.Form.{sumOf}
+use Rattle.game.specs.laws.Form.{same-leb, sumOf}
 use Rattle.game.specs.laws.Steps.{Small}
 
 abbrev pub B : ℤ → ℤ
@@ -28,7 +28,7 @@ pub fit32 : (z : ℤ) (h : ℕ) → Within z h → h < 2 ^ 31 → SFits w32 z
 fit32 z h w l = record { sfits = parts-mag z (2 ^ 31) (omega arith) (omega arith) }
 
 pub eqb-eqZ : (z : ℤ) (n : ℕ) → SFits w64 z → n < 2 ^ 63 → eqb (ofZ w64 z) n ≡ eqZ z (pos n)
-eqb-eqZ (pos m) n f l = refl
+eqb-eqZ (pos m) n f l = sym (same-leb m n)
 eqb-eqZ (negsuc m) n f l = ne-eqb (2 ^ 64 - suc m) n (λ e. omega (arith, f .sfits))
 
 module _ (a b c d : ℤ) (k : ℕ) (wa : Within a 2147483648) (wb : Within b 2147483648) (wc : Within c 2147483648) (wd : Within d 2147483648) (hk : k < 2 ^ 32) where

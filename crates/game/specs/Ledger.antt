@@ -1,16 +1,16 @@
 -- The ledger (01, The game and its paragraph "Ledger"): kept from the bookings' arguments alone, with the game's fields.
-use mathlib.Core.Bool.{Bool, true, false, _&&_, _||_, not, cond}
+use mathlib.Core.Bool.{Bool, false, _&&_, _||_, not, cond}
 use mathlib.Core.List.{List, [], _∷_}
 use Prim.Native.Nat.{ℕ, _+_, _-_, _*_, _/_, _%_, _^_}
-use lib.Dec.{ltb, leb, eqb}
-use lib.IntN.{ℤ, pos, negsuc, negℤ, _+ℤ_, _-ℤ_}
-use lib.Signed.{ltZ}
-use lib.ListN.{getD, set}
+use lib.Dec.{ltb, eqb}
+use lib.IntN.{ℤ, pos, negsuc, negℤ, _+ℤ_}
+use lib.Signed.{ltZ, leZ}
+use lib.ListN.{getD}
 use Rattle.tiles.specs.Below.{any, count, table}
 use Rattle.fields.specs.declared.Hand.{Hand}
-use Rattle.hand.specs.Record.{numberOf, handOf, readOf}
+use Rattle.hand.specs.Record.{handOf, readOf}
 use Rattle.score.specs.declared.Scored.{Scored}
-use Rattle.score.specs.Score.{settledOf}
+use Rattle.score.specs.Score.{scoreOf}
 use Rattle.game.specs.declared.Game.{Game}
 use Rattle.game.specs.Booking.{Booking, riichi, win, draw, chombo}
 
@@ -28,13 +28,15 @@ fresh = record {
   over = false;
 }
 
+-- the score of seat i ("Seats 0 to 3")
 abbrev pub scoreAt : Game → ℕ → ℤ
 scoreAt l i = getD (l .scores) i (pos 0)
 
+-- seat i is one of the "declared seats"
 abbrev pub isDeclared : Game → ℕ → Bool
 isDeclared l i = getD (l .declared) i false
 
--- how many seats have declared this hand
+-- how many "declared seats" there are
 abbrev pub declarations : Game → ℕ
 declarations l = count 4 (isDeclared l)
 
@@ -48,11 +50,9 @@ floor = negsuc 9769999
 
 -- ---- refusals
 
+-- a and b are equal ("not 120,000" below)
 abbrev pub eqZ : ℤ → ℤ → Bool
-eqZ (pos a) (pos b) = eqb a b
-eqZ (pos a) (negsuc b) = false
-eqZ (negsuc a) (pos b) = false
-eqZ (negsuc a) (negsuc b) = eqb a b
+eqZ a b = leZ a b && leZ b a
 
 -- "over (marked so, or 200 hands finished)"
 abbrev pub isOver : Game → Bool
@@ -72,12 +72,13 @@ outOfForm l =
 unfoldable pub notOpen : Game → Bool
 notOpen l = isOver l || outOfForm l
 
--- the hand of a record, and what it scores by the ledger's dealer and wind
+-- the hand that Read gives of a win's record
 abbrev pub handFor : List ℕ → Hand
 handFor s = handOf (readOf s)
 
+-- what Score gives of it, "with the game's dealer and wind"
 abbrev pub scoredFor : Game → List ℕ → Scored
-scoredFor l s = settledOf (handFor s) (l .dealer) (l .wind)
+scoredFor l s = scoreOf s (l .dealer) (l .wind)
 
 -- 11: "riichi field non-zero and winner not declared, or the reverse"
 abbrev pub riichiMismatch : Game → Hand → Bool
@@ -92,15 +93,14 @@ unfoldable pub refusalFor : Game → Booking → ℕ
 refusalFor l (riichi seat) = cond (ltb 3 seat) 8 (cond (notOpen l) 9 (cond (isDeclared l seat) 10 0))
 refusalFor l (win s) =
     cond (notOpen l) 9
-    (cond (ltb 0 (numberOf (readOf s .answer))) (numberOf (readOf s .answer))
     (cond (ltb 0 (scoredFor l s .refusal)) (scoredFor l s .refusal)
-    (cond (riichiMismatch l (handFor s)) 11 0)))
+    (cond (riichiMismatch l (handFor s)) 11 0))
 refusalFor l (draw bits) = cond (ltb 15 bits) 8 (cond (notOpen l) 9 (cond (any 4 (λ i. isDeclared l i && not (isReady bits i))) 12 0))
 refusalFor l (chombo seat) = cond (ltb 3 seat) 8 (cond (notOpen l) 9 0)
 
 -- ---- what an accepted booking gives a seat, or takes from it
 
--- how many seats are ready
+-- "r ready": how many seats
 abbrev pub readySeats : ℕ → ℕ
 readySeats bits = count 4 (isReady bits)
 
@@ -134,6 +134,7 @@ declaredAfter l (win s) = table 4 0 (λ i. false)
 declaredAfter l (draw bits) = table 4 0 (λ i. false)
 declaredAfter l (chombo seat) = table 4 0 (λ i. false)
 
+-- "Win, draw and chombo each finish a hand"
 unfoldable pub handsAfter : Game → Booking → ℕ
 handsAfter l (riichi seat) = l .hands
 handsAfter l (win s) = l .hands + 1
@@ -151,6 +152,7 @@ dealPasses l (chombo seat) = false
 abbrev pub isLast : Game → Bool
 isLast l = eqb (l .wind) 1 && eqb (l .dealer) 3
 
+-- "The deal passes": to the next in "turn order"
 unfoldable pub dealerAfter : Game → Booking → ℕ
 dealerAfter l b = cond (dealPasses l b && not (isLast l)) ((l .dealer + 1) % 4) (l .dealer)
 
@@ -164,6 +166,7 @@ overAfter l b = (dealPasses l b && isLast l) || eqb (handsAfter l b) 200
 
 -- ---- the ledger after an accepted booking, after any booking, and after a list
 
+-- the fields after a booking that no refusal meets
 unfoldable pub moved : Game → Booking → Game
 moved l b = record {
   scores = table 4 0 (λ i. scoreAt l i +ℤ gives l b i);
@@ -179,6 +182,7 @@ moved l b = record {
 unfoldable pub after : Game → Booking → Game
 after l b = cond (ltb 0 (refusalFor l b)) l (moved l b)
 
+-- after each of a list, from l on
 unfoldable pub ledgerFrom : Game → List Booking → Game
 ledgerFrom l [] = l
 ledgerFrom l (b ∷ bs) = ledgerFrom (after l b) bs

@@ -7,3 +7,5 @@ pub mod Balance
 pub mod Kept
 pub mod Lists
 pub mod Tiles
+pub mod Demand3
+pub mod Examples

@@ -1,43 +1,65 @@
 -- The theorems of Score (01, Readings and Score), over every reading of a hand and not over the list that a search visits.
 use Prim.Native.Nat.{ℕ, _≤_}
 use mathlib.Core.Path.{_≡_}
-use mathlib.Core.Bool.{true, false}
-use mathlib.Core.Logic.{_⊎_, inl, inr, ⊎-elim, _↔_}
+use mathlib.Core.List.{List}
+use mathlib.Core.Logic.{_↔_}
+use lib.IntN.{pos}
 use Rattle.fields.specs.declared.Hand.{Hand}
-use Rattle.fields.specs.Hand.{isRon}
+use Rattle.hand.specs.Record.{handOf, readOf}
+use Rattle.hand.specs.Claims.{IsSound}
 use Rattle.reading.specs.declared.Reading.{Reading}
-use Rattle.best.specs.Best.{worth, isValued}
-use Rattle.best.specs.laws.First.{Over}
-use Rattle.score.specs.Score.{tableOf, seatsOf, IsReadingOf, acceptedAs, settledOf}
-use Rattle.score.specs.laws.Best.{gain-le, accepted-by, six-none, none-six, seven-worthless, worthless-seven}
+use Rattle.points.specs.Points.{sumOfFour}
+use Rattle.score.specs.declared.Scored.{Scored}
+use Rattle.score.specs.Named.{IsReadingOf, ReadsWithYaku, IsReported, gainIn, scoredAs, Named}
+use Rattle.score.specs.search.Settled.{settledOf}
+use Rattle.score.specs.Score.{scoreOf}
+use Rattle.score.specs.Table.{Lines}
+use Rattle.score.specs.laws.Named as laws
+use Rattle.score.specs.laws.Changes as changes
+use Rattle.score.specs.laws.Table as table
+
+-- ---- of a sound hand
 
 module _ (h : Hand) (dealer wind : ℕ) where
-  -- r is the reported reading: "Of the readings with a yaku, the first with the highest winner's gain, then highest h, then fu, is reported"
-  pub record IsReported (r : Reading) : Type 0 where
-    pub reading : IsReadingOf h r
-    pub yaku : isValued (tableOf h dealer wind) r ≡ true
-    pub scored : settledOf h dealer wind ≡ acceptedAs (worth (tableOf h dealer wind) r) (seatsOf h dealer) (isRon (h .fields))
-    pub most : (q : Reading) → IsReadingOf h q → isValued (tableOf h dealer wind) q ≡ true → worth (tableOf h dealer wind) q .gain .0 ≤ worth (tableOf h dealer wind) r .gain .0
-    pub first : (q : Reading) → IsReadingOf h q → isValued (tableOf h dealer wind) q ≡ true → Over (tableOf h dealer wind) r q
+  -- what is found is what document 01 names
+  pub named : Named h dealer wind (settledOf h dealer wind)
+  named = laws.named h dealer wind
+
+  -- it names one answer
+  pub only-one : {x y : Scored} → Named h dealer wind x → Named h dealer wind y → x ≡ y
+  only-one = laws.only-one h dealer wind
+
+  -- accepted exactly when a reading has a yaku
+  pub accepted : (settledOf h dealer wind .refusal ≡ 0) ↔ ((r : Reading) × ReadsWithYaku h dealer wind r)
+  accepted = laws.accepted h dealer wind named
 
   -- an accepted hand scores as its reported reading
-  pub best : settledOf h dealer wind .refusal ≡ 0 → (r : Reading) × IsReported r
-  best e =
-      let y = accepted-by h dealer wind e in (
-        y .0,
-        record {
-          reading = y .1;
-          yaku = y .2;
-          scored = y .3;
-          most = λ q i v. gain-le (worth (tableOf h dealer wind) q) (worth (tableOf h dealer wind) (y .0)) (⊎-elim (λ l. inl l) (λ k. inr (k .0)) (y .4 q i v));
-          first = y .4;
-        },
-      )
+  pub best : settledOf h dealer wind .refusal ≡ 0 → (r : Reading) × IsReported h dealer wind r × (settledOf h dealer wind ≡ scoredAs h dealer wind r)
+  best = laws.best h dealer wind named
+
+  -- no reading with a yaku gives the winner more than the reported one
+  pub most : (r q : Reading) → IsReported h dealer wind r → ReadsWithYaku h dealer wind q → gainIn h dealer wind q ≤ gainIn h dealer wind r
+  most = laws.most h dealer wind
 
   -- "6, no reading"
   pub refused-6 : (settledOf h dealer wind .refusal ≡ 6) ↔ ((q : Reading) → IsReadingOf h q → ⊥)
-  refused-6 = (six-none h dealer wind, none-six h dealer wind)
+  refused-6 = laws.refused-6 h dealer wind named
 
   -- "7, readings but none with a yaku"
-  pub refused-7 : (settledOf h dealer wind .refusal ≡ 7) ↔ (((r : Reading) × IsReadingOf h r) × ((q : Reading) → IsReadingOf h q → isValued (tableOf h dealer wind) q ≡ false))
-  refused-7 = (seven-worthless h dealer wind, λ y. worthless-seven h dealer wind (y .0 .0) (y .0 .1) (y .1))
+  pub refused-7 : (settledOf h dealer wind .refusal ≡ 7) ↔ (((q : Reading) × IsReadingOf h q) × ((r : Reading) → ReadsWithYaku h dealer wind r → ⊥))
+  refused-7 = laws.refused-7 h dealer wind named
+
+-- ---- of a record
+
+module _ (s : List ℕ) (dealer wind : ℕ) where
+  -- Score answers what document 01 names for the hand of a sound record
+  pub scored : dealer ≤ 3 → wind ≤ 1 → IsSound s → Named (handOf (readOf s)) dealer wind (scoreOf s dealer wind)
+  scored = laws.scored s dealer wind
+
+  -- "four changes summing to 0"
+  pub zero-sum : sumOfFour (scoreOf s dealer wind .changes) ≡ pos 0
+  zero-sum = changes.zero-sum s dealer wind
+
+-- "lines 1 to 12 are theorems gathered in one table under one theorem"
+pub lines : Lines
+lines = table.lines

@@ -1,45 +1,23 @@
 -- The table of hands to prove (01): dealer 0, East, indicator North, no riichi, ordinary, each ron from seat 3.
 -- The records are those of `hand`'s own table.
 use mathlib.Core.List.{List, [], _∷_}
-use mathlib.Core.Path.{_≡_, refl}
+use mathlib.Core.Path.{_≡_}
 use mathlib.Core.Bool.{true, false}
 use Prim.Native.Nat.{ℕ}
 use lib.IntN.{ℤ, pos, negsuc}
-use Rattle.points.specs.declared.Seats.{Seats}
-use Rattle.tiles.specs.Below.{every, some, number, total}
-use Rattle.tiles.specs.Kinds.{doraOf}
-use Rattle.tiles.specs.Groups.{isGroup, at, uses}
-use Rattle.tiles.specs.Tally.{tallyOf}
-use Rattle.fields.specs.Hand.{meldHolds, inMelds, inConcealed, inHand, concealedTally, handTally}
-use Rattle.fields.specs.Refusals.{tileOver33, wrongFields, descends, inRecord, overFour, wrongSituation, refusalOf}
-use Rattle.hand.specs.Record.{headOf, meldsOf, tilesOf, paddingOf, handIn, answerBy, judged as judgedHand, readOf}
+use Rattle.points.specs.Points.{basic, gain}
 use Rattle.hand.specs.Table.{line1, line2, line3, line4, line5, line6, line7, line8, line9, line12}
-use Rattle.reading.specs.Reading.{holds, isSevenPairs, isOrphans}
-use Rattle.reading.specs.Readings.{concatMap, isEmpty, less, fits, without, passes, step, splits, placedAt, placed, paired, formed, readings}
-use Rattle.reading.specs.Judged.{judged}
-use Rattle.groups.specs.Melds.{waysAt}
-use Rattle.groups.specs.Tests.{littleDragons, valueHan, earnsWait, pinfu, twins, inThreeAt, inThreeSuits, straight, touches, outside, concealed, kans, fourWinds}
-use Rattle.yaku.specs.OfTiles.{only, halfFlush, flush, gates, tileTestsOf}
-use Rattle.yaku.specs.Yaku.{testsOf, isYakuman, listed, yakuOf, hasYaku}
-use Rattle.points.specs.Points.{plain, limit, ordinary, basic, hundreds, share, pays, gain, change, changes}
-use Rattle.value.specs.Han.{tableHan, yakuHan, hanOf}
-use Rattle.value.specs.Fu.{tripletFu, groupFu, earned, added, rounded, fuOf}
-use Rattle.value.specs.Value.{valueOf}
-use Rattle.best.specs.Best.{joined, partsOf, worth, beats, noneOf, judgeOf, bestOf}
-use Rattle.score.specs.declared.Scored.{Scored}
-use Rattle.score.specs.Score.{wonOf, meldCodes, meldWays, tableOf, settledBy, settledOf, scoredBy, scoreOf}
+use Rattle.score.specs.Score.{scoreOf}
 
 -- what a record scores by dealer 0 in the East round: refusal, h, fu and the four changes
-pub record Scores (s : List ℕ) (refusal h fu : ℕ) (changes : List ℤ) : Type 0 where
-  pub is-refusal : scoreOf s 0 0 .refusal ≡ refusal
-  pub is-h : scoreOf s 0 0 .h ≡ h
-  pub is-fu : scoreOf s 0 0 .fu ≡ fu
-  pub is-changes : scoreOf s 0 0 .changes ≡ changes
+abbrev pub Scores : List ℕ → ℕ → ℕ → ℕ → List ℤ → Type 0
+Scores s refusal h fu changes = _≡_ {A = ℕ × ℕ × ℕ × List ℤ} (scoreOf s 0 0 .refusal, scoreOf s 0 0 .h, scoreOf s 0 0 .fu, scoreOf s 0 0 .changes) (refusal, h, fu, changes)
 
--- what seat 1 gains by ron from seat 3 with h and fu
+-- what seat 1, a "child", gains by ron from seat 3 with h and fu
 abbrev childRon : ℕ → ℕ → ℕ
 childRon h fu = gain (record { winner = 1; dealer = 0; discarder = 3 }) true (basic false h fu)
 
+-- the twelve lines
 pub record Lines : Type 0 where
   -- 1: "Seat 1 ron: 2,000."
   pub line-1 : Scores (line1 .bytes) 0 2 30 (pos 0 ∷ pos 2000 ∷ pos 0 ∷ negsuc 1999 ∷ [])
@@ -65,20 +43,3 @@ pub record Lines : Type 0 where
   pub line-11 : (fu : ℕ) → (childRon 5 fu ≡ 8000) × (childRon 6 fu ≡ 12000) × (childRon 8 fu ≡ 16000) × (childRon 11 fu ≡ 24000)
   -- 12: "6."
   pub line-12 : Scores (line12 .bytes) 6 0 0 (pos 0 ∷ pos 0 ∷ pos 0 ∷ pos 0 ∷ [])
-
-pub lines : Lines
-unfolding every some number total doraOf isGroup at uses tallyOf meldHolds inMelds inConcealed inHand concealedTally handTally tileOver33 wrongFields descends inRecord overFour wrongSituation refusalOf headOf meldsOf tilesOf paddingOf handIn answerBy judgedHand readOf holds isSevenPairs isOrphans concatMap isEmpty less fits without passes step splits placedAt placed paired formed readings judged waysAt littleDragons valueHan earnsWait pinfu twins inThreeAt inThreeSuits straight touches outside concealed kans fourWinds only halfFlush flush gates tileTestsOf testsOf isYakuman listed yakuOf hasYaku plain limit ordinary basic hundreds share pays gain change changes tableHan yakuHan hanOf tripletFu groupFu earned added rounded fuOf valueOf joined partsOf worth beats noneOf judgeOf bestOf wonOf meldCodes meldWays tableOf settledBy settledOf scoredBy scoreOf
-lines = record {
-  line-1 = record { is-refusal = refl; is-h = refl; is-fu = refl; is-changes = refl };
-  line-2 = record { is-refusal = refl; is-h = refl; is-fu = refl; is-changes = refl };
-  line-3 = record { is-refusal = refl; is-h = refl; is-fu = refl; is-changes = refl };
-  line-4 = record { is-refusal = refl; is-h = refl; is-fu = refl; is-changes = refl };
-  line-5 = record { is-refusal = refl; is-h = refl; is-fu = refl; is-changes = refl };
-  line-6 = record { is-refusal = refl; is-h = refl; is-fu = refl; is-changes = refl };
-  line-7 = record { is-refusal = refl; is-h = refl; is-fu = refl; is-changes = refl };
-  line-8 = record { is-refusal = refl; is-h = refl; is-fu = refl; is-changes = refl };
-  line-9 = record { is-refusal = refl; is-h = refl; is-fu = refl; is-changes = refl };
-  line-10 = (refl, refl);
-  line-11 = λ fu. (refl, refl, refl, refl);
-  line-12 = record { is-refusal = refl; is-h = refl; is-fu = refl; is-changes = refl };
-}

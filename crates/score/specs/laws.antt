@@ -1,4 +1,6 @@
 pub mod Settled
 pub mod Best
+pub mod Named
 pub mod Z
 pub mod Changes
+pub mod Table

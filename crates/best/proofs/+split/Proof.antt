@@ -5,7 +5,7 @@ use mathlib.Core.Logic.{⊎-elim}
 use Prim.Native.Nat.{ℕ, _-_, _<_}
 use native.Mathlib.Omega.{arith}
 use Rattle.reading.specs.laws.Fold.{searched, foundAt, searched-leaf, searched-over, searched-end, searched-next, searched-stop, found-with, found-none}
-use Rattle.best.specs.Best.{judgeOf}
+use Rattle.best.specs.search.Best.{judgeOf}
 use borrow.Fn.Kinds.{In}
 use borrow.Fn.PlainCycle.{Measures, is, falls, and}
 use Rattle.best.proofs.split.Reads as split

@@ -1,6 +1,6 @@
 -- `best::beats` meets its contract. Assumes nothing.
 use mathlib.Core.Path.{refl}
-use Rattle.best.specs.Best.{beats}
+use Rattle.best.specs.search.Best.{beats}
 use Rattle.best.proofs.beats.Statement.{statement}
 use Rattle.best.proofs.beats.Tie as tie
 

@@ -10,7 +10,7 @@ use Rattle.reading.specs.Reading.{isSevenPairs, ofForm}
 use Rattle.reading.specs.Judged.{judged}
 use Rattle.reading.specs.Readings.{when}
 use Rattle.reading.specs.laws.Fold.{judged-with, judged-none, formed-with, formed-none}
-use Rattle.best.specs.Best.{judgeOf}
+use Rattle.best.specs.search.Best.{judgeOf}
 use Rattle.best.proofs.forms.Statement.{statement}
 use Rattle.best.proofs.forms.Tie as tie
 

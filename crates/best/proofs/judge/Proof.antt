@@ -7,7 +7,8 @@ use Rattle.yaku.specs.Yaku.{hasYaku}
 use Rattle.value.specs.declared.Value.{Value}
 use Rattle.best.specs.declared.Table.{Table}
 use Rattle.best.specs.declared.Best.{Best}
-use Rattle.best.specs.Best.{worth, beats, judgeOf}
+use Rattle.best.specs.Best.{worth}
+use Rattle.best.specs.search.Best.{beats, judgeOf}
 use Rattle.best.proofs.judge.Statement.{statement}
 use Rattle.best.proofs.judge.Tie as tie
 

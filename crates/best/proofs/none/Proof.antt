@@ -1,6 +1,6 @@
 -- `best::none` meets its contract. Assumes nothing.
 use mathlib.Core.Path.{refl}
-use Rattle.best.specs.Best.{noneOf}
+use Rattle.best.specs.search.Best.{noneOf}
 use Rattle.best.proofs.none.Statement.{statement}
 use Rattle.best.proofs.none.Tie as tie
 

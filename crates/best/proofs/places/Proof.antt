@@ -7,7 +7,7 @@ use borrow.Author.Needs.{needs}
 use Rattle.reading.specs.Judged.{judged}
 use Rattle.reading.specs.Readings.{placedAt, placed}
 use Rattle.reading.specs.laws.Fold.{ranged, ranged-turn, ranged-done, placed-all, judged-with, judged-none}
-use Rattle.best.specs.Best.{judgeOf}
+use Rattle.best.specs.search.Best.{judgeOf}
 use Rattle.best.proofs.places.Statement.{statement}
 use Rattle.best.proofs.places.Tie as tie
 

@@ -16,12 +16,10 @@ use Rattle.yaku.specs.Yaku.{hasYaku}
 use Rattle.value.specs.declared.Value.{Value}
 use Rattle.best.specs.declared.Table.{Table}
 use Rattle.best.specs.declared.Best.{Best}
-use Rattle.best.specs.Best.{worth, isValued, beats, noneOf, judgeOf}
+use Rattle.best.specs.Best.{worth, isValued, figures, Over}
+use Rattle.best.specs.search.Best.{beats, noneOf, judgeOf}
 
 -- ---- the order of values: gain, then h, then fu
-
-abbrev pub figures : Value → List ℕ
-figures v = v .gain .0 ∷ v .han .0 ∷ v .fu .0 ∷ []
 
 -- v beats w
 pub beats-lex : (v w : Value) → beats v w ≡ true → Lex (figures w) (figures v)
@@ -62,7 +60,7 @@ not-beats-lex v w e = go (ltb (w .gain .0) (v .gain .0)) (eqb (v .gain .0) (w .g
         ⊎-elim (λ l. inl (inr (eqb-true _ _ eb, inr (eqb-true _ _ ed, inl l))))
         (λ r. inr (equal _ _ _ _ _ _ (eqb-true _ _ eb) (eqb-true _ _ ed) r)) (same _ _ ef)
 
-lex-trans : (a b c : List ℕ) → Lex a b → Lex b c → Lex a c
+pub lex-trans : (a b c : List ℕ) → Lex a b → Lex b c → Lex a c
 lex-trans [] b c h g = absurd h
 lex-trans (x ∷ a) [] c h g = absurd h
 lex-trans (x ∷ a) (y ∷ b) [] h g = absurd g
@@ -73,10 +71,6 @@ lex-trans (x ∷ a) (y ∷ b) (z ∷ c) h g =
     h
 
 -- ---- what is kept
-
--- r is reported rather than q: its figures are above, or they are equal and r is q or comes before it
-abbrev pub Over : Table → Reading → Reading → Type 0
-Over t r q = Lex (figures (worth t q)) (figures (worth t r)) ⊎ ((figures (worth t q) ≡ figures (worth t r)) × ((r ≡ q) ⊎ Before r q))
 
 -- the first of the readings S with a yaku that no other beats, or none
 pub record Kept (t : Table) (S : Reading → Type 0) (b : Best) : Type 0 where

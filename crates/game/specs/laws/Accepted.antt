@@ -1,16 +1,19 @@
 -- What a booking that no refusal meets has. Assumes nothing.
-use mathlib.Core.Path.{_≡_, refl}
+use mathlib.Core.Path.{_≡_, refl, sym, ap, _∙_}
 use mathlib.Core.Bool.{Bool, true, false, not, _&&_, cond}
 use mathlib.Core.List.{List}
-use Prim.Native.Nat.{ℕ, suc, _≤_}
+use Prim.Native.Nat.{ℕ, zero, suc, _≤_}
 use native.Mathlib.Omega.{arith}
 use borrow.Author.Tests.{ltb-false, ltb-true}
 use lib.Dec.{ltb}
 use Rattle.tiles.specs.Below.{any}
 use Rattle.hand.specs.Record.{numberOf, readOf}
+use Rattle.score.specs.declared.Scored.{Scored}
+use Rattle.score.specs.laws.Settled.{score-unread}
 use Rattle.game.specs.declared.Game.{Game}
 use Rattle.game.specs.Booking.{riichi, win, draw, chombo}
 use Rattle.game.specs.Ledger.{isDeclared, isReady, notOpen, handFor, scoredFor, riichiMismatch, refusalFor}
+use Rattle.game.specs.laws.Form.{open-of}
 
 cond-zero : (b : Bool) (n m : ℕ) → cond b (suc n) m ≡ 0 → (b ≡ false) × (m ≡ 0)
 cond-zero true n m e = absurd (omega arith)
@@ -43,12 +46,19 @@ module _ (g : Game) where
       let x : Bool = any 4 (λ i. isDeclared g i && not (isReady bits i)) in
       cond-zero (notOpen g) 8 (cond x 12 0) (cond-zero (ltb 15 bits) 7 (cond (notOpen g) 9 (cond x 12 0)) e .1) .0
 
-  pub win-accepted : (s : List ℕ) → refusalFor g (win s) ≡ 0 → (notOpen g ≡ false) × (numberOf (readOf s .answer) ≡ 0) × (scoredFor g s .refusal ≡ 0)
+  -- in an open game a record that scores has read
+  read-of : (s : List ℕ) → notOpen g ≡ false → scoredFor g s .refusal ≡ 0 → (n : ℕ) → numberOf (readOf s .answer) ≡ n → n ≡ 0
+  read-of s o e zero q = refl
+  read-of s o e (suc n) q =
+      let f = open-of g o .form in
+      let z : suc n ≡ 0 = ap (λ (x : Scored). x .refusal) (sym (score-unread s (g .dealer) (g .wind) (f .dealer) (f .wind) (suc n) q (omega arith))) ∙ e in
+      absurd (omega arith)
+
+  pub win-accepted : (s : List ℕ) → refusalFor g (win s) ≡ 0 → (notOpen g ≡ false) × (numberOf (readOf s .answer) ≡ 0) × (scoredFor g s .refusal ≡ 0) × (riichiMismatch g (handFor s) ≡ false)
   unfolding refusalFor
   win-accepted s e =
       let m : ℕ = cond (riichiMismatch g (handFor s)) 11 0 in
       let v : ℕ = scoredFor g s .refusal in
-      let n : ℕ = numberOf (readOf s .answer) in
-      let p = cond-zero (notOpen g) 8 (cond (ltb 0 n) n (cond (ltb 0 v) v m)) e in
-      let q = own-zero n (cond (ltb 0 v) v m) (p .1) in
-      (p .0, q .0, own-zero v m (q .1) .0)
+      let p = cond-zero (notOpen g) 8 (cond (ltb 0 v) v m) e in
+      let q = own-zero v m (p .1) in
+      (p .0, read-of s (p .0) (q .0) _ refl, q .0, cond-zero (riichiMismatch g (handFor s)) 10 0 (q .1) .0)

@@ -10,10 +10,10 @@ use lib.IntN.{ℤ, pos, negsuc, negℤ, _+ℤ_}
 use lib.ListN.{getD}
 use Rattle.tiles.specs.Below.{table}
 use Rattle.score.specs.laws.Z.{up, dn, add-law, parts-eq, eq-parts}
-use Rattle.score.specs.laws.Changes.{change, changes-within, changes-zero-sum}
+use Rattle.score.specs.laws.Changes.{score-within, zero-sum}
 use Rattle.game.specs.declared.Game.{Game}
 use Rattle.game.specs.Booking.{Booking, riichi, win, draw, chombo}
-use Rattle.game.specs.Ledger.{scoreAt, isDeclared, declarations, totalOf, isReady, handFor, readySeats, drawGives, gives, sticksAfter, moved, after}
+use Rattle.game.specs.Ledger.{scoreAt, isDeclared, declarations, totalOf, isReady, handFor, scoredFor, readySeats, drawGives, gives, sticksAfter, moved}
 use Rattle.game.specs.laws.Form.{sum-law}
 use Rattle.game.specs.laws.Steps.{shareOf}
 
@@ -173,7 +173,7 @@ sum-parts a b c d e = omega (arith, parts-eq (a +ℤ b +ℤ c +ℤ d) (pos 0) e,
 
 module _ (g : Game) (s : List ℕ) where
   unfoldable won : ℕ → ℤ
-  won i = change (handFor s) (g .dealer) (g .wind) i
+  won i = getD (scoredFor g s .changes) i (pos 0)
 
   pub win-balanced : handFor s .fields .winner ≤ 3 → Balanced g (win s)
   unfolding gives sticksAfter won
@@ -181,11 +181,11 @@ module _ (g : Game) (s : List ℕ) where
       let w : ℕ = handFor s .fields .winner in
       let x : ℕ → ℤ = λ i. cond (eqb i w) (pos (1000 * g .sticks)) (pos 0) in
       both-balanced (won 0) (won 1) (won 2) (won 3) (x 0) (x 1) (x 2) (x 3) (g .sticks) 0
-      (sum-parts (won 0) (won 1) (won 2) (won 3) (changes-zero-sum (handFor s) (g .dealer) (g .wind) h)) (pots w (g .sticks) h)
+      (sum-parts (won 0) (won 1) (won 2) (won 3) (zero-sum s (g .dealer) (g .wind))) (pots w (g .sticks) h)
 
   pub win-bounded : (i : ℕ) → dn (gives g (win s) i) ≤ 48000 + up (gives g (win s) i)
   unfolding gives won
   win-bounded i =
       let w : ℕ = handFor s .fields .winner in
       let x : ℤ = cond (eqb i w) (pos (1000 * g .sticks)) (pos 0) in
-      omega (arith, changes-within (handFor s) (g .dealer) (g .wind) i, pot-dn (eqb i w) (1000 * g .sticks), add-law (won i) x)
+      omega (arith, score-within s (g .dealer) (g .wind) i, pot-dn (eqb i w) (1000 * g .sticks), add-law (won i) x)

@@ -1,11 +1,11 @@
 -- What a game in form, and an open game, has. Assumes nothing.
-use mathlib.Core.Path.{_≡_, ap}
-use mathlib.Core.Bool.{Bool, true, false, not, _||_}
+use mathlib.Core.Path.{_≡_, refl, sym, ap, _∙_}
+use mathlib.Core.Bool.{Bool, true, false, not, _&&_, _||_}
 use mathlib.Core.Logic.{⊎-elim}
 use Prim.Native.Nat.{ℕ, zero, suc, _+_, _*_, _≤_, _<_}
 use native.Mathlib.Omega.{arith}
-use borrow.Author.Tests.{ltb-false, le-ltb, eqb-true, eqb-false, eq-eqb, not-false}
-use lib.Dec.{ltb, eqb}
+use borrow.Author.Tests.{ltb-false, le-ltb, leb-true, le-leb, eqb-true, eqb-false, eq-eqb, not-false}
+use lib.Dec.{ltb, leb, eqb}
 use lib.IntN.{ℤ, pos, negsuc, _+ℤ_}
 use lib.Signed.{ltZ}
 use Rattle.tiles.specs.Below.{any, some}
@@ -16,17 +16,29 @@ use Rattle.game.specs.Ledger.{scoreAt, declarations, totalOf, floor, eqZ
 
 -- ---- the test of integers
 
+pub same-leb : (a b : ℕ) → leb a b && leb b a ≡ eqb a b
+same-leb a b = go (eqb a b) refl
+  where
+    go : (t : Bool) → eqb a b ≡ t → leb a b && leb b a ≡ t
+    go true q = let e = eqb-true a b q in rw (le-leb a b (omega arith), le-leb b a (omega arith))
+    go false q = apart (leb a b) (leb b a) refl refl
+      where
+        apart : (x y : Bool) → leb a b ≡ x → leb b a ≡ y → x && y ≡ false
+        apart true true u v = absurd (eqb-false a b q (omega (arith, leb-true a b u, leb-true b a v)))
+        apart true false u v = refl
+        apart false y u v = refl
+
 pub eqZ-true : (a b : ℤ) → eqZ a b ≡ true → a ≡ b
-eqZ-true (pos a) (pos b) h = ap pos (eqb-true a b h)
+eqZ-true (pos a) (pos b) h = ap pos (eqb-true a b (sym (same-leb a b) ∙ h))
 eqZ-true (pos a) (negsuc b) h = absurd (let z : _≡_ {A = ℕ} 0 1 = cc in omega arith)
 eqZ-true (negsuc a) (pos b) h = absurd (let z : _≡_ {A = ℕ} 0 1 = cc in omega arith)
-eqZ-true (negsuc a) (negsuc b) h = ap negsuc (eqb-true a b h)
+eqZ-true (negsuc a) (negsuc b) h = ap negsuc (sym (eqb-true b a (sym (same-leb b a) ∙ h)))
 
 pub eq-eqZ : (a b : ℤ) → a ≡ b → eqZ a b ≡ true
-eq-eqZ (pos a) (pos b) h = eq-eqb a b (omega (arith, parts-eq (pos a) (pos b) h))
+eq-eqZ (pos a) (pos b) h = same-leb a b ∙ eq-eqb a b (omega (arith, parts-eq (pos a) (pos b) h))
 eq-eqZ (pos a) (negsuc b) h = absurd (omega (arith, parts-eq (pos a) (negsuc b) h))
 eq-eqZ (negsuc a) (pos b) h = absurd (omega (arith, parts-eq (negsuc a) (pos b) h))
-eq-eqZ (negsuc a) (negsuc b) h = eq-eqb a b (omega (arith, parts-eq (negsuc a) (negsuc b) h))
+eq-eqZ (negsuc a) (negsuc b) h = same-leb b a ∙ eq-eqb b a (omega (arith, parts-eq (negsuc a) (negsuc b) h))
 
 -- ---- in form
 

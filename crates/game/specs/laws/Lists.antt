@@ -8,7 +8,7 @@ use lib.IntN.{ℤ, pos, _+ℤ_, +ℤ-idr, +ℤ-assoc}
 use Rattle.game.specs.declared.Game.{Game}
 use Rattle.game.specs.Booking.{Booking}
 use Rattle.game.specs.Ledger.{fresh, scoreAt, refusalFor, gives, moved, after, ledgerFrom, givenFrom}
-use Rattle.game.specs.Runs.{Runs, done, next, Every}
+use Rattle.game.specs.Runs.{Runs, done, next, Every, answersFrom}
 use Rattle.game.specs.laws.Form.{InForm}
 use Rattle.game.specs.laws.Balance.{getD-four, score-moved}
 use Rattle.game.specs.laws.Kept.{Kept, kept-form, after-kept}
@@ -48,3 +48,8 @@ pub every-of : (P : Game → Booking → ℕ → Type 0) → ((l : Game) (b : Bo
 every-of P f done k = tt
 every-of P f {l} (next {b = b} {n = n} {bs = bs} {ns = ns} p r) k =
     (f l b n (kept-form l k) (p .0), subst (λ (x : Game). Every P x bs ns) (p .1) (every-of P f r (subst (λ (x : Game). Kept x) (sym (p .1)) (after-kept l b k))))
+
+pub runs-exist : (bs : List Booking) (l : Game) → Runs l bs (answersFrom l bs) (ledgerFrom l bs)
+unfolding answersFrom ledgerFrom
+runs-exist [] l = done
+runs-exist (b ∷ bs) l = next (refl, refl) (runs-exist bs (after l b))

@@ -12,13 +12,14 @@ use Rattle.tiles.specs.Below.{any, count, table}
 use Rattle.fields.specs.declared.Hand.{Hand}
 use Rattle.hand.specs.Record.{numberOf, readOf}
 use Rattle.score.specs.declared.Scored.{Scored}
-use Rattle.score.specs.Score.{settledOf}
+use Rattle.score.specs.search.Settled.{settledOf}
+use Rattle.score.specs.laws.Settled.{score-read, score-unread}
 use Rattle.game.specs.declared.Game.{Game}
 use Rattle.game.specs.declared.Answered.{Answered}
 use Rattle.game.specs.Booking.{riichi, win, draw, chombo}
-use Rattle.game.specs.Ledger.{isDeclared, declarations, notOpen, isReady, riichiMismatch, handFor, refusalFor, drawGives, gives, sticksAfter, declaredAfter, handsAfter, dealPasses, dealerAfter, windAfter, overAfter, moved, after}
+use Rattle.game.specs.Ledger.{isDeclared, declarations, notOpen, isReady, riichiMismatch, handFor, scoredFor, refusalFor, drawGives, gives, sticksAfter, declaredAfter, handsAfter, dealPasses, dealerAfter, windAfter, overAfter, moved, after}
 use Rattle.game.specs.Runs.{Booked}
-use Rattle.game.specs.laws.Form.{Open}
+use Rattle.game.specs.laws.Form.{Open, open-of}
 use Rattle.game.specs.laws.Steps.{answered, paid, shareOf, finished}
 
 module _ (g : Game) (seat : ℕ) where
@@ -126,16 +127,22 @@ module _ (g : Game) (s : List ℕ) where
 
   pub win-unread : (n : ℕ) → notOpen g ≡ false → numberOf (readOf s .answer) ≡ n → 0 < n → refusalFor g (win s) ≡ n
   unfolding refusalFor
-  win-unread n o e l = rw (o, e, lt-ltb 0 n l)
+  win-unread n o e l =
+      let f = open-of g o .form in
+      rw (o, score-unread s (g .dealer) (g .wind) (f .dealer) (f .wind) n e l, lt-ltb 0 n l)
 
-  won-moved : wonGame g (handFor s) ≡ moved g (win s)
-  unfolding wonGame moved gives sticksAfter declaredAfter handsAfter dealPasses dealerAfter windAfter overAfter finished
-  won-moved = refl
+  -- past the refusals of Read, Score gives what the hand scores
+  module _ (o : notOpen g ≡ false) (e : numberOf (readOf s .answer) ≡ 0) where
+    settled : scoredFor g s ≡ settledOf (handFor s) (g .dealer) (g .wind)
+    settled = let f = open-of g o .form in score-read s (g .dealer) (g .wind) (f .dealer) (f .wind) e
 
-  -- past the refusals of Read
-  win-refusal : notOpen g ≡ false → numberOf (readOf s .answer) ≡ 0 → refusalFor g (win s) ≡ wonRefusal g (handFor s)
-  unfolding refusalFor
-  win-refusal o e = rw (o, e)
+    won-moved : wonGame g (handFor s) ≡ moved g (win s)
+    unfolding wonGame moved gives sticksAfter declaredAfter handsAfter dealPasses dealerAfter windAfter overAfter finished
+    won-moved = rw settled
+
+    win-refusal : refusalFor g (win s) ≡ wonRefusal g (handFor s)
+    unfolding refusalFor
+    win-refusal = rw (o, settled)
 
   pub win-read : (h : Hand) (n : ℕ) (k : Game) → notOpen g ≡ false → numberOf (readOf s .answer) ≡ 0 → h ≡ handFor s → Won g h n k → Booked g (win s) n k
   unfolding after
@@ -143,4 +150,4 @@ module _ (g : Game) (s : List ℕ) where
       let r = win-refusal o e in
       let a : n ≡ wonRefusal g (handFor s) = rw q at (w .0) in
       let b : k ≡ cond (ltb 0 (wonRefusal g (handFor s))) g (wonGame g (handFor s)) = rw q at (w .1) in
-      (a ∙ sym r, b ∙ rw (r, won-moved))
+      (a ∙ sym r, b ∙ rw (r, won-moved o e))

@@ -10,8 +10,8 @@ use Rattle.yaku.specs.declared.Won.{Won}
 use Rattle.yaku.specs.declared.TileTests.{TileTests}
 use Rattle.yaku.specs.OfTiles.{tileTestsOf}
 use Rattle.best.specs.declared.Table.{Table}
-use Rattle.best.specs.Best.{Ready}
-use Rattle.score.specs.Score.{wonOf, seatsOf, meldCodes, meldWays, tableOf}
+use Rattle.best.specs.search.Best.{Ready}
+use Rattle.score.specs.Named.{wonOf, seatsOf, meldCodes, meldWays, tableOf}
 use Rattle.score.proofs.table_of.Statement.{statement}
 use Rattle.score.proofs.table_of.Tie as tie
 

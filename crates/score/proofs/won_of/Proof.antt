@@ -1,6 +1,6 @@
 -- `score::won_of` meets its contract. Assumes nothing.
 use borrow.Author.Needs.{needs}
-use Rattle.score.specs.Score.{wonOf}
+use Rattle.score.specs.Named.{wonOf}
 use Rattle.score.proofs.won_of.Statement.{statement}
 use Rattle.score.proofs.won_of.Tie as tie
 

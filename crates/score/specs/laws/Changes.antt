@@ -1,22 +1,27 @@
 -- What the game needs to know of a scored hand: four changes, none over 48,000, summing to 0. Assumes nothing.
-use mathlib.Core.Path.{_≡_, refl, sym, ap, _∙_, subst}
-use mathlib.Core.Bool.{Bool, true, false, cond}
+use mathlib.Core.Path.{_≡_, refl, sym, ap, subst}
+use mathlib.Core.Bool.{Bool, true, false, _||_, cond}
 use mathlib.Core.List.{List}
 use Prim.Native.Nat.{ℕ, zero, suc, _≤_, _<_}
 use native.Mathlib.Omega.{arith}
 use borrow.Author.Tests.{eqb-true}
-use lib.Dec.{eqb}
-use lib.IntN.{ℤ, pos, _+ℤ_, _-ℤ_}
-use lib.ListN.{getD, length, replicate}
+use lib.Dec.{ltb, eqb}
+use lib.IntN.{ℤ, pos, _-ℤ_}
+use lib.ListN.{getD, replicate}
 use Rattle.fields.specs.declared.Hand.{Hand}
 use Rattle.fields.specs.Hand.{isRon, concealedTally}
+use Rattle.hand.specs.declared.Answer.{Answer}
+use Rattle.hand.specs.declared.Answer.the-variants.{Sound, Refused}
+use Rattle.hand.specs.Record.{numberOf, handOf, readOf}
+use Rattle.hand.specs.laws.Bounds.{read-bounds}
 use Rattle.points.specs.declared.Seats.{Seats}
-use Rattle.points.specs.Points.{pays, gain, change as changeOf, changes}
+use Rattle.points.specs.Points.{pays, gain, change as changeOf, changes, sumOfFour}
 use Rattle.points.specs.Claims.{changes-sum-zero}
 use Rattle.points.specs.laws.Bounds.{pays-le, gain-le}
-use Rattle.best.specs.Best.{bestOf}
 use Rattle.score.specs.declared.Scored.{Scored}
-use Rattle.score.specs.Score.{tableOf, seatsOf, refusedWith, settledOf}
+use Rattle.score.specs.Named.{tableOf, seatsOf, refusedWith}
+use Rattle.score.specs.search.Settled.{settledOf}
+use Rattle.score.specs.Score.{scoredBy, scoreOf}
 use Rattle.score.specs.laws.Settled.{best-le}
 use Rattle.score.specs.laws.Best.{answers}
 use Rattle.score.specs.laws.Z.{Within, sub-parts}
@@ -54,10 +59,6 @@ zeros-within (suc (suc zero)) = (omega arith, omega arith)
 zeros-within (suc (suc (suc zero))) = (omega arith, omega arith)
 zeros-within (suc (suc (suc (suc i)))) = (omega arith, omega arith)
 
-four-changes : (s : Seats) (ron : Bool) (a : ℕ) → length (changes s ron a) ≡ 4
-unfolding changes
-four-changes s ron a = refl
-
 -- ---- of a scored hand: zeros where it is refused, else its payments
 
 module _ (P : List ℤ → Type 0) (h : Hand) (dealer wind : ℕ) (none : P (replicate 4 (pos 0))) (paid : (a : ℕ) → a ≤ 8000 → P (changes (seatsOf h dealer) (isRon (h .fields)) a)) where
@@ -68,13 +69,29 @@ module _ (P : List ℤ → Type 0) (h : Hand) (dealer wind : ℕ) (none : P (rep
       (λ s v e. to _ e (paid _ (best-le (tableOf h dealer wind) (concealedTally h) (h .fields .m) (h .fields .winning))))
 
 module _ (h : Hand) (dealer wind : ℕ) where
-  pub changes-four : length (settledOf h dealer wind .changes) ≡ 4
-  changes-four = of-changes (λ l. length l ≡ 4) h dealer wind refl (λ a _. four-changes (seatsOf h dealer) (isRon (h .fields)) a)
-
   pub changes-within : (i : ℕ) → Within (change h dealer wind i) 48000
   changes-within i = of-changes (λ l. Within (getD l i (pos 0)) 48000) h dealer wind (zeros-within i) (λ a l. all-within (seatsOf h dealer) (isRon (h .fields)) a l i)
 
-  pub changes-zero-sum : h .fields .winner ≤ 3 → change h dealer wind 0 +ℤ change h dealer wind 1 +ℤ change h dealer wind 2 +ℤ change h dealer wind 3 ≡ pos 0
-  changes-zero-sum w =
-      of-changes (λ l. getD l 0 (pos 0) +ℤ getD l 1 (pos 0) +ℤ getD l 2 (pos 0) +ℤ getD l 3 (pos 0) ≡ pos 0) h dealer wind refl
-      (λ a _. changes-sum-zero (seatsOf h dealer) (isRon (h .fields)) a (omega arith))
+-- ---- of a scored record
+
+module _ (P : List ℤ → Type 0) (s : List ℕ) (dealer wind : ℕ) (none : P (replicate 4 (pos 0)))
+    (paid : numberOf (readOf s .answer) ≡ 0 → (a : ℕ) → a ≤ 8000 → P (changes (seatsOf (handOf (readOf s)) dealer) (isRon (handOf (readOf s) .fields)) a)) where
+  of-score : P (scoreOf s dealer wind .changes)
+  unfolding scoreOf scoredBy
+  of-score = go (ltb 3 dealer || ltb 1 wind) (readOf s .answer) refl
+    where
+      go : (b : Bool) (a : Answer) → readOf s .answer ≡ a → P (cond b (refusedWith 8) (scoredBy a (handOf (readOf s)) dealer wind) .changes)
+      go true a e = none
+      go false (Refused n) e = none
+      go false (Sound f) e = of-changes P (handOf (readOf s)) dealer wind none (paid (ap numberOf e))
+
+module _ (s : List ℕ) (dealer wind : ℕ) where
+  pub score-within : (i : ℕ) → Within (getD (scoreOf s dealer wind .changes) i (pos 0)) 48000
+  score-within i =
+      of-score (λ l. Within (getD l i (pos 0)) 48000) s dealer wind (zeros-within i)
+      (λ e a l. all-within (seatsOf (handOf (readOf s)) dealer) (isRon (handOf (readOf s) .fields)) a l i)
+
+  pub zero-sum : sumOfFour (scoreOf s dealer wind .changes) ≡ pos 0
+  zero-sum =
+      of-score (λ l. sumOfFour l ≡ pos 0) s dealer wind refl
+      (λ e a l. changes-sum-zero (seatsOf (handOf (readOf s)) dealer) (isRon (handOf (readOf s) .fields)) a (omega (arith, read-bounds s e .winner)))

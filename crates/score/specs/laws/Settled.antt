@@ -1,5 +1,5 @@
 -- What a sound hand and a record score, case by case. Assumes nothing.
-use Prim.Native.Nat.{ℕ, _≤_}
+use Prim.Native.Nat.{ℕ, _≤_, _<_}
 use mathlib.Core.Path.{_≡_, refl, sym, ap, _∙_}
 use mathlib.Core.Bool.{Bool, true, false, _&&_, _||_, not, cond}
 use mathlib.Core.List.{List, [], _∷_}
@@ -14,7 +14,7 @@ use Rattle.hand.specs.declared.Answer.{Answer}
 use Rattle.hand.specs.declared.Answer.the-variants.{Sound, Refused}
 use Rattle.hand.specs.declared.HandRead.{HandRead}
 use Rattle.hand.specs.Record.{numberOf, handOf, readOf}
-use Rattle.hand.specs.laws.Bounds.{answer-is, hand-is}
+use Rattle.hand.specs.laws.Bounds.{answer-is, hand-is, refused-number}
 use Rattle.reading.specs.declared.Reading.{Reading}
 use Rattle.reading.specs.Readings.{readings}
 use Rattle.reading.specs.Judged.{judged}
@@ -23,9 +23,12 @@ use Rattle.value.specs.declared.Value.{Value}
 use Rattle.value.specs.Value.{valueOf}
 use Rattle.best.specs.declared.Table.{Table}
 use Rattle.best.specs.declared.Best.{Best}
-use Rattle.best.specs.Best.{partsOf, worth, isValued, beats, noneOf, judgeOf, bestOf}
+use Rattle.best.specs.Best.{partsOf, worth, isValued}
+use Rattle.best.specs.search.Best.{beats, noneOf, judgeOf, bestOf}
 use Rattle.score.specs.declared.Scored.{Scored}
-use Rattle.score.specs.Score.{tableOf, seatsOf, refusedWith, acceptedAs, settledBy, settledOf, scoredBy, scoreOf}
+use Rattle.score.specs.Named.{tableOf, seatsOf, refusedWith, acceptedAs}
+use Rattle.score.specs.search.Settled.{settledBy, settledOf}
+use Rattle.score.specs.Score.{scoredBy, scoreOf}
 
 -- ---- basic points are at most 8,000
 
@@ -109,3 +112,25 @@ module _ (s : List ℕ) (dealer wind : ℕ) (r : HandRead) (q : ltb 3 dealer || 
   pub scored-sound : (f : Fields) (x : Scored) → r .answer ≡ Sound f → x ≡ settledOf (record { fields = f; melds = r .melds; concealed = r .concealed }) dealer wind → x ≡ scoreOf s dealer wind
   unfolding scoredBy
   scored-sound f x told ex = ex ∙ ap (λ (y : Hand). settledOf y dealer wind) (hand-is s r e f told) ∙ by-answer (Sound f) told
+
+-- ---- a record, by what Read answers
+
+module _ (s : List ℕ) (dealer wind : ℕ) (d : dealer ≤ 3) (w : wind ≤ 1) where
+  at-table : ltb 3 dealer || ltb 1 wind ≡ false
+  at-table = rw (le-ltb 3 dealer d, le-ltb 1 wind w)
+
+  pub score-read : numberOf (readOf s .answer) ≡ 0 → scoreOf s dealer wind ≡ settledOf (handOf (readOf s)) dealer wind
+  unfolding scoreOf scoredBy
+  score-read e = rw at-table (go (readOf s .answer) refl)
+    where
+      go : (a : Answer) → readOf s .answer ≡ a → scoredBy a (handOf (readOf s)) dealer wind ≡ settledOf (handOf (readOf s)) dealer wind
+      go (Refused n) q = let z : n ≡ 0 = ap numberOf (sym q) ∙ e in absurd (omega (arith, refused-number s n q))
+      go (Sound f) q = refl
+
+  pub score-unread : (n : ℕ) → numberOf (readOf s .answer) ≡ n → 0 < n → scoreOf s dealer wind ≡ refusedWith n
+  unfolding scoreOf scoredBy
+  score-unread n e l = rw at-table (go (readOf s .answer) refl)
+    where
+      go : (a : Answer) → readOf s .answer ≡ a → scoredBy a (handOf (readOf s)) dealer wind ≡ refusedWith n
+      go (Refused k) q = ap refusedWith (ap numberOf (sym q) ∙ e)
+      go (Sound f) q = let z : 0 ≡ n = ap numberOf (sym q) ∙ e in absurd (omega arith)

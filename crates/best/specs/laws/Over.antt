@@ -1,0 +1,26 @@
+-- Of two readings at most one is reported rather than the other. Assumes nothing.
+use mathlib.Core.List.{List}
+use mathlib.Core.Logic.{inl, inr}
+use mathlib.Core.Path.{_≡_, sym, subst}
+use Prim.Native.Nat.{ℕ}
+use Rattle.reading.specs.declared.Reading.{Reading}
+use Rattle.reading.specs.Order.{Lex, keyOf}
+use Rattle.reading.specs.laws.Readings.{lex-irreflexive}
+use Rattle.best.specs.declared.Table.{Table}
+use Rattle.best.specs.Best.{worth, figures, Over}
+use Rattle.best.specs.laws.First.{lex-trans}
+
+-- neither of two comes before the other
+lex-one-way : (a b : List ℕ) → Lex a b → Lex b a → ⊥
+lex-one-way a b h g = lex-irreflexive a (lex-trans a b a h g)
+
+lex-differ : (a b : List ℕ) → Lex a b → a ≡ b → ⊥
+lex-differ a b h e = lex-irreflexive b (subst (λ (z : List ℕ). Lex z b) e h)
+
+pub over-same : (t : Table) (r q : Reading) → Over t r q → Over t q r → r ≡ q
+over-same t r q (inl h) (inl g) = absurd (lex-one-way (figures (worth t q)) (figures (worth t r)) h g)
+over-same t r q (inl h) (inr g) = absurd (lex-differ (figures (worth t q)) (figures (worth t r)) h (sym (g .0)))
+over-same t r q (inr h) (inl g) = absurd (lex-differ (figures (worth t r)) (figures (worth t q)) g (sym (h .0)))
+over-same t r q (inr (e, inl p)) (inr g) = p
+over-same t r q (inr (e, inr p)) (inr (f, inl g)) = sym g
+over-same t r q (inr (e, inr p)) (inr (f, inr g)) = absurd (lex-one-way (keyOf r) (keyOf q) p g)

@@ -1,0 +1,22 @@
+-- The example of document 01, Log: seat 1 declares riichi, then a draw with seat 1 ready. Computed; play/specs/Claims has it from the bytes on.
+use mathlib.Core.Path.{_≡_, refl}
+use mathlib.Core.List.{List, [], _∷_}
+use lib.IntN.{pos}
+use Rattle.game.specs.Booking.{Booking, riichi, draw}
+use Rattle.game.specs.Ledger.{fresh, totalOf, notOpen, outOfForm, refusalFor, drawGives, gives, sticksAfter, declaredAfter, handsAfter, dealPasses, dealerAfter, windAfter, overAfter, moved, after, ledgerFrom, ledger}
+use Rattle.game.specs.Runs.{answersFrom}
+
+unfoldable pub example : List Booking
+example = riichi 1 ∷ draw 4 ∷ []
+
+pub example-answers : answersFrom fresh example ≡ 0 ∷ 0 ∷ []
+unfolding example answersFrom fresh refusalFor notOpen outOfForm totalOf after moved gives drawGives sticksAfter declaredAfter handsAfter dealPasses dealerAfter windAfter overAfter
+example-answers = refl
+
+pub example-scores : ledger example .scores ≡ pos 29000 ∷ pos 32000 ∷ pos 29000 ∷ pos 29000 ∷ []
+unfolding example ledger ledgerFrom fresh refusalFor notOpen outOfForm totalOf after moved gives drawGives sticksAfter declaredAfter handsAfter dealPasses dealerAfter windAfter overAfter
+example-scores = refl
+
+pub example-sticks : ledger example .sticks ≡ 1
+unfolding example ledger ledgerFrom fresh refusalFor notOpen outOfForm totalOf after moved gives drawGives sticksAfter declaredAfter handsAfter dealPasses dealerAfter windAfter overAfter
+example-sticks = refl
