@@ -8,7 +8,15 @@ use native.Mathlib.Omega.{arith}
 use lib.ListN.{length, getD, take, drop, set, replicate, length-append, length-take, length-drop, length-replicate, take-append-drop}
 use lib.Seq.{drop-drop, drop-cons, take-at, drop-at, take-add, length-take-le, getD-drop, sets, sets-eq, take-append-le, drop-append-le, take-length}
 use lib.Pow.{pow-pos, pow-mono, mod-pow-add, shr-shr}
-use Rattle.bits.specs.Bits.{digits, val, pack, unpack, sum, Below, FitIn, eights, bitsOf, fill, fieldsOf, bytesOf}
+use Rattle.bits.specs.Bits.{digits, val, pack, unpack, sum, Below, eights, bitsOf, fill, bytesOf}
+
+-- each value fits its width
+abbrev pub FitIn : List ℕ → List ℕ → Type 0
+FitIn ws vs = (k : ℕ) → getD vs k 0 < 2 ^ getD ws k 0
+
+-- bytes as fields
+abbrev pub fieldsOf : List ℕ → List ℕ → List ℕ
+fieldsOf ws s = unpack ws (bitsOf s)
 
 pub length-digits : (w v : ℕ) → length (digits w v) ≡ w
 length-digits zero v = refl
@@ -196,6 +204,13 @@ sets-append b i (x ∷ xs) ys = rw (add-suc, ← suc-add) (sets-append (set b i 
 
 pub sum-step : (ws : List ℕ) (i : ℕ) → i < length ws → sum (drop i ws) ≡ getD ws i 0 + sum (drop (i + 1) ws)
 sum-step ws i h = rw (add-one, drop-cons ws i 0 h)
+
+-- a turn at width i, with its bits from o on: the width is at most 8, its bits end by n, and with those of the later widths they end at `end`
+abbrev pub Turn : List ℕ → ℕ → ℕ → ℕ → ℕ → Type 0
+Turn ws i o end n = (getD ws i 0 ≤ 8) × (o + getD ws i 0 ≤ n) × (o + getD ws i 0 + sum (drop (i + 1) ws) ≡ end)
+
+pub turn : (ws : List ℕ) (i o end n : ℕ) → i < length ws → Below 9 ws → o + sum (drop i ws) ≡ end → end ≤ n → Turn ws i o end n
+turn ws i o end n h w e l = omega (arith, sum-step ws i h, w i)
 
 pub pack-step : (ws vs b : List ℕ) (i o : ℕ) → i < length ws → i < length vs
     → sets b o (pack (drop i ws) (drop i vs)) ≡ sets (sets b o (digits (getD ws i 0) (getD vs i 0))) (o + getD ws i 0) (pack (drop (i + 1) ws) (drop (i + 1) vs))

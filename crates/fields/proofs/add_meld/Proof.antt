@@ -7,8 +7,7 @@ use mathlib.Core.List.{List}
 use native.Mathlib.Omega.{arith}
 use lib.ListN.{length, getD}
 use Rattle.tiles.specs.Groups.{at, uses}
-use Rattle.tiles.specs.Tally.{more}
-use Rattle.tiles.specs.laws.Tally.{at-le, tally-bound, more-adds}
+use Rattle.tiles.specs.laws.Tally.{more, at-le, tally-bound, more-adds}
 use Rattle.fields.specs.Hand.{meldHolds}
 use Rattle.fields.proofs.add_meld.Statement.{statement}
 use Rattle.fields.proofs.add_meld.Tie as tie

@@ -5,7 +5,7 @@ use Prim.Native.Nat.{_≤_}
 use native.Mathlib.Omega.{arith}
 use lib.ListN.{length}
 use lib.Seq.{set-out}
-use Rattle.tiles.specs.Tally.{more}
+use Rattle.tiles.specs.laws.Tally.{more}
 use Rattle.tiles.proofs.add.Statement.{statement}
 use Rattle.tiles.proofs.add.Tie as tie
 
