@@ -6,11 +6,11 @@ use lib.ListN.{length}
 use Rattle.reading.specs.declared.Reading.{Reading}
 use Rattle.reading.specs.Reading.{IsReading}
 use Rattle.reading.specs.Order.{keyOf, Before, Pairwise}
-use Rattle.reading.specs.Readings.{readings}
+use Rattle.reading.specs.search.Readings.{readings}
 use Rattle.reading.specs.laws.Lists.{each-member}
 use Rattle.reading.specs.laws.Readings.{readings-each, readings-has, readings-ascend, lex-irreflexive}
 
--- the tally t of all 34 kinds, m melds, the winning tile's kind win
+-- the tally t "of all 34 kinds", m melds, "the winning tile's kind" win
 module _ (t : List ℕ) (m win : ℕ) (l : length t ≡ 34) where
   -- each one listed is a reading
   pub readings-sound : (r : Reading) → Member r (readings t m win) → IsReading t m win r

@@ -1,8 +1,2 @@
--- What a judge keeps of a list of readings.
-use mathlib.Core.List.{List, [], _∷_}
-use Rattle.reading.specs.declared.Reading.{Reading}
-
--- what is kept after each of the readings, one after the other, from b on
-unfoldable pub judged : {B : Type 0} → (B → Reading → B) → B → List Reading → B
-judged judge b [] = b
-judged judge b (r ∷ rs) = judged judge (judge b r) rs
+-- The search's fold, passed on (`search/Judged`).
+pub use Rattle.reading.specs.search.Judged.{judged}

@@ -11,7 +11,7 @@ use Rattle.tiles.specs.laws.Tally.{held}
 use Rattle.reading.specs.declared.Reading.{Reading}
 use Rattle.reading.specs.Reading.{holds, isSevenPairs, isOrphans, ofForm}
 use Rattle.reading.specs.Order.{Before}
-use Rattle.reading.specs.Readings.{concatMap, isEmpty, less, fits, without, passes, step, splits, regularOf, placedAt, placed, paired, formed, readings}
+use Rattle.reading.specs.search.Readings.{concatMap, isEmpty, less, fits, without, passes, step, splits, regularOf, placedAt, placed, paired, formed, readings}
 
 -- of tiles, m melds and the winning kind
 abbrev readingsOf : List ℕ → ℕ → ℕ → List Reading
