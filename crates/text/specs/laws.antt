@@ -4,3 +4,4 @@ pub mod Put
 pub mod Size
 pub mod Elem
 pub mod Fits
+pub mod Examples
