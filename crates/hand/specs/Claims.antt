@@ -19,10 +19,11 @@ pub record Filled (m : ℕ) : Type 0 where
   pub whole : 103 - 10 * m + padOf m ≡ 8 * lengthOf m
   pub few : padOf m < 8
 
+-- the widths of a record's fields fill it
 pub widths-fill : (m : ℕ) → m ≤ 4 → Filled m
 widths-fill m h = record { bits = laws.filled m h .0; whole = laws.filled m h .1; few = laws.filled m h .2 }
 
--- the hand that a record's bits are, sound or not
+-- the hand that a record's bits are (01, "Bits, most significant first: .."), sound or not
 abbrev pub handOfRecord : List ℕ → Hand
 handOfRecord s = handIn (countIn s) (bitsOf s)
 
@@ -38,7 +39,7 @@ pub record IsSound (s : List ℕ) : Type 0 where
   pub four : overFour (handOfRecord s) ≡ false
   pub situation : wrongSituation (handOfRecord s) ≡ false
 
--- a record is sound exactly when Read refuses nothing
+-- "A record that meets none of these is sound", and then "Read refuses" it for nothing; and the reverse
 pub sound : (s : List ℕ) → IsSound s ↔ (numberOf (readOf s .answer) ≡ 0)
 sound s = (λ y. laws.sound-read s (y .form) (y .fields) (y .order) (y .four) (y .situation), λ e. let c = laws.read-sound s e in record { form = c .0; fields = c .1; order = c .2; four = c .3; situation = c .4 })
 
@@ -47,7 +48,7 @@ pub record WrittenBack (s buf : List ℕ) : Type 0 where
   pub answer : writtenOf (handOf (readOf s)) buf ≡ record { refusal = 0; len = length s }
   pub buffer : bufferOf (handOf (readOf s)) buf ≡ s ++ drop (length s) buf
 
--- a sound record of bytes, read and written back into a buffer that it fits
+-- "A sound hand record read and written back gives the same bytes", in a buffer that it fits
 pub read-write : (s buf : List ℕ) → Below 256 s → IsSound s → length s ≤ length buf → WrittenBack s buf
 read-write s buf b y l = record { answer = laws.read-write-answer s buf b (sound s .0 y) l; buffer = laws.read-write-buffer s buf b (sound s .0 y) l }
 

@@ -42,7 +42,7 @@ abbrev pub headerOf : List ℕ → Fields
 headerOf l =
     record { how = getD l 0 0; winner = getD l 1 0; discarder = getD l 2 0; riichi = getD l 3 0; situation = getD l 4 0; indicator = getD l 5 0; winning = getD l 6 0; m = getD l 7 0 }
 
--- those fields of a record's bits: its first 25
+-- "how; winner; ..; meld count m" of a record's bits: its first 25
 unfoldable pub headOf : List ℕ → Fields
 headOf bits = headerOf (unpack head bits)
 
@@ -94,7 +94,7 @@ wrongForm n m = ltb n 4 || ltb 4 m || not (eqb n (lengthOf m))
 abbrev pub countIn : List ℕ → ℕ
 countIn s = headOf (bitsOf s) .m
 
--- the hand, or the refusal j where that is not 0
+-- the hand, or the refusal j where there is one: "It then returns an all-zero hand"
 unfoldable pub answerBy : Hand → ℕ → HandRead
 answerBy h j = cond (ltb 0 j) (refusedWith j) (soundAs h)
 

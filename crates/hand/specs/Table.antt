@@ -70,6 +70,7 @@ pub record ReadsBack (r : Row) : Type 0 where
 abbrev pub Table : Type 0
 Table = ReadsBack line1 × ReadsBack line2 × ReadsBack line3 × ReadsBack line4 × ReadsBack line5 × ReadsBack line6 × ReadsBack line7 × ReadsBack line8 × ReadsBack line9 × ReadsBack line12
 
+-- each row reads and writes back
 pub table : Table
 unfolding every some number at meldHolds inMelds inConcealed inHand tileOver33 wrongFields descends inRecord overFour wrongSituation refusalOf headOf meldsOf tilesOf paddingOf handIn answerBy judged readOf widths valuesOf recordOf
 table = (record { read = refl; write = refl }, record { read = refl; write = refl }, record { read = refl; write = refl }, record { read = refl; write = refl }, record { read = refl; write = refl }, record { read = refl; write = refl }, record { read = refl; write = refl }, record { read = refl; write = refl }, record { read = refl; write = refl }, record { read = refl; write = refl })

@@ -33,14 +33,15 @@ pub record IsWin (a : ℕ) (r : List ℕ) : Type 0 where
   pub argument : a ≡ 0
   pub form : wrongForm (length r) (countIn r) ≡ false
 
+-- each win that Next entry gives has such a record
 pub win-record : (log : List ℕ) (at a n : ℕ) → nextOf log at ≡ Entry 1 a n → IsWin a (drop 1 (partOf log at))
 win-record log at a n e = record { argument = next.win-part log at a n e .0; form = next.win-part log at a n e .1 }
 
--- the entries of the walk are Next entry's, one after the other
+-- the walk's entries are those that "Next entry hands back", one after the other
 pub entries-follow : (log : List ℕ) (at k a n : ℕ) → nextOf log at ≡ Entry k a n → entriesFrom log at ≡ entryAt log at k a n ∷ entriesFrom log (at + n)
 entries-follow log at k a n e = laws.entries-turn log at k a n e
 
--- the parts of the walk laid end to end are the walked prefix of the log
+-- "that very part of the log": the parts of the walk laid end to end are the walked prefix of the log
 pub parts-end-to-end : (log : List ℕ) → laid (entriesFrom log 0) ≡ take (stopFrom log 0) log
 parts-end-to-end log = laws.laid-prefix log
 
@@ -50,9 +51,10 @@ pub record Ends (log : List ℕ) : Type 0 where
   pub offset : stopFrom log 0 ≤ length log
   pub entries : length (entriesFrom log 0) ≤ length log
 
+-- of every log
 pub walk-ends : (log : List ℕ) → Ends log
 walk-ends log = record { answer = laws.ends-at log 0; offset = laws.stop-within log; entries = laws.entries-within log }
 
--- a log that never meets 14 is walked whole
+-- a log that meets no "Refusal 14" is walked whole
 pub whole-unless-14 : (log : List ℕ) → (numberOf (nextOf log (stopFrom log 0)) ≡ 14 → ⊥) → laid (entriesFrom log 0) ≡ log
 whole-unless-14 log h = laws.laid-all log h

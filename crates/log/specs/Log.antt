@@ -59,6 +59,6 @@ partBy (Entry kind argument n) log at = take n (drop at log)
 partBy End log at = []
 partBy Bad log at = []
 
--- the part that Next entry hands back at an offset
+-- "Next entry hands back": its part at an offset
 unfoldable pub partOf : List ℕ → ℕ → List ℕ
 partOf log at = partBy (nextOf log at) log at

@@ -1,2 +1,2 @@
 -- The search's fold, passed on (`search/Judged`).
-pub use Rattle.reading.specs.search.Judged.{judged}
+unfoldable pub use Rattle.reading.specs.search.Judged.{judged}

@@ -1,2 +1,2 @@
 -- The search's names, passed on (`search/Readings`).
-pub use Rattle.reading.specs.search.Readings.{when, concatMap, isEmpty, less, fits, without, passes, step, splits, regularOf, placedAt, placed, paired, formed, readings}
+unfoldable pub use Rattle.reading.specs.search.Readings.{when, concatMap, isEmpty, less, fits, without, passes, step, splits, regularOf, placedAt, placed, paired, formed, readings}

@@ -15,7 +15,7 @@ digits-back n = laws.digits-back n
 pub signed-back : (z : ℤ) → signedIn (signedOf z) ≡ z
 signed-back z = laws.signed-back z
 
--- each byte is a digit, 48 to 57
+-- "digit": each byte is one, 48 to 57
 pub digits-are-digits : (n k : ℕ) → k < length (digitsOf n) → (48 ≤ getD (digitsOf n) k 0) × (getD (digitsOf n) k 0 ≤ 57)
 digits-are-digits n k h = laws.digits-are-digits n k h
 

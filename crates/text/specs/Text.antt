@@ -43,10 +43,10 @@ lengthIn buf text = cond (leb (length text) (length buf)) (length text) 0
 abbrev pub bufferWith : List ℕ → List ℕ → List ℕ
 bufferWith buf text = cond (leb (length text) (length buf)) (text ++ drop (length text) buf) buf
 
--- a line in a buffer: how long it is
+-- "the line" in a buffer: how long it is
 unfoldable pub lineLength : List ℕ → ℕ → ℕ → ℕ → List ℤ → ℕ → ℕ
 lineLength buf entry letter refusal scores sticks = lengthIn buf (lineOf entry letter refusal scores sticks)
 
--- and what the buffer then holds
+-- and what the buffer then holds: "bytes past what a call writes stay"
 unfoldable pub lineBuffer : List ℕ → ℕ → ℕ → ℕ → List ℤ → ℕ → List ℕ
 lineBuffer buf entry letter refusal scores sticks = bufferWith buf (lineOf entry letter refusal scores sticks)

@@ -7,7 +7,7 @@ use lib.Dec.{ltb, leb, eqb}
 abbrev pub isNumber : ℕ → Bool
 isNumber k = ltb k 27
 
--- the same by suit: s is 0 for man, 1 for pin, 2 for sou
+-- "0-8 man 1-9, 9-17 pin, 18-26 sou" by suit: s is 0 for man, 1 for pin, 2 for sou
 abbrev pub inSuit : ℕ → ℕ → Bool
 inSuit s k = isNumber k && eqb (k / 9) s
 

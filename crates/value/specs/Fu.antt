@@ -52,7 +52,7 @@ rounded closed n = cond (not closed && eqb ((n + 9) / 10 * 10) 20) 30 ((n + 9) /
 unfoldable pub fuOf : Won → Parts → Bool → ℕ
 fuOf w p yakuman = cond yakuman 0 (cond (eqb (p .form) 1) 25 (rounded (w .closed) (added (earned w p 0))))
 
--- a base alone: all other items are 0
+-- "a base of 25 alone", "only zeros" (02, S-3): all other items are 0
 abbrev pub baseAlone : ℕ → Items
 baseAlone n = record { base = fu n; ron = fu 0; pair = fu 0; g0 = fu 0; g1 = fu 0; g2 = fu 0; g3 = fu 0; wait = fu 0; tsumo = fu 0; rounding = fu 0 }
 

@@ -263,6 +263,18 @@ sets-fill n l h =
     sets-eq l (replicate n 0) 0 (omega (arith, length-replicate {A = ℕ} n 0))
     ∙ rw (zero-add, drop-replicate)
 
+-- n of m fields of one width v, from `at` on: they may be unpacked, and stored in m places they leave zeros after them
+module _ (n m v at : ℕ) (b : List ℕ) (h : n ≤ m) where
+  pub run-room : v < 9 → at + v * n ≤ length b → Below 2 b
+      → (length (take n (replicate m v)) ≤ m) × Below 9 (take n (replicate m v)) × (at + sum (take n (replicate m v)) ≤ length b) × Below 2 b
+  run-room w l t =
+      rw (take-replicate n m v h) (omega (arith, length-replicate {A = ℕ} n v), below-replicate 9 n v w, omega (arith, sum-replicate n v), t)
+
+  pub run-stored : (out : List ℕ) → out ≡ sets (replicate m 0) 0 (unpack (take n (replicate m v)) (drop at b)) → out ≡ fill m (unpack (replicate n v) (drop at b))
+  run-stored out e =
+      rw (take-replicate n m v h) at e
+      ∙ sets-fill m (unpack (replicate n v) (drop at b)) (omega (arith, length-unpack (replicate n v) (drop at b), length-replicate {A = ℕ} n v))
+
 pub below-fill : (b n : ℕ) (l : List ℕ) → Below b l → Below b (fill n l)
 below-fill b n l h = below-append b l (replicate (n - length l) 0) h (below-replicate b (n - length l) 0 (omega (arith, h 0)))
 
