@@ -1,6 +1,6 @@
 -- What a hand is refused for (01, Read, 2 to 5; Write). Each condition has the paper's words.
 use mathlib.Core.Bool.{Bool, _&&_, _||_, cond, not}
-use Prim.Native.Nat.{ℕ, _+_, _-_, _*_}
+use Prim.Native.Nat.{ℕ, _+_, _-_}
 use lib.Dec.{ltb, leb, eqb}
 use lib.ListN.{getD}
 use Rattle.tiles.specs.Below.{all, every, some}

@@ -1,6 +1,6 @@
 // The hand: its fields, the tallies of its tiles, and the refusals 2 to 5 (01, Tiles and the hand record).
 ghost use mathlib.Core.Path.{_≡_};
-ghost use mathlib.Core.Bool.{Bool, true, false, _&&_, _||_, not, cond};
+ghost use mathlib.Core.Bool.{true, false, _&&_, _||_, not, cond};
 ghost use Prim.Native.Nat.{ℕ, _+_, _-_, _*_, _/_, _%_, _≤_, _<_};
 ghost use lib.Dec.{ltb, leb, eqb};
 ghost use lib.ListN.{getD};

@@ -9,7 +9,6 @@ use lib.ListN.{length, take, drop}
 use Rattle.bits.specs.Bits.{sum, Below, bitsOf}
 use Rattle.fields.specs.declared.Hand.{Hand}
 use Rattle.fields.specs.Refusals.{wrongFields, descends, overFour, wrongSituation}
-use Rattle.hand.specs.declared.Written.{Written}
 use Rattle.hand.specs.Record.{lengthOf, padOf, widths, wrongForm, countIn, handIn, paddingOf, numberOf, handOf, soundAs, readOf, writtenOf, bufferOf}
 use Rattle.hand.specs.laws.Claims as laws
 

@@ -1,6 +1,5 @@
 // The hand record: Read and Write (01, Tiles and the hand record). Both take all input.
 ghost use mathlib.Core.Path.{_≡_};
-ghost use mathlib.Core.List.{_++_};
 ghost use Prim.Native.Nat.{_+_, _*_, _≤_};
 ghost use lib.ListN.{length, drop};
 ghost use Rattle.bits.specs.Bits.{pack, unpack, Below, bitsOf, fill};

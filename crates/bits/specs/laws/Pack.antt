@@ -5,7 +5,7 @@ use mathlib.Core.List.{List, [], _∷_, _++_, append-assoc, append-nil}
 use native.Mathlib.Nat.{mod-lt, mod-eq-of-lt, le-of-suc-le-suc, not-suc-le-zero, mod-one, mul-one, zero-mul, div-one, pow-succ', mul-assoc, add-mul, suc-ne-zero, suc-inj, add-zero, add-suc, suc-add, mul-zero, mul-suc, add-comm, zero-add, sub-zero, zero-sub, suc-sub-suc, one-mul, div-lt-iff-lt-mul}
 use native.Mathlib.Numerals.{add-one, one-add, sub-one}
 use native.Mathlib.Omega.{arith}
-use lib.ListN.{length, getD, take, drop, set, replicate, length-append, length-take, length-drop, length-replicate, take-append-drop}
+use lib.ListN.{length, getD, take, drop, set, replicate, length-append, length-drop, length-replicate}
 use lib.Seq.{drop-drop, drop-cons, take-at, drop-at, take-add, length-take-le, getD-drop, sets, sets-eq, take-append-le, drop-append-le, take-length}
 use lib.Pow.{pow-pos, pow-mono, mod-pow-add, shr-shr}
 use Rattle.bits.specs.Bits.{digits, val, pack, unpack, sum, Below, eights, bitsOf, fill, bytesOf}

@@ -1,6 +1,5 @@
 -- `hand::hand_in` meets its contract: what the calls gave is the hand that bits are, or its refusal. Assumes nothing.
 use borrow.Author.Needs.{needs}
-use Prim.Native.Nat.{_+_, _-_, _*_}
 use mathlib.Core.Path.{_≡_, _∙_}
 use native.Mathlib.Omega.{arith}
 use borrow.Author.Tests.{lt-ltb, le-ltb}

@@ -4,7 +4,7 @@ use mathlib.Core.Path.{_≡_, refl, sym, ap, _∙_}
 use mathlib.Core.Bool.{Bool, true, false, cond}
 use mathlib.Core.List.{List, _++_}
 use native.Mathlib.Omega.{arith}
-use borrow.Author.Tests.{ltb-true, ltb-false, le-ltb, lt-ltb}
+use borrow.Author.Tests.{ltb-true, ltb-false}
 use lib.Dec.{ltb}
 use lib.ListN.{length, take, drop}
 use lib.Seq.{take-at}
@@ -14,7 +14,7 @@ use Rattle.fields.specs.Refusals.{wrongFields, descends, overFour, wrongSituati
 use Rattle.hand.specs.declared.HandRead.{HandRead}
 use Rattle.hand.specs.declared.Written.{Written}
 use Rattle.hand.specs.Record.{lengthOf, padOf, widths, wrongForm, countIn, handIn, paddingOf, refusedWith, soundAs, numberOf, handOf, answerBy, judged, readOf, recordOf, writeRefusal, writtenOf, bufferOf}
-use Rattle.hand.specs.laws.Read.{whole, form-of, form-right}
+use Rattle.hand.specs.laws.Read.{whole, form-of}
 use Rattle.hand.specs.laws.Write.{sum-widths, refusal-none, wrote-by}
 use Rattle.hand.specs.laws.Clean.{clean-of, of-clean}
 use Rattle.hand.specs.laws.Round.{ReadAs, as-read, same-bytes, accepted-back, length-record, same-hand, form-is}
