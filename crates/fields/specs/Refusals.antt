@@ -1,6 +1,6 @@
 -- What a hand is refused for (01, Read, 2 to 5; Write). Each condition has the paper's words.
 use mathlib.Core.Bool.{Bool, _&&_, _||_, cond, not}
-use Prim.Native.Nat.{ℕ, _+_, _-_, _*_}
+use Prim.Native.Nat.{ℕ, _+_, _-_}
 use lib.Dec.{ltb, leb, eqb}
 use lib.ListN.{getD}
 use Rattle.tiles.specs.Below.{all, every, some}
@@ -34,10 +34,11 @@ wrongDiscarder f = cond (isRon f) (eqb (f .discarder) (f .winner)) (not (eqb (f 
 unfoldable pub wrongFields : Hand → ℕ → Bool
 wrongFields h padding = tileOver33 h || fieldOver (h .fields) || chiWithoutRun h || ltb 0 padding || wrongDiscarder (h .fields)
 
--- Write's 2: "m over 4, a field too large for its bits, or an unused place not zero". A tile too large for its bits is over 33.
+-- Write's 2: "m over 4, a field too large for its bits". A tile too large for its bits is over 33.
 abbrev pub tooLarge : Fields → Bool
 tooLarge f = ltb 4 (f .m) || ltb 1 (f .how) || ltb 3 (f .winner) || ltb 3 (f .discarder) || ltb 3 (f .riichi) || ltb 7 (f .situation)
 
+-- Write's 2: "or an unused place not zero": a meld from m on, a concealed tile from 13 − 3m on
 unfoldable pub unusedNotZero : Hand → Bool
 unusedNotZero h =
     not (all 4 (λ i. ltb i (h .fields .m) || eqb (getD (h .melds) i 0) 0))
@@ -47,7 +48,7 @@ unusedNotZero h =
 unfoldable pub descends : Hand → Bool
 descends h = some (others h - 1) (λ i. ltb (getD (h .concealed) (i + 1) 0) (getD (h .concealed) i 0))
 
--- "concealed tiles, winning tile, melds and indicator": how many of kind k
+-- 4: "among concealed tiles, winning tile, melds and indicator": how many of kind k
 unfoldable pub inRecord : Hand → ℕ → ℕ
 inRecord h k = inHand h k + at (h .fields .indicator) 1 k
 
@@ -71,22 +72,19 @@ wrongChankan f held = not (isRon f) || ltb 1 held
 abbrev pub wrongFirstTurn : Fields → Bool
 wrongFirstTurn f = isRon f || ltb 0 (f .m) || ltb 0 (f .riichi)
 
--- 5, of a hand that is closed or not, has a kan or not, and holds so many of the winning tile's kind
-abbrev pub situationBy : Fields → Bool → Bool → ℕ → Bool
-situationBy f closed kan held =
-    wrongRiichi f closed
-    || (eqb (f .situation) 1 && wrongRinshan f kan)
-    || (eqb (f .situation) 2 && wrongChankan f held)
-    || (eqb (f .situation) 4 && wrongFirstTurn f)
-
+-- 5, whole: "situation 3 (0 ordinary, 1 rinshan, 2 chankan, 3 last tile, 4 first turn)"
 unfoldable pub wrongSituation : Hand → Bool
-wrongSituation h = situationBy (h .fields) (isClosed h) (hasKan h) (inRecord h (h .fields .winning))
+wrongSituation h =
+    wrongRiichi (h .fields) (isClosed h)
+    || (eqb (h .fields .situation) 1 && wrongRinshan (h .fields) (hasKan h))
+    || (eqb (h .fields .situation) 2 && wrongChankan (h .fields) (inRecord h (h .fields .winning)))
+    || (eqb (h .fields .situation) 4 && wrongFirstTurn (h .fields))
 
 -- "first match wins": 2, 3, 4, 5, or 0 where there is none
 unfoldable pub refusalOf : Hand → ℕ → ℕ
 refusalOf h padding =
     cond (wrongFields h padding) 2 (cond (descends h) 3 (cond (overFour h) 4 (cond (wrongSituation h) 5 0)))
 
--- what Write refuses of a hand, before it looks at the buffer
+-- what Write refuses of a hand before it looks at the buffer: "2 (also m over 4, ..), 3, 4, 5 as above"
 unfoldable pub unwritable : Hand → ℕ
 unwritable h = cond (tooLarge (h .fields) || unusedNotZero h) 2 (refusalOf h 0)

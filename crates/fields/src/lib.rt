@@ -1,6 +1,6 @@
 // The hand: its fields, the tallies of its tiles, and the refusals 2 to 5 (01, Tiles and the hand record).
 ghost use mathlib.Core.Path.{_≡_};
-ghost use mathlib.Core.Bool.{Bool, true, false, _&&_, _||_, not, cond};
+ghost use mathlib.Core.Bool.{true, false, _&&_, _||_, not, cond};
 ghost use Prim.Native.Nat.{ℕ, _+_, _-_, _*_, _/_, _%_, _≤_, _<_};
 ghost use lib.Dec.{ltb, leb, eqb};
 ghost use lib.ListN.{getD};
@@ -9,7 +9,7 @@ ghost use Rattle.tiles.specs.Kinds.{isRunStart};
 ghost use Rattle.tiles.specs.Groups.{at as atKind};
 ghost use Rattle.tiles.specs.Tally.{tallyOf};
 ghost use Rattle.fields.specs.Hand.{eachMeld, someMeld, meldHolds, concealedTally, handTally};
-ghost use Rattle.fields.specs.Refusals.{tileOver33, chiWithoutRun, wrongDiscarder, wrongFields, tooLarge, unusedNotZero, inRecord, situationBy, refusalOf, unwritable as unwritableOf};
+ghost use Rattle.fields.specs.Refusals.{tileOver33, chiWithoutRun, wrongDiscarder, wrongFields, tooLarge, unusedNotZero, inRecord, wrongRiichi, wrongRinshan, wrongChankan, wrongFirstTurn, refusalOf, unwritable as unwritableOf};
 
 // The numbers of a hand, in the record's order: how 0 tsumo, 1 ron; m the meld count.
 #[repr(C)]
@@ -260,7 +260,7 @@ fn has_kan(m: u8, d: [u8; 4]) -> bool
 
 // 5. `held` is how many of the winning tile's kind the tiles of 4 have.
 fn wrong_situation(f: Fields, closed: bool, kan: bool, held: u8) -> bool
-    ensures { λ r. ⌜ r ≡ situationBy f closed kan held ⌝ }
+    ensures { λ r. ⌜ r ≡ (wrongRiichi f closed || (eqb (f .situation) 1 && wrongRinshan f kan) || (eqb (f .situation) 2 && wrongChankan f held) || (eqb (f .situation) 4 && wrongFirstTurn f)) ⌝ }
 {
     let ron = f.how == 1;
     (((0 < f.riichi) & !closed) | ((f.riichi == 2) & (0 < f.m)))

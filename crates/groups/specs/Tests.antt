@@ -9,7 +9,7 @@ use Rattle.tiles.specs.Below.{all, any, count, total}
 use Rattle.tiles.specs.Kinds.{isYaochu, isDragon, isWind}
 use Rattle.tiles.specs.Groups.{isRun, isTriplet}
 
--- the group c is among the four
+-- the group of code c ("run: lowest kind; triplet: 34 + kind") is among the four
 abbrev pub has : List ℕ → ℕ → Bool
 has g c = any 4 (λ i. eqb (getD g i 0) c)
 
@@ -17,11 +17,11 @@ has g c = any 4 (λ i. eqb (getD g i 0) c)
 abbrev pub isValue : ℕ → ℕ → ℕ → Bool
 isValue round own k = isDragon k || eqb k round || eqb k own
 
--- how many dragon triplets
+-- "dragon triplets": how many; 34 + 31 is white's, then hatsu's and chun's
 abbrev pub dragons : List ℕ → ℕ
 dragons g = count 3 (λ d. has g (65 + d))
 
--- how many wind triplets
+-- "wind triplets": how many; 34 + 27 is East's, then South's, West's and North's
 abbrev pub winds : List ℕ → ℕ
 winds g = count 4 (λ w. has g (61 + w))
 
@@ -43,15 +43,15 @@ unfoldable pub pinfu : Bool → List ℕ → ℕ → ℕ → ℕ → ℕ → ℕ
 pinfu closed g pair place win round own =
     closed && all 4 (λ i. isRun (getD g i 0)) && not (earnsWait place (getD g (place - 1) 0) win) && not (isValue round own pair)
 
--- how many of the four groups are c
+-- "a run held twice or thrice": how many of the four groups are c
 abbrev pub held : List ℕ → ℕ → ℕ
 held g c = count 4 (λ i. eqb (getD g i 0) c)
 
--- twin runs: "a run held twice or thrice" is one, "four equal runs" are two
+-- 5, 21: twin runs. "a run held twice or thrice" is one, "four equal runs" are two
 unfoldable pub twins : List ℕ → ℕ
 twins g = total 27 (λ c. held g c / 2)
 
--- c is of man, where the codes of man start at low (0 for runs, 34 for triplets), and the same of pin and of sou are among the four
+-- "in three suits": c is of man, whose codes start at low (0 for runs, 34 for triplets), and the same of pin and of sou are among the four
 unfoldable pub inThreeAt : ℕ → List ℕ → ℕ → Bool
 inThreeAt low g c = leb low c && ltb c (low + 9) && has g (c + 9) && has g (c + 18)
 
@@ -63,7 +63,7 @@ inThreeSuits low g = any 4 (λ i. inThreeAt low g (getD g i 0))
 unfoldable pub straight : List ℕ → Bool
 straight g = any 3 (λ s. has g (9 * s) && has g (9 * s + 3) && has g (9 * s + 6))
 
--- a run from 1 or to 9, or a triplet of yaochu
+-- "yaochu in every group": a run from 1 or to 9, or a triplet of yaochu
 unfoldable pub touches : ℕ → Bool
 touches c = cond (isRun c) (eqb (c % 9) 0 || eqb (c % 9) 6) (isYaochu (c - 34))
 
@@ -79,11 +79,11 @@ triplets g = all 4 (λ i. isTriplet (getD g i 0))
 abbrev pub isConcealed : ℕ → ℕ → Bool
 isConcealed c way = isTriplet c && (eqb way 0 || eqb way 3)
 
--- how many triplets are concealed
+-- 18, 30: "concealed triplets", how many
 unfoldable pub concealed : List ℕ → List ℕ → ℕ
 concealed g ways = count 4 (λ i. isConcealed (getD g i 0) (getD ways i 0))
 
--- how many kans
+-- 19, 31: "kans", how many; the ways 2 and 3
 unfoldable pub kans : List ℕ → ℕ
 kans ways = count 4 (λ i. leb 2 (getD ways i 0))
 

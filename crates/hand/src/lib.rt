@@ -1,10 +1,9 @@
 // The hand record: Read and Write (01, Tiles and the hand record). Both take all input.
 ghost use mathlib.Core.Path.{_≡_};
-ghost use mathlib.Core.List.{_++_};
 ghost use Prim.Native.Nat.{_+_, _*_, _≤_};
 ghost use lib.ListN.{length, drop};
 ghost use Rattle.bits.specs.Bits.{pack, unpack, Below, bitsOf, fill};
-ghost use Rattle.hand.specs.Record.{headOf, meldsOf, sixes, refusedWith, judged, readOf, numberOf, widths, valuesOf, writtenOf, bufferOf, rewrittenOf, rebufferOf};
+ghost use Rattle.hand.specs.Record.{headOf, meldsOf, sixes, refusedWith, judged, readOf, numberOf, widths, valuesOf, writtenOf, bufferOf};
 use fields::Fields;
 use fields::Hand;
 
@@ -209,27 +208,4 @@ pub fn write(h: Hand, buf: &mut [u8]) -> Written
     let ew = [8u8; 13];
     bits::unpack_into(&ew[..n], &b, 0, buf);
     Written { refusal: 0, len: n }
-}
-
-// A record read and written back into a buffer; what does not read is refused with Read's number.
-pub fn rewrite(s: &[u8], buf: &mut [u8]) -> Written
-    ensures { λ r. ⌜ r ≡ rewrittenOf (now (s .entry)) (now (buf .entry)) ⌝ }
-    ensures { λ _. ⌜ now (buf .exit) ≡ rebufferOf (now (s .entry)) (now (buf .entry)) ⌝ }
-{
-    let r = read(s);
-    let a = r.answer;
-    let Answer::Sound(f) = a else {
-        return Written {
-            refusal: why(a),
-            len: 0,
-        };
-    };
-    let melds = r.melds;
-    let concealed = r.concealed;
-    let h = Hand {
-        fields: f,
-        melds,
-        concealed,
-    };
-    write(h, buf)
 }

@@ -12,9 +12,11 @@ use Rattle.log.specs.declared.Next.the-variants.{Entry, End, Bad}
 abbrev pub kindAt : List ℕ → ℕ → ℕ
 kindAt log at = getD log at 0 / 16
 
+-- "argument 4"
 abbrev pub argumentAt : List ℕ → ℕ → ℕ
 argumentAt log at = getD log at 0 % 16
 
+-- "1 win"
 abbrev pub isWin : List ℕ → ℕ → Bool
 isWin log at = eqb (kindAt log at) 1
 
@@ -30,7 +32,7 @@ recordsFrom log at = drop (at + 1) log
 unfoldable pub isBad : List ℕ → ℕ → Bool
 isBad log at = ltb 3 (kindAt log at) || (isWin log at && (not (eqb (argumentAt log at) 0) || isBroken (recordsFrom log at)))
 
--- an entry's header and, of a win, its record
+-- how many bytes an entry has: its header and, of a win, "its record follows"
 unfoldable pub entryLength : List ℕ → ℕ → ℕ
 entryLength log at = cond (isWin log at) (lengthOf (countIn (recordsFrom log at)) + 1) 1
 
@@ -39,12 +41,13 @@ unfoldable pub nextOf : List ℕ → ℕ → Next
 nextOf log at =
     cond (leb (length log) at) End (cond (isBad log at) Bad (Entry (kindAt log at) (argumentAt log at) (entryLength log at)))
 
--- what an answer is in the paper's terms: its number, whether it is "end", and its part
+-- the number of an answer: "Refusal 14", else 0
 abbrev pub numberOf : Next → ℕ
 numberOf (Entry kind argument n) = 0
 numberOf End = 0
 numberOf Bad = 14
 
+-- it says "end"
 abbrev pub isEnd : Next → Bool
 isEnd (Entry kind argument n) = false
 isEnd End = true
@@ -56,9 +59,6 @@ partBy (Entry kind argument n) log at = take n (drop at log)
 partBy End log at = []
 partBy Bad log at = []
 
+-- "Next entry hands back": its part at an offset
 unfoldable pub partOf : List ℕ → ℕ → List ℕ
 partOf log at = partBy (nextOf log at) log at
-
--- the length of the record that bytes start with, 0 where there is no whole one
-unfoldable pub recordLength : List ℕ → ℕ
-recordLength s = cond (isBroken s) 0 (lengthOf (countIn s))

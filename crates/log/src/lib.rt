@@ -3,7 +3,8 @@ ghost use mathlib.Core.Path.{_≡_};
 ghost use Prim.Native.Nat.{_+_, _≤_};
 ghost use lib.ListN.{length, drop};
 ghost use Rattle.hand.specs.Record.{countIn};
-ghost use Rattle.log.specs.Log.{recordLength, nextOf, partOf};
+ghost use Rattle.log.specs.Log.{nextOf, partOf};
+ghost use Rattle.log.specs.laws.Next.{recordLength};
 
 const LENGTHS: [usize; 5] = [13, 12, 11, 10, 8];
 

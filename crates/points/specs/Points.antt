@@ -8,9 +8,6 @@ use lib.Dec.{eqb, leb, ltb}
 use Rattle.tiles.specs.Below.{sum, table}
 use Rattle.points.specs.declared.Seats.{Seats}
 
-abbrev pub seats : ℕ → ℕ → ℕ → Seats
-seats winner dealer discarder = record { winner = winner; dealer = dealer; discarder = discarder }
-
 -- "A = fu times 2 to the (h + 2)"
 unfoldable pub plain : ℕ → ℕ → ℕ
 plain h fu = fu * 2 ^ (h + 2)
@@ -38,7 +35,7 @@ share s ron seat =
     (cond ron (cond (eqb (s .discarder) seat) (cond (eqb (s .winner) (s .dealer)) 6 4) 0)
     (cond (eqb (s .winner) (s .dealer) || eqb (s .dealer) seat) 2 1))
 
--- what a seat pays
+-- "Each payment": what a seat pays
 unfoldable pub pays : Seats → Bool → ℕ → ℕ → ℕ
 pays s ron a seat = hundreds (share s ron seat * a)
 
@@ -46,13 +43,14 @@ pays s ron a seat = hundreds (share s ron seat * a)
 unfoldable pub gain : Seats → Bool → ℕ → ℕ
 gain s ron a = sum 4 (pays s ron a)
 
--- what a seat gets (the winner) or pays
+-- one of the "four changes" (01, Score): what the winner gets, or what another seat pays
 unfoldable pub change : Seats → Bool → ℕ → ℕ → ℤ
 change s ron a seat = cond (eqb (s .winner) seat) (pos (gain s ron a)) (pos 0 -ℤ pos (pays s ron a seat))
 
--- the "four changes"
+-- the "four changes", of seats 0 to 3
 unfoldable pub changes : Seats → Bool → ℕ → List ℤ
 changes s ron a = table 4 0 (change s ron a)
 
+-- "four changes summing to 0": their sum
 abbrev pub sumOfFour : List ℤ → ℤ
 sumOfFour l = getD l 0 (pos 0) +ℤ getD l 1 (pos 0) +ℤ getD l 2 (pos 0) +ℤ getD l 3 (pos 0)

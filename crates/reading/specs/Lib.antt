@@ -1,12 +1,10 @@
 -- Reading   what a reading is
 -- Order     which reading comes before which
--- Readings  the list of all readings
--- Judged    what a judge keeps of them
--- Claims    the list is complete and in order
--- laws      what is proved of them; a reader of the meaning needs none of it
+-- Claims    the list that the search meets is complete and in order
+-- search    how the code finds the readings: the list `readings`, and the fold `judged` over it
+-- laws      what is proved of them; a reader of the meaning needs neither search nor laws
 pub mod Reading
 pub mod Order
-pub mod Readings
-pub mod Judged
+pub mod search
 pub mod Claims
 pub mod laws

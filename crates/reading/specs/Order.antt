@@ -5,7 +5,7 @@ use mathlib.Core.List.{List, [], _∷_, _++_}
 use Prim.Native.Nat.{ℕ, _<_}
 use Rattle.reading.specs.declared.Reading.{Reading}
 
--- lists of one length, by the first number that differs
+-- "compare .. as a list": lists of one length, by the first number that differs
 abbrev pub Lex : List ℕ → List ℕ → Type 0
 Lex [] y = ⊥
 Lex (a ∷ x) [] = ⊥
@@ -15,15 +15,16 @@ Lex (a ∷ x) (b ∷ y) = (a < b) ⊎ ((a ≡ b) × Lex x y)
 abbrev pub keyOf : Reading → List ℕ
 keyOf r = r .form ∷ r .pair ∷ (r .groups ++ (r .place ∷ []))
 
+-- "Order": a comes before b
 abbrev pub Before : Reading → Reading → Type 0
 Before a b = Lex (keyOf a) (keyOf b)
 
--- P of each element of a list
+-- P of each element of a list: a tool for `Pairwise`
 pub data Each {A : Type 0} (P : A → Type 0) : List A → Type 0 where
   none : Each P []
   also : {x : A} {xs : List A} → P x → Each P xs → Each P (x ∷ xs)
 
--- R between each element of a list and each later one
+-- a list in order: R between each element and each later one
 pub data Pairwise {A : Type 0} (R : A → A → Type 0) : List A → Type 0 where
   ended : Pairwise R []
   first : {x : A} {xs : List A} → Each (R x) xs → Pairwise R xs → Pairwise R (x ∷ xs)

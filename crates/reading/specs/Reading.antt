@@ -10,7 +10,7 @@ use Rattle.tiles.specs.Kinds.{isYaochu}
 use Rattle.tiles.specs.Groups.{isGroup, at, uses}
 use Rattle.reading.specs.declared.Reading.{Reading}
 
--- how many tiles of kind k the groups have together
+-- "using every tile exactly once": how many tiles of kind k the groups have together
 unfoldable pub usedBy : List ℕ → ℕ → ℕ
 usedBy [] k = 0
 usedBy (g ∷ gs) k = uses g k + usedBy gs k
@@ -47,17 +47,17 @@ unfoldable pub isOrphans : List ℕ → Bool
 isOrphans t =
     every 34 (λ k. cond (isYaochu k) (eqb (getD t k 0) 1 || eqb (getD t k 0) 2) (eqb (getD t k 0) 0)) && eqb (number 34 (λ k. eqb (getD t k 0) 2)) 1
 
--- a form without groups: no pair, no group, no place
+-- "seven pairs", "thirteen orphans": the reading without pair (34), groups (68) and place, of form 1 or 2
 abbrev pub ofForm : ℕ → Reading
 ofForm f = record { form = f; pair = 34; groups = 68 ∷ 68 ∷ 68 ∷ 68 ∷ []; place = 0 }
 
--- "seven pairs: m = 0, ..."
+-- "seven pairs: m = 0, seven different kinds"
 pub record IsSevenPairs (t : List ℕ) (m : ℕ) (r : Reading) : Type 0 where
   pub closed : m ≡ 0
   pub kinds : isSevenPairs t ≡ true
   pub reading : r ≡ ofForm 1
 
--- "thirteen orphans: m = 0, ..."
+-- "thirteen orphans: m = 0, all 13 yaochu kinds, one twice"
 pub record IsOrphans (t : List ℕ) (m : ℕ) (r : Reading) : Type 0 where
   pub closed : m ≡ 0
   pub kinds : isOrphans t ≡ true

@@ -6,7 +6,7 @@ ghost use Prim.Native.Nat.{_<_, _≤_};
 ghost use lib.ListN.{getD};
 ghost use Rattle.tiles.specs.Groups.{isGroup};
 ghost use Rattle.reading.specs.Reading.{holds as holdsOf, isSevenPairs, isOrphans, ofForm};
-ghost use Rattle.reading.specs.Readings.{isEmpty, less, fits as fitsOf, without as withoutOf, passes as passesOf};
+ghost use Rattle.reading.specs.search.Readings.{isEmpty, less, fits as fitsOf, without as withoutOf, passes as passesOf};
 
 // A reading: form 0 regular, 1 seven pairs, 2 thirteen orphans. groups: the 4 - m codes in order, then 68 in each place that a meld takes. A form
 // without a pair has pair 34; place 0 is the pair, i + 1 the group at i.

@@ -6,7 +6,7 @@ use lib.Dec.{ltb, leb}
 use lib.ListN.{length, getD, drop}
 use lib.IntN.{ℤ, pos, negsuc}
 
--- the last k digits of n, or all where it has fewer: those of a tenth of n, then n % 10
+-- the last k digits of n, or all where it has fewer: "digit printer recurses on the number divided by ten", then n % 10
 unfoldable pub lastDigits : ℕ → ℕ → List ℕ
 lastDigits zero n = []
 lastDigits (suc k) n = cond (ltb n 10) [] (lastDigits k (n / 10)) ++ ((48 + n % 10) ∷ [])
@@ -26,7 +26,7 @@ joined [] = 10 ∷ []
 joined (f ∷ []) = f ++ (10 ∷ [])
 joined (f ∷ g ∷ fs) = f ++ (32 ∷ joined (g ∷ fs))
 
--- the score of a seat
+-- "scores of seats 0 to 3": that of a seat, as text
 abbrev pub scoreOf : List ℤ → ℕ → List ℕ
 scoreOf scores seat = signedOf (getD scores seat (pos 0))
 
@@ -35,7 +35,7 @@ unfoldable pub lineOf : ℕ → ℕ → ℕ → List ℤ → ℕ → List ℕ
 lineOf entry letter refusal scores sticks =
     joined (digitsOf entry ∷ (letter ∷ []) ∷ digitsOf refusal ∷ scoreOf scores 0 ∷ scoreOf scores 1 ∷ scoreOf scores 2 ∷ scoreOf scores 3 ∷ digitsOf sticks ∷ [])
 
--- a text written at the start of a buffer, if there is room for it: how long it is, 0 if there is not
+-- a text written at the start of a buffer: how long it is, or 0 where the buffer has no room for it (the papers leave this free)
 abbrev pub lengthIn : List ℕ → List ℕ → ℕ
 lengthIn buf text = cond (leb (length text) (length buf)) (length text) 0
 
@@ -43,8 +43,10 @@ lengthIn buf text = cond (leb (length text) (length buf)) (length text) 0
 abbrev pub bufferWith : List ℕ → List ℕ → List ℕ
 bufferWith buf text = cond (leb (length text) (length buf)) (text ++ drop (length text) buf) buf
 
+-- "the line" in a buffer: how long it is
 unfoldable pub lineLength : List ℕ → ℕ → ℕ → ℕ → List ℤ → ℕ → ℕ
 lineLength buf entry letter refusal scores sticks = lengthIn buf (lineOf entry letter refusal scores sticks)
 
+-- and what the buffer then holds: "bytes past what a call writes stay"
 unfoldable pub lineBuffer : List ℕ → ℕ → ℕ → ℕ → List ℤ → ℕ → List ℕ
 lineBuffer buf entry letter refusal scores sticks = bufferWith buf (lineOf entry letter refusal scores sticks)

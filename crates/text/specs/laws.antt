@@ -3,3 +3,4 @@ pub mod Back
 pub mod Put
 pub mod Size
 pub mod Elem
+pub mod Examples

@@ -1,4 +1,4 @@
--- Tests, counts and sums over the numbers below n. They compute at a numeral.
+-- Tests, counts and sums over the numbers below n: tools for lists and tables, no rule of the game. They compute at a numeral.
 use mathlib.Core.Bool.{Bool, true, false, _&&_, _||_, cond}
 use mathlib.Core.List.{List, [], _∷_}
 use Prim.Native.Nat.{ℕ, zero, suc, _+_}
@@ -28,15 +28,19 @@ abbrev pub table {ℓ} : {A : Type ℓ} → ℕ → ℕ → (ℕ → A) → List
 table zero i f = []
 table (suc n) i f = f i ∷ table n (suc i) f
 
--- The same under names that stay shut until a proof opens them: for ranges such as the 34 kinds.
+-- The same four under names that stay shut until a proof opens them, for ranges such as the 34 kinds.
+-- `all`: p at each k below n
 unfoldable pub every : ℕ → (ℕ → Bool) → Bool
 every n p = all n p
 
+-- `any`: p at some k below n
 unfoldable pub some : ℕ → (ℕ → Bool) → Bool
 some n p = any n p
 
+-- `count`: how many k below n have p
 unfoldable pub number : ℕ → (ℕ → Bool) → ℕ
 number n p = count n p
 
+-- `sum`: the sum of f below n
 unfoldable pub total : ℕ → (ℕ → ℕ) → ℕ
 total n f = sum n f

@@ -1,19 +1,8 @@
--- A tally: how many tiles there are of each of the 34 kinds (01, Readings: "the tally of all 34 kinds").
-use mathlib.Core.List.{List, [], _∷_}
-use Prim.Native.Nat.{ℕ, _+_}
-use lib.ListN.{getD, set}
+-- A tally: how many tiles there are of each of the 34 kinds.
+use mathlib.Core.List.{List}
+use Prim.Native.Nat.{ℕ}
 use Rattle.tiles.specs.Below.{table}
-use Rattle.tiles.specs.Groups.{at}
 
--- f k tiles of kind k
+-- "the tally of all 34 kinds" (01, Readings): f k tiles of kind k
 unfoldable pub tallyOf : (ℕ → ℕ) → List ℕ
 tallyOf f = table 34 0 f
-
--- n more tiles of kind k; what is no kind is not counted
-unfoldable pub more : List ℕ → ℕ → ℕ → List ℕ
-more t k n = set t k (getD t k 0 + n)
-
--- how many of the tiles of a list are of kind k
-unfoldable pub held : List ℕ → ℕ → ℕ
-held [] k = 0
-held (x ∷ l) k = at x 1 k + held l k

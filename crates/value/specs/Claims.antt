@@ -1,30 +1,43 @@
--- What holds of every value. Assumes nothing.
+-- What holds of every value (01, Yaku; Fu and points). Assumes nothing.
 use mathlib.Core.Path.{_≡_, refl}
-use mathlib.Core.Bool.{true}
-use Prim.Native.Nat.{ℕ}
+use mathlib.Core.Bool.{Bool, true, cond}
+use mathlib.Core.List.{List, [], _∷_}
+use Prim.Native.Nat.{ℕ, _-_}
+use lib.Dec.{eqb}
+use lib.ListN.{length, getD}
+use Rattle.tiles.specs.Below.{any, table}
+use Rattle.yaku.specs.Yaku.{closedOnly}
 use Rattle.yaku.specs.declared.Won.{Won}
 use Rattle.yaku.specs.declared.Parts.{Parts}
-use Rattle.points.specs.Points.{basic}
 use Rattle.points.specs.declared.Seats.{Seats}
-use Rattle.value.specs.Han.{hanOf}
-use Rattle.value.specs.Fu.{added, fuOf, itemsOf}
+use Rattle.value.specs.Han.{closedHan, openHan}
+use Rattle.value.specs.Fu.{added, itemsOf}
 use Rattle.value.specs.Value.{yakuman, valueOf}
-use Rattle.value.specs.laws.Items.{added-is-fu}
+use Rattle.value.specs.laws.Claims as laws
+
+-- the yaku marked "−1": "2−1", "3−1", "6−1"
+abbrev lessOpen : List ℕ
+lessOpen = 13 ∷ 14 ∷ 15 ∷ 22 ∷ 23 ∷ 25 ∷ []
+
+-- n is among the numbers of a list
+abbrev among : List ℕ → ℕ → Bool
+among l n = any (length l) (λ i. eqb (getD l i 0) n)
+
+-- the han of an open hand are those of a closed one: none where a yaku is "closed only", "one less when open" at "−1", and else the same
+pub open-han : openHan ≡ table 37 0 (λ n. cond (among closedOnly n) 0 (getD closedHan n 0 - cond (among lessOpen n) 1 0))
+open-han = refl
 
 module _ (w : Won) (p : Parts) (dora : ℕ) (s : Seats) where
-  -- the items of fu add up to the fu reported
+  -- "The items add up to the fu reported" (02, S-3)
   pub items-add-up : added (itemsOf w p (yakuman w p)) ≡ valueOf w p dora s .fu .0
-  unfolding valueOf
-  items-add-up = added-is-fu w p (yakuman w p)
+  items-add-up = laws.items-add-up w p dora s
 
   -- dora "is no yaku"
   pub dora-is-no-yaku : (other : ℕ) → valueOf w p other s .yaku ≡ valueOf w p dora s .yaku
-  unfolding valueOf
-  dora-is-no-yaku other = refl
+  dora-is-no-yaku other = laws.dora-is-no-yaku w p dora s other
 
-  -- with a yakuman "h and fu are 0, and several pay as one": 8,000
+  -- with a yakuman "h and fu are 0, and several pay as one"; "Yakuman 8,000"
   pub yakuman-pays-as-one :
       yakuman w p ≡ true →
       (valueOf w p dora s .han .0 ≡ 0) × (valueOf w p dora s .fu .0 ≡ 0) × (valueOf w p dora s .basic .0 ≡ 8000)
-  unfolding valueOf hanOf fuOf basic
-  yakuman-pays-as-one e = (rw e, rw e, rw e)
+  yakuman-pays-as-one e = laws.yakuman-pays-as-one w p dora s e

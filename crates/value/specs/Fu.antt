@@ -11,6 +11,7 @@ use Rattle.yaku.specs.declared.Parts.{Parts}
 use Rattle.points.specs.declared.Fu.{Fu}
 use Rattle.value.specs.declared.Items.{Items}
 
+-- "Han, fu and points are the rules' three units": n fu
 abbrev pub fu : ℕ → Fu
 fu n = record { 0 = n }
 
@@ -18,11 +19,12 @@ fu n = record { 0 = n }
 unfoldable pub tripletFu : ℕ → ℕ
 tripletFu way = cond (eqb way 0) 4 (cond (eqb way 1) 2 (cond (eqb way 2) 8 16))
 
--- a triplet of yaochu twice that, and a run nothing
+-- "simple/yaochu": a triplet of yaochu twice that, and a run nothing
 unfoldable pub groupFu : ℕ → ℕ → ℕ
 groupFu c way = cond (isTriplet c) (cond (isYaochu (c - 34)) (2 * tripletFu way) (tripletFu way)) 0
 
--- the items of a regular reading, with what rounding adds
+-- the items of a regular reading, with what rounding adds: "20; closed ron +10; value pair 2 (double wind also 2); triplets ..;
+-- wait on pair, middle of a run, 3 of 123 or 7 of 789: 2; tsumo 2, none with pinfu"
 unfoldable pub earned : Won → Parts → ℕ → Items
 earned w p rounding = record {
   base = fu 20;
@@ -37,7 +39,7 @@ earned w p rounding = record {
   rounding = fu rounding;
 }
 
--- the sum of the items
+-- the sum of the items: "The items add up to the fu reported" (02, S-3)
 unfoldable pub added : Items → ℕ
 added i =
     i .base .0 + i .ron .0 + i .pair .0 + i .g0 .0 + i .g1 .0 + i .g2 .0 + i .g3 .0 + i .wait .0 + i .tsumo .0 + i .rounding .0
@@ -50,22 +52,11 @@ rounded closed n = cond (not closed && eqb ((n + 9) / 10 * 10) 20) 30 ((n + 9) /
 unfoldable pub fuOf : Won → Parts → Bool → ℕ
 fuOf w p yakuman = cond yakuman 0 (cond (eqb (p .form) 1) 25 (rounded (w .closed) (added (earned w p 0))))
 
--- a base alone
+-- "a base of 25 alone", "only zeros" (02, S-3): all other items are 0
 abbrev pub baseAlone : ℕ → Items
-baseAlone n = record {
-  base = fu n;
-  ron = fu 0;
-  pair = fu 0;
-  g0 = fu 0;
-  g1 = fu 0;
-  g2 = fu 0;
-  g3 = fu 0;
-  wait = fu 0;
-  tsumo = fu 0;
-  rounding = fu 0;
-}
+baseAlone n = record { base = fu n; ron = fu 0; pair = fu 0; g0 = fu 0; g1 = fu 0; g2 = fu 0; g3 = fu 0; wait = fu 0; tsumo = fu 0; rounding = fu 0 }
 
--- the items of any reading: "what rounding added (an open 20's ten too)"; "seven pairs having a base of 25 alone and yakuman only zeros"
+-- the items of any reading (02, S-3): "what rounding added (an open 20's ten too)"; "seven pairs having a base of 25 alone and yakuman only zeros"
 unfoldable pub itemsOf : Won → Parts → Bool → Items
 itemsOf w p yakuman =
     cond yakuman (baseAlone 0)

@@ -1,4 +1,4 @@
--- What a reading is worth.
+-- What a reading is worth (01, Fu and points).
 use mathlib.Core.Bool.{Bool}
 use Prim.Native.Nat.{ℕ}
 use Rattle.yaku.specs.Yaku.{yakuOf, isYakuman}
@@ -10,15 +10,15 @@ use Rattle.value.specs.Han.{hanOf}
 use Rattle.value.specs.Fu.{fuOf}
 use Rattle.value.specs.declared.Value.{Value}
 
--- a yakuman is among the yaku of the reading
+-- "With a yakuman": one is among the yaku of the reading
 abbrev pub yakuman : Won → Parts → Bool
 yakuman w p = isYakuman (yakuOf w p)
 
--- the basic points A
+-- "A" of the reading
 abbrev pub basicOf : Won → Parts → ℕ → ℕ
 basicOf w p dora = basic (yakuman w p) (hanOf w p dora (yakuman w p)) (fuOf w p (yakuman w p))
 
--- the yaku, h, fu, A, and what the winner gains
+-- "h, fu, yaku set" of the reading, A, and "the winner's gain"
 unfoldable pub valueOf : Won → Parts → ℕ → Seats → Value
 valueOf w p dora s = record {
   yaku = yakuOf w p;

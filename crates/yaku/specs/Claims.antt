@@ -1,38 +1,27 @@
--- What holds of the yaku of every reading. Assumes nothing.
-use mathlib.Core.Path.{_≡_, refl}
+-- What holds of the yaku of every reading (01, Yaku). Assumes nothing.
+use mathlib.Core.Path.{_≡_}
 use mathlib.Core.Bool.{true, false, _&&_, not}
-use mathlib.Core.List.{List, [], _∷_}
 use Prim.Native.Nat.{ℕ, _<_}
-use borrow.Author.Tests.{not-true}
 use lib.ListN.{getD}
-use Rattle.tiles.specs.Below.{all, every}
-use Rattle.tiles.specs.laws.Below.{every-at}
-use Rattle.groups.specs.Tests.{twins, pinfu}
-use Rattle.yaku.specs.Yaku.{testsOf, isYakuman, listed, yakuOf}
+use Rattle.tiles.specs.Below.{all}
+use Rattle.yaku.specs.Yaku.{closedOnly, testsOf, isYakuman, yakuOf}
 use Rattle.yaku.specs.declared.Won.{Won}
 use Rattle.yaku.specs.declared.Parts.{Parts}
-use Rattle.yaku.specs.laws.Lists.{not-both}
-
--- the yaku marked "c"
-abbrev closedOnly : List ℕ
-closedOnly = 1 ∷ 4 ∷ 5 ∷ 10 ∷ 11 ∷ 12 ∷ 21 ∷ 30 ∷ []
+use Rattle.yaku.specs.laws.Claims as laws
 
 module _ (w : Won) (p : Parts) where
   -- "c" closed only
   pub closed-only : w .closed ≡ false → all 8 (λ i. not (getD (testsOf w p) (getD closedOnly i 0) false)) ≡ true
-  unfolding testsOf pinfu
-  closed-only e = rw e
+  closed-only e = laws.closed-only w p e
 
-  -- 21 "instead of 5", 11 "instead of 10"
+  -- 21 "instead of 5"
   pub not-both-twins : getD (testsOf w p) 5 false && getD (testsOf w p) 21 false ≡ false
-  unfolding testsOf
-  not-both-twins = not-both (w .closed) (twins (p .groups)) 1 2 refl
+  not-both-twins = laws.not-both-twins w p
 
+  -- 11 "instead of 10"
   pub not-both-riichi : getD (testsOf w p) 10 false && getD (testsOf w p) 11 false ≡ false
-  unfolding testsOf
-  not-both-riichi = not-both (w .closed) (w .riichi) 1 2 refl
+  not-both-riichi = laws.not-both-riichi w p
 
   -- "With a yakuman only yakuman are listed"
   pub yakuman-alone : isYakuman (testsOf w p) ≡ true → (n : ℕ) → n < 26 → getD (yakuOf w p) n false ≡ false
-  unfolding yakuOf listed every
-  yakuman-alone e n h = not-true _ (every-at (λ i. not (getD (yakuOf w p) i false)) 26 n (rw e) h)
+  yakuman-alone e n h = laws.yakuman-alone w p e n h

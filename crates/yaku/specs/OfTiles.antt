@@ -8,7 +8,7 @@ use Rattle.tiles.specs.Below.{all, any, every}
 use Rattle.tiles.specs.Kinds.{isNumber, inSuit, isHonour, isTerminal, isYaochu, isSimple}
 use Rattle.yaku.specs.declared.TileTests.{TileTests}
 
--- each tile has p
+-- "all simples", "only yaochu", "honours only": each tile has p
 unfoldable pub only : List ℕ → (ℕ → Bool) → Bool
 only t p = every 34 (λ k. eqb (getD t k 0) 0 || p k)
 
@@ -28,7 +28,7 @@ flush t = any 3 (λ s. only t (inSuit s))
 abbrev pub isGreen : ℕ → Bool
 isGreen k = eqb k 19 || eqb k 20 || eqb k 21 || eqb k 23 || eqb k 25 || eqb k 32
 
--- three of its 1 and of its 9, one of each between
+-- "one suit's 1112345678999": three of its 1 and of its 9, one of each between, or more
 abbrev pub gatesOf : List ℕ → ℕ → Bool
 gatesOf t s = all 9 (λ i. leb (cond (eqb (i % 8) 0) 3 1) (getD t (9 * s + i) 0))
 
@@ -36,7 +36,7 @@ gatesOf t s = all 9 (λ i. leb (cond (eqb (i % 8) 0) 3 1) (getD t (9 * s + i) 0)
 unfoldable pub gates : List ℕ → Bool → Bool
 gates t bare = bare && any 3 (λ s. only t (inSuit s) && gatesOf t s)
 
--- all of these at once, the same in every reading of a hand
+-- all of these at once, 2, 15, 20, 23, 25 and 32 to 35: the same in every reading of a hand, so that the code tests them once
 unfoldable pub tileTestsOf : List ℕ → Bool → TileTests
 tileTestsOf t bare = record {
   simples = only t isSimple;

@@ -11,11 +11,15 @@ use Rattle.groups.specs.Tests.{littleDragons, valueHan, pinfu, twins, inThreeSu
 use Rattle.yaku.specs.declared.Won.{Won}
 use Rattle.yaku.specs.declared.Parts.{Parts}
 
--- how many han yaku 3 counts
+-- the yaku marked "c": "closed only"
+abbrev pub closedOnly : List ℕ
+closedOnly = 1 ∷ 4 ∷ 5 ∷ 10 ∷ 11 ∷ 12 ∷ 21 ∷ 30 ∷ []
+
+-- 3 "value triplet 1 each": how many han it counts
 abbrev pub valueHanOf : Won → Parts → ℕ
 valueHanOf w p = valueHan (p .groups) (w .round) (w .own) (littleDragons (p .groups) (p .pair))
 
--- each of the 36, whatever the others say
+-- each of the 36 (01, Yaku), whatever the others say; "c" is `w .closed`
 unfoldable pub testsOf : Won → Parts → List Bool
 testsOf w p =
     false
@@ -93,7 +97,7 @@ testsOf w p =
     ∷ eqb (p .form) 2
     ∷ []
 
--- a yakuman, 26 to 36, is among them
+-- "Yakuman: 26 .. 36": one is among them
 unfoldable pub isYakuman : List Bool → Bool
 isYakuman y = any 11 (λ i. getD y (26 + i) false)
 
@@ -101,10 +105,10 @@ isYakuman y = any 11 (λ i. getD y (26 + i) false)
 unfoldable pub listed : List Bool → List Bool
 listed y = cond (isYakuman y) (table 37 0 (λ n. leb 26 n && getD y n false)) y
 
--- the yaku of a reading
+-- the "yaku set" of a reading (01, Score)
 unfoldable pub yakuOf : Won → Parts → List Bool
 yakuOf w p = listed (testsOf w p)
 
--- a yaku is listed
+-- "with a yaku": one is listed
 unfoldable pub hasYaku : List Bool → Bool
 hasYaku y = some 37 (λ n. getD y n false)

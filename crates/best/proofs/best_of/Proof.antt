@@ -4,7 +4,7 @@ use mathlib.Core.Logic.{⊎-elim}
 use Prim.Native.Nat.{_-_, _≤_}
 use native.Mathlib.Omega.{arith}
 use borrow.Author.Needs.{needs}
-use Rattle.reading.specs.Readings.{paired}
+use Rattle.reading.specs.search.Readings.{paired}
 use Rattle.reading.specs.laws.Fold.{ranged, ranged-turn, ranged-done, paired-with, paired-none, readings-with}
 use Rattle.best.specs.search.Best.{judgeOf, bestOf}
 use Rattle.best.proofs.best_of.Statement.{statement}

@@ -7,8 +7,8 @@ use native.Mathlib.Omega.{arith}
 use borrow.Author.Needs.{needs}
 use Rattle.reading.specs.declared.Reading.{Reading}
 use Rattle.reading.specs.Reading.{isSevenPairs, ofForm}
-use Rattle.reading.specs.Judged.{judged}
-use Rattle.reading.specs.Readings.{when}
+use Rattle.reading.specs.search.Judged.{judged}
+use Rattle.reading.specs.search.Readings.{when}
 use Rattle.reading.specs.laws.Fold.{judged-with, judged-none, formed-with, formed-none}
 use Rattle.best.specs.search.Best.{judgeOf}
 use Rattle.best.proofs.forms.Statement.{statement}

@@ -4,8 +4,8 @@ use mathlib.Core.Logic.{⊎-elim}
 use Prim.Native.Nat.{_+_, _-_, _≤_}
 use native.Mathlib.Omega.{arith}
 use borrow.Author.Needs.{needs}
-use Rattle.reading.specs.Judged.{judged}
-use Rattle.reading.specs.Readings.{placedAt, placed}
+use Rattle.reading.specs.search.Judged.{judged}
+use Rattle.reading.specs.search.Readings.{placedAt, placed}
 use Rattle.reading.specs.laws.Fold.{ranged, ranged-turn, ranged-done, placed-all, judged-with, judged-none}
 use Rattle.best.specs.search.Best.{judgeOf}
 use Rattle.best.proofs.places.Statement.{statement}

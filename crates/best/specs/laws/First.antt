@@ -10,7 +10,7 @@ use borrow.Author.Tests.{ltb-true, ltb-false, eqb-true, eqb-false}
 use lib.Dec.{ltb, eqb}
 use Rattle.reading.specs.declared.Reading.{Reading}
 use Rattle.reading.specs.Order.{Lex, Before, Each, none, also, Pairwise, ended, first}
-use Rattle.reading.specs.Judged.{judged}
+use Rattle.reading.specs.search.Judged.{judged}
 use Rattle.reading.specs.laws.Lists.{each-member}
 use Rattle.yaku.specs.Yaku.{hasYaku}
 use Rattle.value.specs.declared.Value.{Value}

@@ -6,8 +6,8 @@ use Prim.Native.Nat.{ℕ, _<_}
 use lib.Dec.{ltb, eqb}
 use lib.ListN.{replicate}
 use Rattle.reading.specs.declared.Reading.{Reading}
-use Rattle.reading.specs.Readings.{readings}
-use Rattle.reading.specs.Judged.{judged}
+use Rattle.reading.specs.search.Readings.{readings}
+use Rattle.reading.specs.search.Judged.{judged}
 use Rattle.yaku.specs.OfTiles.{tileTestsOf}
 use Rattle.value.specs.declared.Value.{Value}
 use Rattle.best.specs.declared.Table.{Table}

@@ -1,15 +1,14 @@
+-- `bits::gather` meets its contract: what is left to read, after what was read, gives the whole. Assumes nothing.
 use borrow.Author.Needs.{needs}
-use Prim.Native.Nat.{ℕ, _+_, _-_, _*_, _<_, _≤_, _^_}
+use Prim.Native.Nat.{_+_, _-_, _*_, _<_, _≤_, _^_}
 use mathlib.Core.Path.{_≡_, refl, sym, _∙_}
 use native.Mathlib.Omega.{arith}
-use lib.ListN.{length, take, drop, getD}
+use lib.ListN.{take, drop, getD}
 use lib.Pow.{pow-pos}
-use Rattle.bits.specs.Bits.{val, Below}
+use Rattle.bits.specs.Bits.{val}
 use Rattle.bits.specs.laws.Pack.{gather-step, grow}
 use Rattle.bits.proofs.gather.Statement.{statement}
 use Rattle.bits.proofs.gather.Tie as tie
-use Rattle.bits.proofs.gather.Reads as reads
-use Rattle.bits.proofs.gather.Lts as lts
 
 abbrev Inv-loop : tie.InvT-loop
 Inv-loop b at n r₀ i₀ left₀ r i left =
@@ -17,9 +16,6 @@ Inv-loop b at n r₀ i₀ left₀ r i left =
 
 abbrev μ-loop : tie.MeasureT-loop
 μ-loop b at n r₀ i₀ left₀ r i left = left
-
-loop-holds : tie.Need-loop-holds Inv-loop μ-loop
-loop-holds c = (search needs, search needs, pow-pos (8 - c .args .n), refl)
 
 -- within a turn
 bit : (c : tie.In-loop Inv-loop μ-loop) → getD (c .before .before .args .b .now) (c .before .loop .i) 0 < 2
@@ -29,46 +25,17 @@ grown : (c : tie.In-loop Inv-loop μ-loop)
     → (c .before .loop .r < 128) × (c .before .loop .r * 2 + getD (c .before .before .args .b .now) (c .before .loop .i) 0 < 2 ^ (8 - (c .before .loop .left - 1)))
 grown c = grow (c .before .loop .left) _ _ (c .loop-test .taken) (search needs) (c .before .loop .inv .2) (bit c)
 
-mul-r : tie.Need-mul-r Inv-loop μ-loop
-mul-r c = omega (arith, grown c .0)
-
-shared-slice-read-r : tie.Need-shared-slice-read-r Inv-loop μ-loop
-shared-slice-read-r c = search needs
-
-add-r : tie.Need-add-r Inv-loop μ-loop
-add-r c = omega (arith, grown (c .before) .0, bit (c .before))
-
-add-i : tie.Need-add-i Inv-loop μ-loop
-add-i c = search needs
-
-sub-left : tie.Need-sub-left Inv-loop μ-loop
-sub-left c = search needs
-
-loop-less : tie.Need-loop-less Inv-loop μ-loop
-loop-less c = search needs
-
-loop-again : tie.Need-loop-again Inv-loop μ-loop
-loop-again c =
-    let l = c .before .before .loop in
-    (search needs, search needs, grown (c .before) .1, sym (gather-step _ (l .i) (l .left) (l .r) (search needs) (search needs)) ∙ l .inv .3)
-
-returns : tie.Need-returns Inv-loop μ-loop
-returns c =
-    let z : c .before .loop .left ≡ 0 = omega arith in
-    rw z at (c .before .loop .inv .3)
-
 pub gather-spec : {M : Type 1} → statement M
 gather-spec =
     tie.close
-    (tie.spec
-    Inv-loop
-    μ-loop
-    loop-holds
-    mul-r
-    shared-slice-read-r
-    add-r
-    add-i
-    sub-left
-    loop-less
-    loop-again
-    returns)
+    (tie.spec Inv-loop μ-loop
+    (λ c. (search needs, search needs, pow-pos (8 - c .args .n), refl))
+    (λ c. omega (arith, grown c .0)) (λ c. search needs)
+    (λ c. omega (arith, grown (c .before) .0, bit (c .before)))
+    (λ c. search needs) (λ c. search needs) (λ c. search needs)
+    (λ c.
+    let l = c .before .before .loop in
+    (search needs, search needs, grown (c .before) .1, sym (gather-step _ (l .i) (l .left) (l .r) (search needs) (search needs)) ∙ l .inv .3))
+    (λ c.
+    let z : c .before .loop .left ≡ 0 = omega arith in
+    rw z at (c .before .loop .inv .3)))

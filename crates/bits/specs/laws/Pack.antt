@@ -5,10 +5,18 @@ use mathlib.Core.List.{List, [], _∷_, _++_, append-assoc, append-nil}
 use native.Mathlib.Nat.{mod-lt, mod-eq-of-lt, le-of-suc-le-suc, not-suc-le-zero, mod-one, mul-one, zero-mul, div-one, pow-succ', mul-assoc, add-mul, suc-ne-zero, suc-inj, add-zero, add-suc, suc-add, mul-zero, mul-suc, add-comm, zero-add, sub-zero, zero-sub, suc-sub-suc, one-mul, div-lt-iff-lt-mul}
 use native.Mathlib.Numerals.{add-one, one-add, sub-one}
 use native.Mathlib.Omega.{arith}
-use lib.ListN.{length, getD, take, drop, set, replicate, length-append, length-take, length-drop, length-replicate, take-append-drop}
+use lib.ListN.{length, getD, take, drop, set, replicate, length-append, length-drop, length-replicate}
 use lib.Seq.{drop-drop, drop-cons, take-at, drop-at, take-add, length-take-le, getD-drop, sets, sets-eq, take-append-le, drop-append-le, take-length}
 use lib.Pow.{pow-pos, pow-mono, mod-pow-add, shr-shr}
-use Rattle.bits.specs.Bits.{digits, val, pack, unpack, sum, Below, FitIn, eights, bitsOf, fill, fieldsOf, bytesOf}
+use Rattle.bits.specs.Bits.{digits, val, pack, unpack, sum, Below, eights, bitsOf, fill, bytesOf}
+
+-- each value fits its width
+abbrev pub FitIn : List ℕ → List ℕ → Type 0
+FitIn ws vs = (k : ℕ) → getD vs k 0 < 2 ^ getD ws k 0
+
+-- bytes as fields
+abbrev pub fieldsOf : List ℕ → List ℕ → List ℕ
+fieldsOf ws s = unpack ws (bitsOf s)
 
 pub length-digits : (w v : ℕ) → length (digits w v) ≡ w
 length-digits zero v = refl
@@ -197,6 +205,13 @@ sets-append b i (x ∷ xs) ys = rw (add-suc, ← suc-add) (sets-append (set b i 
 pub sum-step : (ws : List ℕ) (i : ℕ) → i < length ws → sum (drop i ws) ≡ getD ws i 0 + sum (drop (i + 1) ws)
 sum-step ws i h = rw (add-one, drop-cons ws i 0 h)
 
+-- a turn at width i, with its bits from o on: the width is at most 8, its bits end by n, and with those of the later widths they end at `end`
+abbrev pub Turn : List ℕ → ℕ → ℕ → ℕ → ℕ → Type 0
+Turn ws i o end n = (getD ws i 0 ≤ 8) × (o + getD ws i 0 ≤ n) × (o + getD ws i 0 + sum (drop (i + 1) ws) ≡ end)
+
+pub turn : (ws : List ℕ) (i o end n : ℕ) → i < length ws → Below 9 ws → o + sum (drop i ws) ≡ end → end ≤ n → Turn ws i o end n
+turn ws i o end n h w e l = omega (arith, sum-step ws i h, w i)
+
 pub pack-step : (ws vs b : List ℕ) (i o : ℕ) → i < length ws → i < length vs
     → sets b o (pack (drop i ws) (drop i vs)) ≡ sets (sets b o (digits (getD ws i 0) (getD vs i 0))) (o + getD ws i 0) (pack (drop (i + 1) ws) (drop (i + 1) vs))
 pack-step ws vs b i o h g =
@@ -247,6 +262,18 @@ pub sets-fill : (n : ℕ) (l : List ℕ) → length l ≤ n → sets (replicate 
 sets-fill n l h =
     sets-eq l (replicate n 0) 0 (omega (arith, length-replicate {A = ℕ} n 0))
     ∙ rw (zero-add, drop-replicate)
+
+-- n of m fields of one width v, from `at` on: they may be unpacked, and stored in m places they leave zeros after them
+module _ (n m v at : ℕ) (b : List ℕ) (h : n ≤ m) where
+  pub run-room : v < 9 → at + v * n ≤ length b → Below 2 b
+      → (length (take n (replicate m v)) ≤ m) × Below 9 (take n (replicate m v)) × (at + sum (take n (replicate m v)) ≤ length b) × Below 2 b
+  run-room w l t =
+      rw (take-replicate n m v h) (omega (arith, length-replicate {A = ℕ} n v), below-replicate 9 n v w, omega (arith, sum-replicate n v), t)
+
+  pub run-stored : (out : List ℕ) → out ≡ sets (replicate m 0) 0 (unpack (take n (replicate m v)) (drop at b)) → out ≡ fill m (unpack (replicate n v) (drop at b))
+  run-stored out e =
+      rw (take-replicate n m v h) at e
+      ∙ sets-fill m (unpack (replicate n v) (drop at b)) (omega (arith, length-unpack (replicate n v) (drop at b), length-replicate {A = ℕ} n v))
 
 pub below-fill : (b n : ℕ) (l : List ℕ) → Below b l → Below b (fill n l)
 below-fill b n l h = below-append b l (replicate (n - length l) 0) h (below-replicate b (n - length l) 0 (omega (arith, h 0)))

@@ -1,14 +1,13 @@
 -- `fields::add_meld` meets its contract, for a chi, a pon and a kan. Assumes nothing.
 use borrow.Author.Needs.{needs}
 use borrow.Author.Tests.{eq-eqb, ne-eqb}
-use Prim.Native.Nat.{ℕ, _+_, _≤_, _<_, _%_, _/_}
-use mathlib.Core.Path.{_≡_, refl, sym, _∙_}
+use Prim.Native.Nat.{ℕ, _+_, _≤_, _<_, _%_}
+use mathlib.Core.Path.{_≡_, refl}
 use mathlib.Core.List.{List}
 use native.Mathlib.Omega.{arith}
 use lib.ListN.{length, getD}
-use Rattle.tiles.specs.Groups.{at, uses}
-use Rattle.tiles.specs.Tally.{more}
-use Rattle.tiles.specs.laws.Tally.{at-le, tally-bound, more-adds}
+use Rattle.tiles.specs.Groups.{at}
+use Rattle.tiles.specs.laws.Tally.{more, at-le, tally-bound, more-adds}
 use Rattle.fields.specs.Hand.{meldHolds}
 use Rattle.fields.proofs.add_meld.Statement.{statement}
 use Rattle.fields.proofs.add_meld.Tie as tie

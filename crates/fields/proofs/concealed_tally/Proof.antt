@@ -1,6 +1,5 @@
 -- `fields::concealed_tally` meets its contract. Assumes nothing.
 use borrow.Author.Needs.{needs}
-use mathlib.Core.Path.{_∙_}
 use Rattle.fields.specs.Hand.{concealedTally, inConcealed}
 use Rattle.fields.proofs.concealed_tally.Statement.{statement}
 use Rattle.fields.proofs.concealed_tally.Tie as tie

@@ -3,10 +3,10 @@ use borrow.Author.Needs.{needs}
 use borrow.Author.Tests.{ltb-false}
 use Prim.Native.Nat.{ℕ, _+_, _-_, _*_, _<_}
 use mathlib.Core.Path.{_≡_, sym, _∙_}
-use mathlib.Core.Bool.{Bool, true, false, _||_}
+use mathlib.Core.Bool.{Bool, true, false, _&&_, _||_}
 use mathlib.Core.List.{List}
 use native.Mathlib.Omega.{arith}
-use lib.Dec.{ltb}
+use lib.Dec.{ltb, eqb}
 use lib.ListN.{getD}
 use Rattle.tiles.specs.Below.{some}
 use Rattle.tiles.specs.Tally.{tallyOf}
@@ -14,7 +14,7 @@ use Rattle.tiles.specs.laws.Below.{or-both, some-cong}
 use Rattle.tiles.specs.laws.Tally.{getD-tally}
 use Rattle.fields.specs.declared.Hand.{Hand}
 use Rattle.fields.specs.Hand.{isClosed, hasKan}
-use Rattle.fields.specs.Refusals.{tileOver33, wrongFields, descends, inRecord, overFour, situationBy, wrongSituation, refusalOf}
+use Rattle.fields.specs.Refusals.{tileOver33, wrongFields, descends, inRecord, overFour, wrongRiichi, wrongRinshan, wrongChankan, wrongFirstTurn, wrongSituation, refusalOf}
 use Rattle.fields.proofs.refusal.Statement.{statement}
 use Rattle.fields.proofs.refusal.Tie as tie
 
@@ -37,7 +37,8 @@ unfolding descends
 falling h r n e q = rw e at q
 
 situated : (h : Hand) (t : List ℕ) (r closed kan : Bool) → t ≡ tallyOf (inRecord h) → h .fields .winning < 34 → closed ≡ isClosed h → kan ≡ hasKan h
-    → r ≡ situationBy (h .fields) closed kan (getD t (h .fields .winning) 0) → r ≡ wrongSituation h
+    → r ≡ (wrongRiichi (h .fields) closed || (eqb (h .fields .situation) 1 && wrongRinshan (h .fields) kan) || (eqb (h .fields .situation) 2 && wrongChankan (h .fields) (getD t (h .fields .winning) 0)) || (eqb (h .fields .situation) 4 && wrongFirstTurn (h .fields)))
+    → r ≡ wrongSituation h
 unfolding wrongSituation
 situated h t r closed kan e l ec ek q = q ∙ rw (ec, ek, e, getD-tally (inRecord h) (h .fields .winning) l)
 

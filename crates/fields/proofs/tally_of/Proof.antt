@@ -5,7 +5,7 @@ use mathlib.Core.Path.{_≡_, refl, sym, _∙_}
 use mathlib.Core.List.{List}
 use native.Mathlib.Omega.{arith}
 use lib.Dec.{eqb}
-use lib.ListN.{length, getD, replicate, getD-replicate}
+use lib.ListN.{length, getD, getD-replicate}
 use Rattle.tiles.specs.Below.{number}
 use Rattle.tiles.specs.Groups.{at}
 use Rattle.tiles.specs.laws.Below.{number-none, number-more, number-le}

@@ -1,11 +1,9 @@
 -- How many tiles of a kind a hand can hold, sound or not. Assumes nothing.
-use mathlib.Core.Bool.{Bool, true, false, cond}
-use mathlib.Core.Path.{_≡_, refl}
-use Prim.Native.Nat.{ℕ, _+_, _-_, _*_, _≤_, _<_}
+use mathlib.Core.Bool.{cond}
+use Prim.Native.Nat.{ℕ, _+_, _≤_}
 use native.Mathlib.Omega.{arith}
 use lib.Dec.{ltb, eqb}
 use lib.ListN.{getD}
-use Rattle.tiles.specs.Groups.{at}
 use Rattle.tiles.specs.laws.Below.{number-le, cond-le}
 use Rattle.tiles.specs.laws.Tally.{at-le}
 use Rattle.fields.specs.declared.Hand.{Hand}

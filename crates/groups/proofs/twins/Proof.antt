@@ -9,24 +9,17 @@ use Rattle.groups.proofs.twins.Tie as tie
 returns : tie.Need-returns
 unfolding twins
 returns c =
-    let c1 = c .before in
-    let c2 = c1 .before in
-    let c3 = c2 .before in
-    let c4 = c3 .before in
-    let c5 = c4 .before in
-    let c6 = c5 .before in
-    let c7 = c6 .before in
-    let c8 = c7 .before in
+    let d = c .before .before .before .before in
     rw (
-      c7 .after-odd .ensures .0,
-      c4 .after-odd2 .ensures .0,
+      d .before .before .before .after-odd .ensures .0,
+      d .after-odd2 .ensures .0,
       c .after-odd3 .ensures .0,
-      c8 .one .ensures .0,
-      c6 .one2 .ensures .0,
-      c5 .one3 .ensures .0,
-      c3 .one4 .ensures .0,
-      c2 .one5 .ensures .0,
-      c1 .one6 .ensures .0,
+      d .before .before .before .before .one .ensures .0,
+      d .before .before .one2 .ensures .0,
+      d .before .one3 .ensures .0,
+      c .before .before .before .one4 .ensures .0,
+      c .before .before .one5 .ensures .0,
+      c .before .one6 .ensures .0,
     ) (sym (pairs-in-turn _ _ _ _))
 
 pub twins-spec : {M : Type 1} → statement M

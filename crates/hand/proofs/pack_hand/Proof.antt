@@ -1,9 +1,9 @@
 -- `hand::pack_hand` meets its contract: header, melds, tiles and padding are stored one after the other. Assumes nothing.
 use borrow.Author.Needs.{needs}
-use Prim.Native.Nat.{ℕ, _+_, _-_, _*_, _<_, _≤_}
+use Prim.Native.Nat.{_-_, _*_}
 use mathlib.Core.Path.{_≡_, refl, sym, _∙_}
 use native.Mathlib.Omega.{arith}
-use lib.ListN.{length, take, replicate, length-replicate}
+use lib.ListN.{length, length-replicate}
 use lib.Seq.{length-take-le}
 use Rattle.bits.specs.Bits.{eights}
 use Rattle.bits.specs.laws.Pack.{below-all, take-replicate, below-replicate, sum-replicate}
@@ -17,14 +17,8 @@ pub pack-hand-spec : {M : Type 1} → statement M
 pack-hand-spec =
     tie.close
     (tie.spec
-    (λ c. search needs)
-    (λ c. search needs)
-    (λ c. search needs)
-    (λ c. search needs)
-    (λ c. search needs)
-    (λ c. search needs)
-    (λ c. search needs)
-    (λ c. search needs)
+    (λ c. search needs) (λ c. search needs) (λ c. search needs) (λ c. search needs)
+    (λ c. search needs) (λ c. search needs) (λ c. search needs) (λ c. search needs)
     (λ c κs. (refl, below-all 9 head (omega arith), omega arith))
     (λ c. search needs)
     (λ c. sym (length-take-le (c .before .before .before .before .before .before .before .before .before .before .args .h .fields .m) (eights 4) (search needs)))
@@ -50,11 +44,7 @@ pack-hand-spec =
     let l = length-take-le k (a .args .h .concealed) (omega arith) in
     rw (take-replicate k 13 6 (omega arith))
     (length-replicate k 6 ∙ sym l, below-replicate 9 k 6 (omega arith), omega (arith, sum-replicate k 6, c .before .before .before .before .pack-into2 .kept, c .before .before .before .before .before .before .before .before .before .pack-into .kept)))
-    (λ c. search needs)
-    (λ c. search needs)
-    (λ c. search needs)
-    (λ c. search needs)
-    (λ c. search needs)
+    (λ c. search needs) (λ c. search needs) (λ c. search needs) (λ c. search needs) (λ c. search needs)
     (λ c κs.
     let w = whole (c .before .before .before .before .before .before .before .before .before .before .before .before .before .before .before .before .before .before .before .before .args .h .fields .m) (c .before .before .before .before .before .before .before .before .before .before .before .before .before .before .before .before .before .before .before .before .pre) in
     (w .1, omega (arith, w, c .before .before .pack-into3 .kept, c .before .before .before .before .before .before .before .pack-into2 .kept, c .before .before .before .before .before .before .before .before .before .before .before .before .pack-into .kept)))

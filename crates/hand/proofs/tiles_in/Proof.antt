@@ -1,44 +1,22 @@
+-- `hand::tiles_in` meets its contract: a run of n widths of 6. Assumes nothing.
 use borrow.Author.Needs.{needs}
-use Prim.Native.Nat.{ℕ, _+_, _-_, _*_, _<_, _≤_, _^_}
-use mathlib.Core.Path.{_≡_, refl, sym, ap, _∙_}
+use mathlib.Core.Path.{sym}
 use native.Mathlib.Omega.{arith}
-use lib.ListN.{length, drop, replicate, length-replicate}
+use lib.ListN.{replicate}
 use lib.Seq.{length-take-le}
-use Rattle.bits.specs.Bits.{unpack}
-use Rattle.bits.specs.laws.Pack.{take-replicate, below-replicate, sum-replicate, sets-fill, length-unpack}
+use Rattle.bits.specs.laws.Pack.{run-room, run-stored}
 use Rattle.hand.proofs.tiles_in.Statement.{statement}
 use Rattle.hand.proofs.tiles_in.Tie as tie
-
-array-share-prefix-ws : tie.Need-array-share-prefix-ws
-array-share-prefix-ws c = search needs
-
-slice-aggregate-unpack-into : tie.Need-slice-aggregate-unpack-into
-slice-aggregate-unpack-into c = sym (length-take-le (c .before .before .args .n) (replicate 13 6) (c .before .before .pre .0))
-
-slice-aggregate-unpack-into-2 : tie.Need-slice-aggregate-unpack-into-2
-slice-aggregate-unpack-into-2 c = search needs
-
-unpack-into-requires : tie.Need-unpack-into-requires
-unpack-into-requires c κs =
-    let a = c .before .before .before in
-    let n = a .args .n in
-    rw (take-replicate n 13 6 (a .pre .0))
-    (omega (arith, length-replicate {A = ℕ} n 6), below-replicate 9 n 6 (omega arith), omega (arith, sum-replicate n 6), a .pre .2)
-
-returns : tie.Need-returns
-returns c =
-    let a = c .before .before .before .before .before in
-    let n = a .args .n in
-    let l = unpack (replicate n 6) (drop (a .args .at) (a .args .b .now)) in
-    rw (take-replicate n 13 6 (a .pre .0)) at (c .before .unpack-into .ensures)
-    ∙ sets-fill 13 l (omega (arith, length-unpack (replicate n 6) (drop (a .args .at) (a .args .b .now)), length-replicate {A = ℕ} n 6))
 
 pub tiles-in-spec : {M : Type 1} → statement M
 tiles-in-spec =
     tie.close
-    (tie.spec
-    array-share-prefix-ws
-    slice-aggregate-unpack-into
-    slice-aggregate-unpack-into-2
-    unpack-into-requires
-    returns)
+    (tie.spec (λ c. search needs)
+    (λ c. sym (length-take-le (c .before .before .args .n) (replicate 13 6) (c .before .before .pre .0)))
+    (λ c. search needs)
+    (λ c κs.
+    let a = c .before .before .before in
+    run-room (a .args .n) 13 6 (a .args .at) (a .args .b .now) (a .pre .0) (omega arith) (a .pre .1) (a .pre .2))
+    (λ c.
+    let a = c .before .before .before .before .before in
+    run-stored (a .args .n) 13 6 (a .args .at) (a .args .b .now) (a .pre .0) _ (c .before .unpack-into .ensures)))

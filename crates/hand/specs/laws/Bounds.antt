@@ -10,7 +10,6 @@ use Rattle.tiles.specs.laws.Below.{or-both}
 use Rattle.bits.specs.Bits.{bitsOf}
 use Rattle.fields.specs.declared.Fields.{Fields}
 use Rattle.fields.specs.declared.Hand.{Hand}
-use Rattle.fields.specs.Refusals.{tooLarge}
 use Rattle.hand.specs.declared.Answer.{Answer}
 use Rattle.hand.specs.declared.Answer.the-variants.{Sound, Refused}
 use Rattle.hand.specs.declared.HandRead.{HandRead}

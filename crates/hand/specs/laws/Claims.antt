@@ -1,21 +1,21 @@
 -- The proofs of the claims, over plain variables. Assumes nothing.
-use Prim.Native.Nat.{ℕ, zero, suc, _≤_, _<_}
+use Prim.Native.Nat.{ℕ, zero, suc, _+_, _*_, _-_, _≤_, _<_}
 use mathlib.Core.Path.{_≡_, refl, sym, ap, _∙_}
 use mathlib.Core.Bool.{Bool, true, false, cond}
 use mathlib.Core.List.{List, _++_}
 use native.Mathlib.Omega.{arith}
-use borrow.Author.Tests.{ltb-true, ltb-false, le-ltb, lt-ltb}
+use borrow.Author.Tests.{ltb-true, ltb-false}
 use lib.Dec.{ltb}
 use lib.ListN.{length, take, drop}
 use lib.Seq.{take-at}
-use Rattle.bits.specs.Bits.{Below, bitsOf}
+use Rattle.bits.specs.Bits.{sum, Below, bitsOf}
 use Rattle.fields.specs.declared.Hand.{Hand}
 use Rattle.fields.specs.Refusals.{wrongFields, descends, overFour, wrongSituation, refusalOf, unwritable}
 use Rattle.hand.specs.declared.HandRead.{HandRead}
 use Rattle.hand.specs.declared.Written.{Written}
-use Rattle.hand.specs.Record.{lengthOf, wrongForm, countIn, handIn, paddingOf, refusedWith, soundAs, numberOf, handOf, answerBy, judged, readOf, recordOf, writeRefusal, writtenOf, bufferOf}
-use Rattle.hand.specs.laws.Read.{form-of, form-right}
-use Rattle.hand.specs.laws.Write.{refusal-none, wrote-by}
+use Rattle.hand.specs.Record.{lengthOf, padOf, widths, wrongForm, countIn, handIn, paddingOf, refusedWith, soundAs, numberOf, handOf, answerBy, judged, readOf, recordOf, writeRefusal, writtenOf, bufferOf}
+use Rattle.hand.specs.laws.Read.{whole, form-of}
+use Rattle.hand.specs.laws.Write.{sum-widths, refusal-none, wrote-by}
 use Rattle.hand.specs.laws.Clean.{clean-of, of-clean}
 use Rattle.hand.specs.laws.Round.{ReadAs, as-read, same-bytes, accepted-back, length-record, same-hand, form-is}
 
@@ -52,17 +52,41 @@ module _ (s : List ℕ) where
       let g = is-given e in
       record { form = form-of (length s) (countIn s) (g .0); is-hand = refl; unrefused = g .1 }
 
-pub read-write : (s buf : List ℕ) → Below 256 s → numberOf (readOf s .answer) ≡ 0 → length s ≤ length buf
-    → (_≡_ {A = Written} (writtenOf (handOf (readOf s)) buf) (record { refusal = 0; len = length s })) × (bufferOf (handOf (readOf s)) buf ≡ s ++ drop (length s) buf)
-read-write s buf b e l =
-    let h : Hand = handIn (countIn s) (bitsOf s) in
-    let y = is-read s e in
-    let n : lengthOf (h .fields .m) ≡ length s = sym (form-is s h y .right) in
-    let w = wrote-by h buf (refusal-none h buf (accepted-back s h y) (omega arith)) in
-    let r : handOf (readOf s) ≡ h = ap handOf (as-read s h y) in (
-      ap (λ (z : Hand). writtenOf z buf) r ∙ sym (w .0) ∙ ap (λ (k : ℕ). record { refusal = 0; len = k }) n,
-      ap (λ (z : Hand). bufferOf z buf) r ∙ sym (w .1) ∙ ap (λ (z : List ℕ). z ++ drop (lengthOf (h .fields .m)) buf) (same-bytes s h y b) ∙ ap (λ (k : ℕ). s ++ drop k buf) n,
-    )
+-- the widths fill the bytes
+pub filled : (m : ℕ) → m ≤ 4 → (sum (widths m) ≡ 103 - 10 * m + padOf m) × (103 - 10 * m + padOf m ≡ 8 * lengthOf m) × (padOf m < 8)
+filled m h = (omega (arith, sum-widths m h, whole m h), omega (arith, whole m h), pad-few m h)
+  where
+    pad-few : (m : ℕ) → m ≤ 4 → padOf m < 8
+    pad-few zero h = omega arith
+    pad-few (suc zero) h = omega arith
+    pad-few (suc (suc zero)) h = omega arith
+    pad-few (suc (suc (suc zero))) h = omega arith
+    pad-few (suc (suc (suc (suc zero)))) h = omega arith
+    pad-few (suc (suc (suc (suc (suc m))))) h = absurd (omega arith)
+
+-- what was read, written back
+module _ (s buf : List ℕ) (b : Below 256 s) (e : numberOf (readOf s .answer) ≡ 0) (l : length s ≤ length buf) where
+  abbrev h : Hand
+  h = handIn (countIn s) (bitsOf s)
+
+  same-length : lengthOf (h .fields .m) ≡ length s
+  same-length = sym (form-is s h (is-read s e) .right)
+
+  same-read : handOf (readOf s) ≡ h
+  same-read = ap handOf (as-read s h (is-read s e))
+
+  unrefused : writeRefusal h buf ≡ 0
+  unrefused = refusal-none h buf (accepted-back s h (is-read s e)) (omega (arith, same-length))
+
+  pub read-write-answer : _≡_ {A = Written} (writtenOf (handOf (readOf s)) buf) (record { refusal = 0; len = length s })
+  read-write-answer = ap (λ (z : Hand). writtenOf z buf) same-read ∙ sym (wrote-by h buf unrefused .0) ∙ ap (λ (k : ℕ). record { refusal = 0; len = k }) same-length
+
+  pub read-write-buffer : bufferOf (handOf (readOf s)) buf ≡ s ++ drop (length s) buf
+  read-write-buffer =
+      ap (λ (z : Hand). bufferOf z buf) same-read
+      ∙ sym (wrote-by h buf unrefused .1)
+      ∙ ap (λ (z : List ℕ). z ++ drop (lengthOf (h .fields .m)) buf) (same-bytes s h (is-read s e) b)
+      ∙ ap (λ (k : ℕ). s ++ drop k buf) same-length
 
 -- what a write that is not refused says
 wrote : (h : Hand) (buf : List ℕ) → writtenOf h buf .refusal ≡ 0 → (writeRefusal h buf ≡ 0)

@@ -1,14 +1,14 @@
 -- What `readOf` comes to, case by case. Assumes nothing.
-use Prim.Native.Nat.{ℕ, zero, suc, _+_, _*_, _-_, _<_, _≤_}
+use Prim.Native.Nat.{ℕ, zero, suc, _+_, _*_, _-_, _≤_}
 use mathlib.Core.Path.{_≡_, refl, sym, ap, _∙_}
 use mathlib.Core.Bool.{Bool, true, false, _||_, not}
-use mathlib.Core.List.{List, [], _∷_, _++_}
+use mathlib.Core.List.{List, [], _∷_}
 use native.Mathlib.Omega.{arith}
 use borrow.Author.Tests.{ltb-false, le-ltb, eqb-true, eq-eqb, not-false}
 use lib.Dec.{ltb, eqb}
 use lib.ListN.{length, getD}
 use Rattle.tiles.specs.laws.Below.{or-both}
-use Rattle.bits.specs.Bits.{unpack, eights, bitsOf, fill}
+use Rattle.bits.specs.Bits.{eights, bitsOf, fill}
 use Rattle.bits.specs.laws.Pack.{length-bitsOf, part-fill, sum-replicate}
 use Rattle.fields.specs.declared.Fields.{Fields}
 use Rattle.hand.specs.Record.{head, headerOf, sixes, lengthOf, padOf, headOf, meldsOf, tilesOf, paddingOf, handIn, refusedWith, wrongForm, countIn, judged, readOf}

@@ -10,8 +10,8 @@ use lib.ListN.{length, getD, take, drop, length-replicate, length-take, List·ge
 use lib.Seq.{length-take-le, drop-drop, getD-take}
 use lib.Pow.{pow-pos}
 use Rattle.tiles.specs.laws.Below.{or-both}
-use Rattle.bits.specs.Bits.{pack, unpack, sum, eights, bitsOf, fieldsOf, fill, Below, FitIn}
-use Rattle.bits.specs.laws.Pack.{unpack-fit, unpack-append, below-pack, below-take, length-unpack, sum-replicate, bytes-fields, fields-bytes, length-bitsOf, fit-cons, fit-nil, fit-all, fit-run, fit-append, app-inj}
+use Rattle.bits.specs.Bits.{pack, unpack, sum, eights, bitsOf, fill, Below}
+use Rattle.bits.specs.laws.Pack.{FitIn, fieldsOf, unpack-fit, unpack-append, below-pack, below-take, length-unpack, sum-replicate, bytes-fields, fields-bytes, length-bitsOf, fit-cons, fit-nil, fit-all, fit-run, fit-append, app-inj}
 use Rattle.fields.specs.declared.Fields.{Fields}
 use Rattle.fields.specs.declared.Hand.{Hand}
 use Rattle.fields.specs.Refusals.{tooLarge, unusedNotZero, refusalOf, unwritable}

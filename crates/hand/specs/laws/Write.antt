@@ -1,17 +1,17 @@
 -- Packing a hand part by part, and what a writer answers and leaves. Assumes nothing.
-use Prim.Native.Nat.{ℕ, zero, suc, _+_, _*_, _-_, _<_, _≤_}
+use Prim.Native.Nat.{ℕ, _+_, _*_, _-_, _<_, _≤_}
 use mathlib.Core.Path.{_≡_, refl, sym, ap, _∙_}
 use mathlib.Core.Bool.{Bool, true, false, _||_, cond}
-use mathlib.Core.List.{List, [], _∷_, _++_, append-assoc, append-nil}
+use mathlib.Core.List.{List, [], _∷_, _++_, append-nil}
 use native.Mathlib.Omega.{arith}
-use native.Mathlib.Nat.{zero-add, suc-inj, suc-ne-zero}
+use native.Mathlib.Nat.{zero-add}
 use borrow.Author.Tests.{ltb-false, lt-ltb, le-ltb}
 use lib.Dec.{ltb}
-use lib.ListN.{length, getD, take, drop, replicate, length-append, length-replicate}
-use lib.Seq.{sets, sets-eq, length-take-le, drop-drop}
+use lib.ListN.{length, take, drop, replicate, length-append, length-replicate}
+use lib.Seq.{sets, sets-eq, length-take-le}
 use Rattle.tiles.specs.laws.Below.{or-both}
-use Rattle.bits.specs.Bits.{val, digits, pack, unpack, sum, eights, bytesOf, fill}
-use Rattle.bits.specs.laws.Pack.{length-pack, sum-replicate, sets-append, sets-fill, take-replicate, part-fill, length-unpack, pack-append, unpack-append, sum-append}
+use Rattle.bits.specs.Bits.{digits, pack, unpack, sum, eights, fill}
+use Rattle.bits.specs.laws.Pack.{length-pack, sum-replicate, sets-append, sets-fill, take-replicate, part-fill, length-unpack, pack-append, sum-append}
 use Rattle.fields.specs.declared.Hand.{Hand}
 use Rattle.fields.specs.Refusals.{tooLarge, unusedNotZero, refusalOf, unwritable}
 use Rattle.hand.specs.Record.{head, headList, sixes, lengthOf, padOf, widths, valuesOf, recordOf, writeRefusal, writtenOf, bufferOf}

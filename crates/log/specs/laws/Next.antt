@@ -13,11 +13,15 @@ use lib.Seq.{take-nil, drop-drop, length-take-le}
 use Rattle.tiles.specs.laws.Below.{or-both}
 use Rattle.hand.specs.Record.{headOf, countIn, lengthOf, wrongForm}
 use Rattle.hand.specs.laws.Read.{whole, form-right}
-use Rattle.log.specs.Log.{kindAt, argumentAt, isWin, isBroken, recordsFrom, isBad, entryLength, nextOf, partOf, recordLength}
+use Rattle.log.specs.Log.{kindAt, argumentAt, isWin, isBroken, recordsFrom, isBad, entryLength, nextOf, partOf}
 use Rattle.log.specs.declared.Next.{Next}
 use Rattle.log.specs.declared.Next.the-variants.{Entry, End, Bad}
 
 -- ---- a record
+
+-- the length of the record that bytes start with, 0 where there is no whole one
+unfoldable pub recordLength : List ℕ → ℕ
+recordLength s = cond (isBroken s) 0 (lengthOf (countIn s))
 
 -- m by its two bytes
 count-bytes : (a b c d : ℕ) (s : List ℕ) → d < 256 → c % 4 * 2 + d / 128 ≡ countIn (a ∷ b ∷ c ∷ d ∷ s)
@@ -165,6 +169,9 @@ module _ (log : List ℕ) (at k a n : ℕ) (e : nextOf log at ≡ Entry k a n) w
   pub entry-kind : k ≤ 3
   unfolding isBad
   entry-kind = rw (this .2) (ltb-false 3 (kindAt log at) (or-both (ltb 3 (kindAt log at)) _ (this .1) .0))
+
+  pub entry-argument : a ≤ 15
+  entry-argument = rw (this .3) (omega arith)
 
   -- a win: its record stands whole after the header
   pub entry-win : k ≡ 1 → (a ≡ 0) × (isBroken (recordsFrom log at) ≡ false) × (n ≡ lengthOf (countIn (recordsFrom log at)) + 1)

@@ -141,6 +141,13 @@ module _ (log : List ℕ) where
       along log (λ at. at ≤ length log → stopFrom log at ≤ length log) (λ at e h. rw (stop-end log at e) h) (λ at e h. rw (stop-bad log at e) h)
       (λ at k a n e r h. rw (stop-turn log at k a n e) (r (step-inside log at k a n e .1)))
 
+-- from the start
+pub stop-within : (log : List ℕ) → stopFrom log 0 ≤ length log
+stop-within log = stop-inside log 0 (omega arith)
+
+pub entries-within : (log : List ℕ) → length (entriesFrom log 0) ≤ length log
+entries-within log = omega (arith, entries-few log 0)
+
 -- ---- the answers apart
 
 pub end-exactly : (log : List ℕ) (at : ℕ) → (nextOf log at ≡ End) ↔ (length log ≤ at)

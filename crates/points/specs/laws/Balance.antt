@@ -9,8 +9,11 @@ use lib.IntN.{ℤ, pos, negℤ, _+ℤ_, _-ℤ_, +ℤ-idl, +ℤ-comm, +ℤ-assoc,
 use lib.Dec.{eqb}
 use lib.ListN.{getD}
 use Rattle.tiles.specs.Below.{sum}
-use Rattle.points.specs.Points.{seats, sumOfFour, share, hundreds, pays, gain, change, changes}
+use Rattle.points.specs.Points.{sumOfFour, share, hundreds, pays, gain, change, changes}
 use Rattle.points.specs.declared.Seats.{Seats}
+
+abbrev seats : ℕ → ℕ → ℕ → Seats
+seats winner dealer discarder = record { winner = winner; dealer = dealer; discarder = discarder }
 
 less : ℕ → ℤ
 less x = pos 0 -ℤ pos x
@@ -81,6 +84,16 @@ below-four P p q r t (suc (suc (suc (suc n)))) h = absurd (omega arith)
 pub change-at : (s : Seats) (ron : Bool) (a seat : ℕ) → seat < 4 → getD (changes s ron a) seat (pos 0) ≡ change s ron a seat
 unfolding changes
 change-at s ron a = below-four (λ n. getD (changes s ron a) n (pos 0) ≡ change s ron a n) refl refl refl refl
+
+-- the winner gets the gain, and another seat pays its payment
+module _ (s : Seats) (ron : Bool) (a : ℕ) where
+  pub winner-gets : s .winner < 4 → getD (changes s ron a) (s .winner) (pos 0) ≡ pos (gain s ron a)
+  unfolding change
+  winner-gets h = rw (change-at s ron a (s .winner) h, eq-eqb (s .winner) (s .winner) refl)
+
+  pub other-pays : (seat : ℕ) → seat < 4 → (s .winner ≡ seat → ⊥) → getD (changes s ron a) seat (pos 0) ≡ pos 0 -ℤ pos (pays s ron a seat)
+  unfolding change
+  other-pays seat h n = rw (change-at s ron a seat h, ne-eqb (s .winner) seat n)
 
 -- by ron the discarder alone pays
 module _ (w d a : ℕ) where

@@ -5,7 +5,7 @@ use borrow.Author.Needs.{needs}
 use borrow.Author.Tests.{lt-ltb, le-ltb, not-true, not-false}
 use native.Mathlib.Omega.{arith}
 use Rattle.tiles.specs.Groups.{isGroup}
-use Rattle.reading.specs.Readings.{fits}
+use Rattle.reading.specs.search.Readings.{fits}
 use Rattle.reading.specs.laws.Groups.{run-in, triplet-in}
 use Rattle.reading.proofs.fits.Statement.{statement}
 use Rattle.reading.proofs.fits.Tie as tie

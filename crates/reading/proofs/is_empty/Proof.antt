@@ -8,7 +8,7 @@ use lib.Dec.{eqb}
 use lib.ListN.{getD}
 use Rattle.tiles.specs.Below.{every}
 use Rattle.tiles.specs.laws.Below.{every-none, every-more, every-stop, every-done}
-use Rattle.reading.specs.Readings.{isEmpty}
+use Rattle.reading.specs.search.Readings.{isEmpty}
 use Rattle.reading.proofs.is_empty.Statement.{statement}
 use Rattle.reading.proofs.is_empty.Tie as tie
 

@@ -1,7 +1,7 @@
 -- `reading::passes` meets its contract: each `return` is the case that its test says. Assumes nothing.
 use borrow.Author.Needs.{needs}
 use borrow.Author.Tests.{lt-ltb, le-ltb}
-use Rattle.reading.specs.Readings.{passes}
+use Rattle.reading.specs.search.Readings.{passes}
 use Rattle.reading.proofs.passes.Statement.{statement}
 use Rattle.reading.proofs.passes.Tie as tie
 

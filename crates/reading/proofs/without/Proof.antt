@@ -8,7 +8,7 @@ use borrow.Author.Needs.{needs}
 use borrow.Author.Tests.{lt-ltb, le-ltb}
 use lib.ListN.{getD, set}
 use lib.Seq.{getD-set-other}
-use Rattle.reading.specs.Readings.{fits, without, less}
+use Rattle.reading.specs.search.Readings.{fits, without, less}
 use Rattle.reading.specs.laws.Groups.{run-in, triplet-in, fits-group, fits-run, fits-triplet}
 use Rattle.reading.proofs.without.Statement.{statement}
 use Rattle.reading.proofs.without.Tie as tie

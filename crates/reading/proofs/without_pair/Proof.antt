@@ -4,7 +4,7 @@ use mathlib.Core.Path.{_≡_}
 use lib.ListN.{length}
 use Prim.Native.Nat.{_<_}
 use native.Mathlib.Omega.{arith}
-use Rattle.reading.specs.Readings.{less}
+use Rattle.reading.specs.search.Readings.{less}
 use Rattle.reading.specs.laws.Groups.{getD-pos}
 use Rattle.reading.proofs.without_pair.Statement.{statement}
 use Rattle.reading.proofs.without_pair.Tie as tie

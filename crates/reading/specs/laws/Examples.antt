@@ -6,11 +6,12 @@ use Prim.Native.Nat.{ℕ}
 use native.Mathlib.Omega.{arith}
 use Rattle.tiles.specs.Below.{every, number}
 use Rattle.tiles.specs.Groups.{isGroup, at, uses}
-use Rattle.tiles.specs.Tally.{held, tallyOf}
+use Rattle.tiles.specs.Tally.{tallyOf}
+use Rattle.tiles.specs.laws.Tally.{held}
 use Rattle.reading.specs.declared.Reading.{Reading}
 use Rattle.reading.specs.Reading.{holds, isSevenPairs, isOrphans, ofForm}
 use Rattle.reading.specs.Order.{Before}
-use Rattle.reading.specs.Readings.{concatMap, isEmpty, less, fits, without, passes, step, splits, regularOf, placedAt, placed, paired, formed, readings}
+use Rattle.reading.specs.search.Readings.{concatMap, isEmpty, less, fits, without, passes, step, splits, regularOf, placedAt, placed, paired, formed, readings}
 
 -- of tiles, m melds and the winning kind
 abbrev readingsOf : List ℕ → ℕ → ℕ → List Reading

@@ -14,8 +14,8 @@ use lib.Seq.{sets, sets-eq}
 use Rattle.tiles.specs.Below.{table}
 use Rattle.reading.specs.declared.Reading.{Reading}
 use Rattle.reading.specs.Reading.{isSevenPairs, isOrphans, ofForm}
-use Rattle.reading.specs.Judged.{judged}
-use Rattle.reading.specs.Readings.{when, concatMap, isEmpty, less, fits, without, passes, step, splits, placedAt, placed, paired, formed, readings}
+use Rattle.reading.specs.search.Judged.{judged}
+use Rattle.reading.specs.search.Readings.{when, concatMap, isEmpty, less, fits, without, passes, step, splits, placedAt, placed, paired, formed, readings}
 use Rattle.reading.specs.laws.Lists.{each-imp, concat-cong, concat-append, concat-map}
 use Rattle.reading.specs.laws.Groups.{less-long}
 use Rattle.reading.specs.laws.Splits.{splits-sound}

@@ -13,7 +13,7 @@ use lib.Seq.{getD-set-same, getD-set-other}
 use Rattle.tiles.specs.Groups.{isGroup, at, uses}
 use Rattle.tiles.specs.laws.Below.{every-at, every-of, and-true}
 use Rattle.reading.specs.Reading.{usedBy, Ascends, holds}
-use Rattle.reading.specs.Readings.{isEmpty, less, fits, without, passes}
+use Rattle.reading.specs.search.Readings.{isEmpty, less, fits, without, passes}
 
 -- ---- codes
 pub run-in : (c : ℕ) → isGroup c ≡ true → c < 34 → (c < 27) × (c % 9 ≤ 6)

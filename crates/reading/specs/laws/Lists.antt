@@ -8,7 +8,7 @@ use native.Mathlib.Nat.{eq-or-lt-of-le}
 use native.Mathlib.Omega.{arith}
 use Rattle.tiles.specs.Below.{table}
 use Rattle.reading.specs.Order.{Each, none, also, Pairwise, ended, first}
-use Rattle.reading.specs.Readings.{when, concatMap}
+use Rattle.reading.specs.search.Readings.{when, concatMap}
 
 -- ---- each element
 module _ {A : Type 0} {P : A → Type 0} where

@@ -16,8 +16,8 @@ use Rattle.hand.specs.declared.HandRead.{HandRead}
 use Rattle.hand.specs.Record.{numberOf, handOf, readOf}
 use Rattle.hand.specs.laws.Bounds.{answer-is, hand-is, refused-number}
 use Rattle.reading.specs.declared.Reading.{Reading}
-use Rattle.reading.specs.Readings.{readings}
-use Rattle.reading.specs.Judged.{judged}
+use Rattle.reading.specs.search.Readings.{readings}
+use Rattle.reading.specs.search.Judged.{judged}
 use Rattle.points.specs.Points.{plain, limit, ordinary, basic}
 use Rattle.value.specs.declared.Value.{Value}
 use Rattle.value.specs.Value.{valueOf}

@@ -8,8 +8,8 @@ use Rattle.fields.specs.Hand.{meldHolds, inMelds, inConcealed, inHand, conceale
 use Rattle.fields.specs.Refusals.{tileOver33, wrongFields, descends, inRecord, overFour, wrongSituation, refusalOf}
 use Rattle.hand.specs.Record.{headOf, meldsOf, tilesOf, paddingOf, handIn, answerBy, judged as judgedHand, readOf}
 use Rattle.reading.specs.Reading.{holds, isSevenPairs, isOrphans}
-use Rattle.reading.specs.Readings.{concatMap, isEmpty, less, fits, without, passes, step, splits, placedAt, placed, paired, formed, readings}
-use Rattle.reading.specs.Judged.{judged}
+use Rattle.reading.specs.search.Readings.{concatMap, isEmpty, less, fits, without, passes, step, splits, placedAt, placed, paired, formed, readings}
+use Rattle.reading.specs.search.Judged.{judged}
 use Rattle.groups.specs.Melds.{waysAt}
 use Rattle.groups.specs.Tests.{littleDragons, valueHan, earnsWait, pinfu, twins, inThreeAt, inThreeSuits, straight, touches, outside, concealed, kans, fourWinds}
 use Rattle.yaku.specs.OfTiles.{only, halfFlush, flush, gates, tileTestsOf}

@@ -1,11 +1,10 @@
 -- `tiles::add` meets its contract: past the 34 kinds nothing is stored. Assumes nothing.
 use borrow.Author.Needs.{needs}
 use mathlib.Core.Path.{_≡_, refl, sym}
-use Prim.Native.Nat.{_≤_}
 use native.Mathlib.Omega.{arith}
 use lib.ListN.{length}
 use lib.Seq.{set-out}
-use Rattle.tiles.specs.Tally.{more}
+use Rattle.tiles.specs.laws.Tally.{more}
 use Rattle.tiles.proofs.add.Statement.{statement}
 use Rattle.tiles.proofs.add.Tie as tie
 

@@ -1,12 +1,12 @@
 -- What a loop over the numbers below n needs of a test or a sum: at the start, one more, stopped early, done. Assumes nothing.
-use mathlib.Core.Path.{_≡_, refl, sym, ap, _∙_}
+use mathlib.Core.Path.{_≡_, refl, sym}
 use mathlib.Core.Bool.{Bool, true, false, _&&_, _||_, and-false, cond}
 use mathlib.Core.Logic.{⊎-elim}
 use Prim.Native.Nat.{ℕ, zero, suc, _+_, _*_, _≤_, _<_}
 use native.Mathlib.Nat.{eq-or-lt-of-le, le-of-suc-le-suc, not-suc-le-zero, le-antisymm, mul-suc}
 use native.Mathlib.Numerals.{add-one}
 use native.Mathlib.Omega.{arith}
-use Rattle.tiles.specs.Below.{all, any, count, sum, every, some, number, total}
+use Rattle.tiles.specs.Below.{all, any, count, every, some, number, total}
 
 pub or-both : (a b : Bool) → a || b ≡ false → (a ≡ false) × (b ≡ false)
 or-both true b e = absurd (mathlib.Core.Bool.false≢true (sym e))

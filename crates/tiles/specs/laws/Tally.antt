@@ -2,7 +2,7 @@
 use mathlib.Core.Path.{_≡_, refl, sym, ap, _∙_}
 use mathlib.Core.Bool.{Bool, true, false, cond}
 use mathlib.Core.List.{List, [], _∷_}
-use Prim.Native.Nat.{ℕ, zero, suc, _+_, _-_, _≤_, _<_}
+use Prim.Native.Nat.{ℕ, zero, suc, _+_, _≤_, _<_}
 use native.Mathlib.Nat.{add-zero, add-suc, suc-add, le-of-suc-le-suc, not-suc-le-zero}
 use native.Mathlib.Omega.{arith}
 use lib.Dec.{eqb, ltb}
@@ -11,7 +11,16 @@ use lib.Seq.{getD-set-same, getD-set-other, ext-getD}
 use borrow.Author.Tests.{eqb-true, eqb-false, ltb-true, ltb-false}
 use Rattle.tiles.specs.Below.{table}
 use Rattle.tiles.specs.Groups.{at}
-use Rattle.tiles.specs.Tally.{tallyOf, more}
+use Rattle.tiles.specs.Tally.{tallyOf}
+
+-- n more tiles of kind k; what is no kind is not counted
+unfoldable pub more : List ℕ → ℕ → ℕ → List ℕ
+more t k n = set t k (getD t k 0 + n)
+
+-- how many of the tiles of a list are of kind k
+unfoldable pub held : List ℕ → ℕ → ℕ
+held [] k = 0
+held (x ∷ l) k = at x 1 k + held l k
 
 length-table : (n i : ℕ) (f : ℕ → ℕ) → length (table n i f) ≡ n
 length-table zero i f = refl

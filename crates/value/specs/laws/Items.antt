@@ -1,21 +1,14 @@
--- The items of fu add up to the fu, and the tables of han stay small. Assumes nothing.
+-- The items of fu add up to the fu. Assumes nothing.
 use mathlib.Core.Path.{_≡_, refl}
 use mathlib.Core.Bool.{Bool, true, false, _&&_, not, cond}
-use mathlib.Core.List.{List}
 use Prim.Native.Nat.{ℕ, _+_, _-_, _*_, _/_, _≤_}
 use native.Mathlib.Omega.{arith}
 use borrow.Author.Tests.{eqb-true}
-use lib.ListN.{getD}
-use lib.Dec.{eqb, leb}
-use Rattle.tiles.specs.Below.{every}
+use lib.Dec.{eqb}
 use Rattle.tiles.specs.laws.Below.{and-true}
 use Rattle.yaku.specs.declared.Won.{Won}
 use Rattle.yaku.specs.declared.Parts.{Parts}
 use Rattle.value.specs.Fu.{baseAlone, earned, added, rounded, fuOf, itemsOf}
-
--- no yaku of the table has over 6 han
-unfoldable pub Small : List ℕ → Type 0
-Small table = every 37 (λ i. leb (getD table i 0) 6) ≡ true
 
 at-least : (b : Bool) (n t : ℕ) → n ≤ t → (b ≡ true → t ≡ 20) → n ≤ cond b 30 t
 at-least true n t h e = omega (arith, e refl)

@@ -11,23 +11,16 @@ use Rattle.yaku.proofs.tile_tests.Tie as tie
 returns : tie.Need-returns
 unfolding tileTestsOf every
 returns c =
-    let c1 = c .before in
-    let c2 = c1 .before in
-    let c3 = c2 .before in
-    let c4 = c3 .before in
-    let c5 = c4 .before in
-    let c6 = c5 .before in
-    let c7 = c6 .before in
-    let c8 = c7 .before in
+    let d = c .before .before .before .before in
     rw (
-      c8 .only .ensures ∙ only-alike _ _ isNumber refl,
-      c7 .only2 .ensures ∙ only-alike _ _ isSimple refl,
-      c6 .only3 .ensures ∙ only-alike _ _ isYaochu refl,
-      c5 .half-flush .ensures,
-      c4 .flush .ensures,
-      c3 .only4 .ensures ∙ only-alike _ _ isHonour refl,
-      c2 .only5 .ensures ∙ only-alike _ _ isTerminal refl,
-      c1 .only6 .ensures ∙ only-alike _ _ isGreen refl,
+      d .before .before .before .before .only .ensures ∙ only-alike _ _ isNumber refl,
+      d .before .before .before .only2 .ensures ∙ only-alike _ _ isSimple refl,
+      d .before .before .only3 .ensures ∙ only-alike _ _ isYaochu refl,
+      d .before .half-flush .ensures,
+      d .flush .ensures,
+      c .before .before .before .only4 .ensures ∙ only-alike _ _ isHonour refl,
+      c .before .before .only5 .ensures ∙ only-alike _ _ isTerminal refl,
+      c .before .only6 .ensures ∙ only-alike _ _ isGreen refl,
       c .gates .ensures,
     )
 

@@ -1,4 +1,5 @@
--- What a judge keeps of a list of readings.
+-- How the code finds the best reading: what a judge keeps of a list of readings. That the list has all of them, each once, in order is
+-- stated in specs/Claims.antt.
 use mathlib.Core.List.{List, [], _∷_}
 use Rattle.reading.specs.declared.Reading.{Reading}
 

@@ -1,4 +1,5 @@
--- The list of the readings of a hand, in the order that a search meets them: `readings`. `Claims` says that it is complete and in order.
+-- How the code finds the readings of a hand: a search, code by code, and the list `readings` that it meets. Nobody has to believe it:
+-- that the list has all readings, each once, in the document's order and nothing else is stated in specs/Claims.antt.
 use mathlib.Core.Bool.{Bool, true, false, _&&_, cond}
 use mathlib.Core.List.{List, [], _∷_, _++_, map}
 use Prim.Native.Nat.{ℕ, zero, suc, _+_, _-_, _%_}
@@ -50,6 +51,7 @@ unfoldable pub splits : ℕ → ℕ → ℕ → List ℕ → List (List ℕ)
 splits zero n c t = when (isEmpty t) (λ _. [] ∷ [])
 splits (suc g) n c t = step (splits g) n c t
 
+-- the regular reading of a pair, groups and a place
 abbrev pub regularOf : ℕ → List ℕ → ℕ → Reading
 regularOf pair groups place = record { form = 0; pair = pair; groups = groups; place = place }
 

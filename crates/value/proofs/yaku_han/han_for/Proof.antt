@@ -1,0 +1,6 @@
+-- `value::yaku_han::han_for` meets its contract. Assumes nothing.
+use Rattle.value.proofs.yaku_han.han_for.Statement.{statement}
+use Rattle.value.proofs.yaku_han.han_for.Tie as tie
+
+pub han-for-spec : {M : Type 1} → statement M
+han-for-spec = tie.close (tie.spec (λ c. rw (c .if1 .taken)) (λ c. rw (c .if1 .left)))
