@@ -31,8 +31,8 @@ unfoldable pub worth : Table → Reading → Value
 worth t r = valueOf (t .won) (partsOf t r) (t .dora) (t .seats)
 
 -- it is one "of the readings with a yaku"
-abbrev pub isValued : Table → Reading → Bool
-isValued t r = hasYaku (worth t r .yaku)
+abbrev pub withYaku : Table → Reading → Bool
+withYaku t r = hasYaku (worth t r .yaku)
 
 -- ---- which of two is reported
 

@@ -9,7 +9,7 @@ use lib.ListN.{length, take, drop}
 use Rattle.bits.specs.Bits.{sum, Below, bitsOf}
 use Rattle.fields.specs.declared.Hand.{Hand}
 use Rattle.fields.specs.Refusals.{wrongFields, descends, overFour, wrongSituation}
-use Rattle.hand.specs.Record.{lengthOf, padOf, widths, wrongForm, countIn, handIn, paddingOf, numberOf, handOf, soundAs, readOf, writtenOf, bufferOf}
+use Rattle.hand.specs.Record.{lengthOf, padOf, widths, wrongLength, countIn, handIn, paddingOf, numberOf, handOf, soundAs, readOf, writtenOf, bufferOf}
 use Rattle.hand.specs.laws.Claims as laws
 
 -- "zero bits to the byte. That is 103 − 10m bits": with under 8 zero bits they are the bytes of m's length
@@ -32,7 +32,7 @@ paddingOfRecord s = paddingOf (countIn s) (bitsOf s)
 
 -- "A record that meets none of these is sound": the conditions of 1, 2, 3, 4 and 5
 pub record IsSound (s : List ℕ) : Type 0 where
-  pub form : wrongForm (length s) (countIn s) ≡ false
+  pub form : wrongLength (length s) (countIn s) ≡ false
   pub fields : wrongFields (handOfRecord s) (paddingOfRecord s) ≡ false
   pub order : descends (handOfRecord s) ≡ false
   pub four : overFour (handOfRecord s) ≡ false

@@ -87,8 +87,8 @@ abbrev pub handOf : HandRead → Hand
 handOf r = record { fields = fieldsOf (r .answer); melds = r .melds; concealed = r .concealed }
 
 -- 1: "under 4 bytes, m over 4, or a length not m's"
-abbrev pub wrongForm : ℕ → ℕ → Bool
-wrongForm n m = ltb n 4 || ltb 4 m || not (eqb n (lengthOf m))
+abbrev pub wrongLength : ℕ → ℕ → Bool
+wrongLength n m = ltb n 4 || ltb 4 m || not (eqb n (lengthOf m))
 
 -- "meld count m" as the record has it
 abbrev pub countIn : List ℕ → ℕ
@@ -104,7 +104,7 @@ judged m bits = answerBy (handIn m bits) (refusalOf (handIn m bits) (paddingOf m
 
 -- "Read refuses, first match wins": 1, or what the bits say
 unfoldable pub readOf : List ℕ → HandRead
-readOf s = cond (wrongForm (length s) (countIn s)) (refusedWith 1) (judged (countIn s) (bitsOf s))
+readOf s = cond (wrongLength (length s) (countIn s)) (refusedWith 1) (judged (countIn s) (bitsOf s))
 
 -- ---- Write
 

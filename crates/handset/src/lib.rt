@@ -5,7 +5,7 @@ ghost use Rattle.score.specs.Score.{scoreOf};
 ghost use Rattle.game.specs.Booking as Booking;
 ghost use Rattle.game.specs.Ledger.{fresh};
 ghost use Rattle.game.specs.Runs.{Booked};
-ghost use Rattle.text.specs.Text.{lineLength, lineBuffer};
+ghost use Rattle.text.specs.Text.{lineOf, lengthIn, bufferWith};
 ghost use Rattle.handset.specs.Interface.{readHandOf, nextEntryBy, nextEntryOf};
 use fields::Fields;
 use fields::Hand;
@@ -170,8 +170,8 @@ pub extern "C" fn hb_next(s: &[u8], at: usize) -> NextEntry
 
 #[no_mangle]
 pub extern "C" fn hb_line(buf: &mut [u8], entry: u32, letter: u8, refusal: u8, g: Game) -> usize
-    ensures { λ r. ⌜ r ≡ lineLength (now (buf .entry)) entry letter refusal (g .scores) (g .sticks) ⌝ }
-    ensures { λ _. ⌜ now (buf .exit) ≡ lineBuffer (now (buf .entry)) entry letter refusal (g .scores) (g .sticks) ⌝ }
+    ensures { λ r. ⌜ r ≡ lengthIn (now (buf .entry)) (lineOf entry letter refusal (g .scores) (g .sticks)) ⌝ }
+    ensures { λ _. ⌜ now (buf .exit) ≡ bufferWith (now (buf .entry)) (lineOf entry letter refusal (g .scores) (g .sticks)) ⌝ }
 {
     let scores = g.scores;
     text::line(buf, entry, letter, refusal, scores, g.sticks)

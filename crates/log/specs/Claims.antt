@@ -5,7 +5,7 @@ use mathlib.Core.Logic.{_⊎_, _↔_}
 use mathlib.Core.List.{List, _∷_}
 use Prim.Native.Nat.{ℕ, _+_, _≤_, _<_}
 use lib.ListN.{length, take, drop}
-use Rattle.hand.specs.Record.{countIn, wrongForm}
+use Rattle.hand.specs.Record.{countIn, wrongLength}
 use Rattle.log.specs.Log.{isBad, nextOf, numberOf, isEnd, partOf}
 use Rattle.log.specs.Walk.{entryAt, entriesFrom, stopFrom, laid}
 use Rattle.log.specs.laws.Next as next
@@ -31,7 +31,7 @@ kind-and-argument log at k a n e = (next.entry-kind log at k a n e, next.entry-a
 -- "A win has argument 0 and its record follows": a stretch of the form that Read wants
 pub record IsWin (a : ℕ) (r : List ℕ) : Type 0 where
   pub argument : a ≡ 0
-  pub form : wrongForm (length r) (countIn r) ≡ false
+  pub form : wrongLength (length r) (countIn r) ≡ false
 
 -- each win that Next entry gives has such a record
 pub win-record : (log : List ℕ) (at a n : ℕ) → nextOf log at ≡ Entry 1 a n → IsWin a (drop 1 (partOf log at))

@@ -14,12 +14,12 @@ use Rattle.reading.specs.declared.Reading.{Reading}
 use Rattle.reading.specs.Reading.{IsReading}
 use Rattle.groups.specs.Melds.{meldCode, meldWay}
 use Rattle.yaku.specs.declared.Won.{Won}
-use Rattle.yaku.specs.OfTiles.{tileTestsOf}
+use Rattle.yaku.specs.search.TileTests.{tileTestsOf}
 use Rattle.points.specs.declared.Seats.{Seats}
 use Rattle.points.specs.Points.{changes}
 use Rattle.value.specs.declared.Value.{Value}
 use Rattle.best.specs.declared.Table.{Table}
-use Rattle.best.specs.Best.{worth, isValued, Over}
+use Rattle.best.specs.Best.{worth, withYaku, Over}
 use Rattle.score.specs.declared.Scored.{Scored}
 
 -- ---- the hand at the table
@@ -84,7 +84,7 @@ IsReadingOf h r = IsReading (concealedTally h) (h .fields .m) (h .fields .winnin
 module _ (h : Hand) (dealer wind : ℕ) where
   -- r is one "of the readings with a yaku"
   abbrev pub ReadsWithYaku : Reading → Type 0
-  ReadsWithYaku r = IsReadingOf h r × (isValued (tableOf h dealer wind) r ≡ true)
+  ReadsWithYaku r = IsReadingOf h r × (withYaku (tableOf h dealer wind) r ≡ true)
 
   -- "Of the readings with a yaku, the first with the highest winner's gain, then highest h, then fu, is reported"
   pub record IsReported (r : Reading) : Type 0 where

@@ -21,19 +21,19 @@ signedOf (pos n) = digitsOf n
 signedOf (negsuc n) = 45 ∷ digitsOf (suc n)
 
 -- "one space between fields, a line feed after each line"
-unfoldable pub joined : List (List ℕ) → List ℕ
-joined [] = 10 ∷ []
-joined (f ∷ []) = f ++ (10 ∷ [])
-joined (f ∷ g ∷ fs) = f ++ (32 ∷ joined (g ∷ fs))
+unfoldable pub spaced : List (List ℕ) → List ℕ
+spaced [] = 10 ∷ []
+spaced (f ∷ []) = f ++ (10 ∷ [])
+spaced (f ∷ g ∷ fs) = f ++ (32 ∷ spaced (g ∷ fs))
 
 -- "scores of seats 0 to 3": that of a seat, as text
-abbrev pub scoreOf : List ℤ → ℕ → List ℕ
-scoreOf scores seat = signedOf (getD scores seat (pos 0))
+abbrev pub scoreText : List ℤ → ℕ → List ℕ
+scoreText scores seat = signedOf (getD scores seat (pos 0))
 
 -- "entry from 1, letter R W D C, refusal (0 accepted), scores of seats 0 to 3, sticks"
 unfoldable pub lineOf : ℕ → ℕ → ℕ → List ℤ → ℕ → List ℕ
 lineOf entry letter refusal scores sticks =
-    joined (digitsOf entry ∷ (letter ∷ []) ∷ digitsOf refusal ∷ scoreOf scores 0 ∷ scoreOf scores 1 ∷ scoreOf scores 2 ∷ scoreOf scores 3 ∷ digitsOf sticks ∷ [])
+    spaced (digitsOf entry ∷ (letter ∷ []) ∷ digitsOf refusal ∷ scoreText scores 0 ∷ scoreText scores 1 ∷ scoreText scores 2 ∷ scoreText scores 3 ∷ digitsOf sticks ∷ [])
 
 -- a text written at the start of a buffer: how long it is, or 0 where the buffer has no room for it (the papers leave this free)
 abbrev pub lengthIn : List ℕ → List ℕ → ℕ
@@ -42,11 +42,3 @@ lengthIn buf text = cond (leb (length text) (length buf)) (length text) 0
 -- "a refused call .. writes nothing, and bytes past what a call writes stay"
 abbrev pub bufferWith : List ℕ → List ℕ → List ℕ
 bufferWith buf text = cond (leb (length text) (length buf)) (text ++ drop (length text) buf) buf
-
--- "the line" in a buffer: how long it is
-unfoldable pub lineLength : List ℕ → ℕ → ℕ → ℕ → List ℤ → ℕ → ℕ
-lineLength buf entry letter refusal scores sticks = lengthIn buf (lineOf entry letter refusal scores sticks)
-
--- and what the buffer then holds: "bytes past what a call writes stay"
-unfoldable pub lineBuffer : List ℕ → ℕ → ℕ → ℕ → List ℤ → ℕ → List ℕ
-lineBuffer buf entry letter refusal scores sticks = bufferWith buf (lineOf entry letter refusal scores sticks)

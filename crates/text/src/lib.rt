@@ -4,7 +4,7 @@ ghost use mathlib.Core.List.{[], _∷_, _++_};
 ghost use Prim.Native.Nat.{_+_, _≤_};
 ghost use lib.ListN.{length};
 ghost use lib.IntN.{natAbs};
-ghost use Rattle.text.specs.Text.{digitsOf, signedOf, lineOf, lineLength, lineBuffer};
+ghost use Rattle.text.specs.Text.{digitsOf, signedOf, lineOf, lengthIn, bufferWith};
 ghost use Rattle.text.specs.laws.Put.{Put, scoresText};
 
 // Writes the digits of n from `at` on, those of its tenth first, and returns the place after them.
@@ -113,8 +113,8 @@ pub fn line(
     scores: [i32; 4],
     sticks: u32,
 ) -> usize
-    ensures { λ r. ⌜ r ≡ lineLength (now (buf .entry)) entry letter refusal scores sticks ⌝ }
-    ensures { λ _. ⌜ now (buf .exit) ≡ lineBuffer (now (buf .entry)) entry letter refusal scores sticks ⌝ }
+    ensures { λ r. ⌜ r ≡ lengthIn (now (buf .entry)) (lineOf entry letter refusal scores sticks) ⌝ }
+    ensures { λ _. ⌜ now (buf .exit) ≡ bufferWith (now (buf .entry)) (lineOf entry letter refusal scores sticks) ⌝ }
     ensures { λ _. ⌜ length (lineOf entry letter refusal scores sticks) ≤ 83 ⌝ }
 {
     let mut text = [0u8; 83];

@@ -1,7 +1,7 @@
 // What a reading is worth: its yaku, h, fu, the basic points and the winner's gain.
 ghost use mathlib.Core.Path.{_≡_};
 ghost use Prim.Native.Nat.{_<_, _≤_};
-ghost use Rattle.yaku.specs.OfTiles.{tileTestsOf};
+ghost use Rattle.yaku.specs.search.TileTests.{tileTestsOf};
 ghost use Rattle.yaku.specs.Yaku.{yakuOf};
 ghost use Rattle.value.specs.Han.{hanOf};
 ghost use Rattle.value.specs.Value.{valueOf};

@@ -6,7 +6,6 @@ use lib.ListN.{getD}
 use lib.Dec.{eqb, leb}
 use Rattle.tiles.specs.Below.{all, any, every}
 use Rattle.tiles.specs.Kinds.{isNumber, inSuit, isHonour, isTerminal, isYaochu, isSimple}
-use Rattle.yaku.specs.declared.TileTests.{TileTests}
 
 -- "all simples", "only yaochu", "honours only": each tile has p
 unfoldable pub only : List ℕ → (ℕ → Bool) → Bool
@@ -35,17 +34,3 @@ gatesOf t s = all 9 (λ i. leb (cond (eqb (i % 8) 0) 3 1) (getD t (9 * s + i) 0)
 -- 35 "m = 0, one suit's 1112345678999 and one more of it": of the 14 tiles of a hand with no meld one is left
 unfoldable pub gates : List ℕ → Bool → Bool
 gates t bare = bare && any 3 (λ s. only t (inSuit s) && gatesOf t s)
-
--- all of these at once, 2, 15, 20, 23, 25 and 32 to 35: the same in every reading of a hand, so that the code tests them once
-unfoldable pub tileTestsOf : List ℕ → Bool → TileTests
-tileTestsOf t bare = record {
-  simples = only t isSimple;
-  yaochus = only t isYaochu;
-  honour = honourPresent t;
-  half = halfFlush t;
-  flush = flush t;
-  honours = only t isHonour;
-  terminals = only t isTerminal;
-  greens = only t isGreen;
-  gates = gates t bare;
-}

@@ -1,7 +1,7 @@
 // The 36 yaku of a reading, and which of them are listed. Assumes nothing of the tiles.
 ghost use mathlib.Core.Path.{_≡_};
 ghost use Prim.Native.Nat.{_<_, _≤_};
-ghost use Rattle.yaku.specs.OfTiles.{tileTestsOf};
+ghost use Rattle.yaku.specs.search.TileTests.{tileTestsOf};
 ghost use Rattle.yaku.specs.Yaku.{testsOf, isYakuman, listed as listedOf, yakuOf, hasYaku};
 
 mod of_tiles;

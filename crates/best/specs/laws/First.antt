@@ -9,14 +9,15 @@ use native.Mathlib.Omega.{arith}
 use borrow.Author.Tests.{ltb-true, ltb-false, eqb-true, eqb-false}
 use lib.Dec.{ltb, eqb}
 use Rattle.reading.specs.declared.Reading.{Reading}
-use Rattle.reading.specs.Order.{Lex, Before, Each, none, also, Pairwise, ended, first}
+use Rattle.reading.specs.Order.{Lex, Before}
+use Rattle.reading.specs.search.Ordered.{Each, none, also, Pairwise, ended, first}
 use Rattle.reading.specs.search.Judged.{judged}
 use Rattle.reading.specs.laws.Lists.{each-member}
 use Rattle.yaku.specs.Yaku.{hasYaku}
 use Rattle.value.specs.declared.Value.{Value}
 use Rattle.best.specs.declared.Table.{Table}
 use Rattle.best.specs.declared.Best.{Best}
-use Rattle.best.specs.Best.{worth, isValued, figures, Over}
+use Rattle.best.specs.Best.{worth, withYaku, figures, Over}
 use Rattle.best.specs.search.Best.{beats, noneOf, judgeOf}
 
 -- ---- the order of values: gain, then h, then fu
@@ -76,19 +77,19 @@ lex-trans (x ∷ a) (y ∷ b) (z ∷ c) h g =
 pub record Kept (t : Table) (S : Reading → Type 0) (b : Best) : Type 0 where
   pub unseen : b .seen ≡ false → (q : Reading) → S q → ⊥
   pub seen : b .seen ≡ true → (r : Reading) × S r
-  pub worthless : b .valued ≡ false → (q : Reading) → S q → isValued t q ≡ false
-  pub best : b .valued ≡ true → (r : Reading) × S r × (isValued t r ≡ true) × (b .value ≡ worth t r) × ((q : Reading) → S q → isValued t q ≡ true → Over t r q)
+  pub worthless : b .valued ≡ false → (q : Reading) → S q → withYaku t q ≡ false
+  pub best : b .valued ≡ true → (r : Reading) × S r × (withYaku t r ≡ true) × (b .value ≡ worth t r) × ((q : Reading) → S q → withYaku t q ≡ true → Over t r q)
 
 abbrev With : (Reading → Type 0) → Reading → Reading → Type 0
 With S x q = S q ⊎ (q ≡ x)
 
 module _ (t : Table) (S : Reading → Type 0) (b : Best) (x : Reading) (k : Kept t S b) (later : (q : Reading) → S q → Before q x) where
   -- the reading that is kept, where x does not beat it or has no yaku
-  keeps : (r : Reading) → ((q : Reading) → S q → isValued t q ≡ true → Over t r q) → (isValued t x ≡ true → Over t r x) → (q : Reading) → With S x q → isValued t q ≡ true → Over t r q
+  keeps : (r : Reading) → ((q : Reading) → S q → withYaku t q ≡ true → Over t r q) → (withYaku t x ≡ true → Over t r x) → (q : Reading) → With S x q → withYaku t q ≡ true → Over t r q
   keeps r o ox q m v = ⊎-elim (λ s. o q s v) (λ e. rw e (ox (rw e at v))) m
 
   -- x is taken: it beats what was kept, or nothing was
-  taken : isValued t x ≡ true → (not (b .valued) || beats (worth t x) (b .value)) ≡ true → Kept t (With S x) (record { seen = true; valued = true; value = worth t x })
+  taken : withYaku t x ≡ true → (not (b .valued) || beats (worth t x) (b .value)) ≡ true → Kept t (With S x) (record { seen = true; valued = true; value = worth t x })
   taken vx e = record {
     unseen = λ z. absurd (false≢true (sym z));
     seen = λ _. (x, inr refl);
@@ -102,7 +103,7 @@ module _ (t : Table) (S : Reading → Type 0) (b : Best) (x : Reading) (k : Kept
       beyond : (q r : Reading) → Over t r q → Lex (figures (worth t r)) (figures (worth t x)) → Over t x q
       beyond q r o l = ⊎-elim (λ h. inl (lex-trans (figures (worth t q)) (figures (worth t r)) (figures (worth t x)) h l)) (λ h. inl (subst (λ (z : List ℕ). Lex z (figures (worth t x))) (sym (h .0)) l)) o
 
-      over : (q : Reading) → S q → isValued t q ≡ true → (c : Bool) → b .valued ≡ c → Over t x q
+      over : (q : Reading) → S q → withYaku t q ≡ true → (c : Bool) → b .valued ≡ c → Over t x q
       over q s v false z = absurd (false≢true (sym (k .worthless z q s) ∙ v))
       over q s v true z =
           let y = k .best z in
@@ -110,17 +111,17 @@ module _ (t : Table) (S : Reading → Type 0) (b : Best) (x : Reading) (k : Kept
           beyond q (y .0) (y .4 q s v) (above (y .0) (y .3) h)
 
   -- x is not taken: it has no yaku, or does not beat what is kept
-  passed : (isValued t x ≡ true → (b .valued ≡ true) × (beats (worth t x) (b .value) ≡ false)) → Kept t (With S x) (record { seen = true; valued = b .valued; value = b .value })
+  passed : (withYaku t x ≡ true → (b .valued ≡ true) × (beats (worth t x) (b .value) ≡ false)) → Kept t (With S x) (record { seen = true; valued = b .valued; value = b .value })
   passed h = record {
     unseen = λ z. absurd (false≢true (sym z));
     seen = λ _. (x, inr refl);
-    worthless = λ z q m. ⊎-elim (λ s. k .worthless z q s) (λ e. rw e (no-yaku z (isValued t x) refl)) m;
+    worthless = λ z q m. ⊎-elim (λ s. k .worthless z q s) (λ e. rw e (no-yaku z (withYaku t x) refl)) m;
     best = λ z.
         let y = k .best z in
         (y .0, inl (y .1), y .2, y .3, keeps (y .0) (y .4) (λ v. behind (y .0) (y .1) (y .3) (h v .1)));
   }
     where
-      no-yaku : b .valued ≡ false → (c : Bool) → isValued t x ≡ c → isValued t x ≡ false
+      no-yaku : b .valued ≡ false → (c : Bool) → withYaku t x ≡ c → withYaku t x ≡ false
       no-yaku z true e = absurd (false≢true (sym z ∙ h e .0))
       no-yaku z false e = e
 
@@ -129,9 +130,9 @@ module _ (t : Table) (S : Reading → Type 0) (b : Best) (x : Reading) (k : Kept
 
   kept-step : Kept t (With S x) (judgeOf t b x)
   unfolding judgeOf
-  kept-step = go (isValued t x) (b .valued) (beats (worth t x) (b .value)) refl refl refl
+  kept-step = go (withYaku t x) (b .valued) (beats (worth t x) (b .value)) refl refl refl
     where
-      go : (v w z : Bool) → isValued t x ≡ v → b .valued ≡ w → beats (worth t x) (b .value) ≡ z
+      go : (v w z : Bool) → withYaku t x ≡ v → b .valued ≡ w → beats (worth t x) (b .value) ≡ z
           → Kept t (With S x) (cond (v && (not w || z)) (record { seen = true; valued = true; value = worth t x }) (record { seen = true; valued = b .valued; value = b .value }))
       go false w z ev ew ez = passed (λ e. absurd (false≢true (sym ev ∙ e)))
       go true false z ev ew ez = taken ev (rw ew refl)

@@ -8,11 +8,11 @@ use lib.ListN.{replicate}
 use Rattle.reading.specs.declared.Reading.{Reading}
 use Rattle.reading.specs.search.Readings.{readings}
 use Rattle.reading.specs.search.Judged.{judged}
-use Rattle.yaku.specs.OfTiles.{tileTestsOf}
+use Rattle.yaku.specs.search.TileTests.{tileTestsOf}
 use Rattle.value.specs.declared.Value.{Value}
 use Rattle.best.specs.declared.Table.{Table}
 use Rattle.best.specs.declared.Best.{Best}
-use Rattle.best.specs.Best.{worth, isValued}
+use Rattle.best.specs.Best.{worth, withYaku}
 
 -- "the highest winner's gain, then highest h, then fu": v is above w
 unfoldable pub beats : Value → Value → Bool
@@ -31,7 +31,7 @@ noneOf = record { seen = false; valued = false; value = nothing }
 -- "the first": a later reading has to beat the one that is kept
 unfoldable pub judgeOf : Table → Best → Reading → Best
 judgeOf t b r =
-    cond (isValued t r && (not (b .valued) || beats (worth t r) (b .value)))
+    cond (withYaku t r && (not (b .valued) || beats (worth t r) (b .value)))
     (record { seen = true; valued = true; value = worth t r })
     (record { seen = true; valued = b .valued; value = b .value })
 

@@ -13,7 +13,7 @@ use Rattle.fields.specs.declared.Hand.{Hand}
 use Rattle.fields.specs.Refusals.{wrongFields, descends, overFour, wrongSituation, refusalOf, unwritable}
 use Rattle.hand.specs.declared.HandRead.{HandRead}
 use Rattle.hand.specs.declared.Written.{Written}
-use Rattle.hand.specs.Record.{lengthOf, padOf, widths, wrongForm, countIn, handIn, paddingOf, refusedWith, soundAs, numberOf, handOf, answerBy, judged, readOf, recordOf, writeRefusal, writtenOf, bufferOf}
+use Rattle.hand.specs.Record.{lengthOf, padOf, widths, wrongLength, countIn, handIn, paddingOf, refusedWith, soundAs, numberOf, handOf, answerBy, judged, readOf, recordOf, writeRefusal, writtenOf, bufferOf}
 use Rattle.hand.specs.laws.Read.{whole, form-of}
 use Rattle.hand.specs.laws.Write.{sum-widths, refusal-none, wrote-by}
 use Rattle.hand.specs.laws.Clean.{clean-of, of-clean}
@@ -26,7 +26,7 @@ module _ (s : List ℕ) where
   abbrev p : ℕ
   p = paddingOf (countIn s) (bitsOf s)
 
-  pub sound-read : wrongForm (length s) (countIn s) ≡ false → wrongFields x p ≡ false → descends x ≡ false → overFour x ≡ false → wrongSituation x ≡ false → numberOf (readOf s .answer) ≡ 0
+  pub sound-read : wrongLength (length s) (countIn s) ≡ false → wrongFields x p ≡ false → descends x ≡ false → overFour x ≡ false → wrongSituation x ≡ false → numberOf (readOf s .answer) ≡ 0
   sound-read a b c d e =
       ap (λ (r : HandRead). numberOf (r .answer))
       (as-read s x (record { form = form-of (length s) (countIn s) a; is-hand = refl; unrefused = of-clean x p (record { fields = b; order = c; four = d; situation = e }) }))
@@ -37,11 +37,11 @@ module _ (s : List ℕ) where
   given false true j q e = absurd (omega (arith, ltb-true 0 j q))
   given false false j q e = (refl, omega (arith, ltb-false 0 j q))
 
-  is-given : numberOf (readOf s .answer) ≡ 0 → (wrongForm (length s) (countIn s) ≡ false) × (refusalOf x p ≡ 0)
+  is-given : numberOf (readOf s .answer) ≡ 0 → (wrongLength (length s) (countIn s) ≡ false) × (refusalOf x p ≡ 0)
   unfolding readOf judged answerBy
-  is-given e = given (wrongForm (length s) (countIn s)) (ltb 0 (refusalOf x p)) (refusalOf x p) refl e
+  is-given e = given (wrongLength (length s) (countIn s)) (ltb 0 (refusalOf x p)) (refusalOf x p) refl e
 
-  pub read-sound : numberOf (readOf s .answer) ≡ 0 → (wrongForm (length s) (countIn s) ≡ false) × (wrongFields x p ≡ false) × (descends x ≡ false) × (overFour x ≡ false) × (wrongSituation x ≡ false)
+  pub read-sound : numberOf (readOf s .answer) ≡ 0 → (wrongLength (length s) (countIn s) ≡ false) × (wrongFields x p ≡ false) × (descends x ≡ false) × (overFour x ≡ false) × (wrongSituation x ≡ false)
   read-sound e =
       let g = is-given e in
       let c = clean-of x p (g .1) in

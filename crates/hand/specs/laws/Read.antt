@@ -11,7 +11,7 @@ use Rattle.tiles.specs.laws.Below.{or-both}
 use Rattle.bits.specs.Bits.{eights, bitsOf, fill}
 use Rattle.bits.specs.laws.Pack.{length-bitsOf, part-fill, sum-replicate}
 use Rattle.fields.specs.declared.Fields.{Fields}
-use Rattle.hand.specs.Record.{head, headerOf, sixes, lengthOf, padOf, headOf, meldsOf, tilesOf, paddingOf, handIn, refusedWith, wrongForm, countIn, judged, readOf}
+use Rattle.hand.specs.Record.{head, headerOf, sixes, lengthOf, padOf, headOf, meldsOf, tilesOf, paddingOf, handIn, refusedWith, wrongLength, countIn, judged, readOf}
 
 pub bool-true : (b : Bool) → (b ≡ false → ⊥) → b ≡ true
 bool-true true h = refl
@@ -32,19 +32,19 @@ pub record Form (n m : ℕ) : Type 0 where
   pub few : m ≤ 4
   pub right : n ≡ lengthOf m
 
-pub form-of : (n m : ℕ) → wrongForm n m ≡ false → Form n m
+pub form-of : (n m : ℕ) → wrongLength n m ≡ false → Form n m
 form-of n m e =
     let p = or-both (ltb n 4 || ltb 4 m) (not (eqb n (lengthOf m))) e in
     let q = or-both (ltb n 4) (ltb 4 m) (p .0) in
     record { four = ltb-false n 4 (q .0); few = ltb-false 4 m (q .1); right = eqb-true n (lengthOf m) (not-false (eqb n (lengthOf m)) (p .1)) }
 
-pub form-right : (n m : ℕ) → Form n m → wrongForm n m ≡ false
+pub form-right : (n m : ℕ) → Form n m → wrongLength n m ≡ false
 form-right n m f = rw (le-ltb n 4 (f .four), le-ltb 4 m (f .few), eq-eqb n (lengthOf m) (f .right))
 
 -- refusal 1
 pub read-not : (s : List ℕ) → (Form (length s) (countIn s) → ⊥) → readOf s ≡ refusedWith 1
 unfolding readOf
-read-not s h = rw (bool-true (wrongForm (length s) (countIn s)) (λ e. h (form-of _ _ e)))
+read-not s h = rw (bool-true (wrongLength (length s) (countIn s)) (λ e. h (form-of _ _ e)))
 
 -- a record of the right length, read from its bits with zeros after them
 pub head-fill : (s : List ℕ) → 4 ≤ length s → headOf (fill 104 (bitsOf s)) ≡ headOf (bitsOf s)

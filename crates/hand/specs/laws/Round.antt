@@ -17,7 +17,7 @@ use Rattle.fields.specs.declared.Hand.{Hand}
 use Rattle.fields.specs.Refusals.{tooLarge, unusedNotZero, refusalOf, unwritable}
 use Rattle.hand.specs.declared.HandRead.{HandRead}
 use Rattle.hand.specs.declared.Answer.the-variants.{Sound, Refused}
-use Rattle.hand.specs.Record.{head, headerOf, headList, sixes, lengthOf, padOf, headOf, meldsOf, tilesOf, paddingOf, handIn, refusedWith, soundAs, wrongForm, countIn, answerBy, judged, readOf, widths, valuesOf, recordOf}
+use Rattle.hand.specs.Record.{head, headerOf, headList, sixes, lengthOf, padOf, headOf, meldsOf, tilesOf, paddingOf, handIn, refusedWith, soundAs, wrongLength, countIn, answerBy, judged, readOf, widths, valuesOf, recordOf}
 use Rattle.hand.specs.laws.Clean.{clean-of, of-clean, kinds-of, Accepted, accepted-of}
 use Rattle.hand.specs.laws.Fill.{take-fill, fill-past, fill-take, unused-of, zeros-of}
 use Rattle.hand.specs.laws.Read.{whole, Form, form-of, form-right}
@@ -92,7 +92,7 @@ read-as s h e =
     let m : ℕ = countIn s in
     let x : Hand = handIn m b in
     let j : ℕ = refusalOf x (paddingOf m b) in
-    let p = cond-sound (wrongForm (length s) m) 1 (answerBy x j) h e in
+    let p = cond-sound (wrongLength (length s) m) 1 (answerBy x j) h e in
     let q = cond-sound (ltb 0 j) j (soundAs x) h (p .1) in
     let i : h ≡ x = sym (sound-inj x h (q .1)) in
     let z : j ≡ 0 = omega (arith, ltb-false 0 j (q .0)) in

@@ -11,7 +11,7 @@ use native.Mathlib.Numerals.{add-one}
 use lib.ListN.{length, getD, take, drop, length-drop}
 use lib.Seq.{take-nil, drop-drop, length-take-le}
 use Rattle.tiles.specs.laws.Below.{or-both}
-use Rattle.hand.specs.Record.{headOf, countIn, lengthOf, wrongForm}
+use Rattle.hand.specs.Record.{headOf, countIn, lengthOf, wrongLength}
 use Rattle.hand.specs.laws.Read.{whole, form-right}
 use Rattle.log.specs.Log.{kindAt, argumentAt, isWin, isBroken, recordsFrom, isBad, entryLength, nextOf, partOf}
 use Rattle.log.specs.declared.Next.{Next}
@@ -204,14 +204,14 @@ count-take (a ∷ b ∷ c ∷ d ∷ s) (suc (suc (suc zero))) h l = absurd (omeg
 count-take (a ∷ b ∷ c ∷ d ∷ s) (suc (suc (suc (suc n)))) h l = refl
 
 -- an unbroken record has the form that Read wants
-pub record-form : (s : List ℕ) → isBroken s ≡ false → wrongForm (length (take (lengthOf (countIn s)) s)) (countIn (take (lengthOf (countIn s)) s)) ≡ false
+pub record-form : (s : List ℕ) → isBroken s ≡ false → wrongLength (length (take (lengthOf (countIn s)) s)) (countIn (take (lengthOf (countIn s)) s)) ≡ false
 record-form s e =
     let u = unbroken s e in
     let l = length-take-le (lengthOf (countIn s)) s (u .3) in
     rw (count-take s (lengthOf (countIn s)) (u .1) (omega arith), l) (form-right (lengthOf (countIn s)) (countIn s) (record { four = u .1; few = u .0; right = refl }))
 
 -- the part of a win after its header
-pub win-part : (log : List ℕ) (at a n : ℕ) → nextOf log at ≡ Entry 1 a n → (a ≡ 0) × (wrongForm (length (drop 1 (partOf log at))) (countIn (drop 1 (partOf log at))) ≡ false)
+pub win-part : (log : List ℕ) (at a n : ℕ) → nextOf log at ≡ Entry 1 a n → (a ≡ 0) × (wrongLength (length (drop 1 (partOf log at))) (countIn (drop 1 (partOf log at))) ≡ false)
 unfolding partOf
 win-part log at a n e =
     let w = entry-win log at 1 a n e refl in

@@ -1,12 +1,11 @@
 -- `play::entry_line` meets its contract. Assumes nothing.
 use borrow.Author.Needs.{needs}
-use Rattle.text.specs.Text.{lineLength, lineBuffer}
 use Rattle.play.specs.Play.{entryLine}
 use Rattle.play.proofs.entry_line.Statement.{statement}
 use Rattle.play.proofs.entry_line.Tie as tie
 
 returns : tie.Need-returns
-unfolding entryLine lineLength lineBuffer
+unfolding entryLine
 returns c = rw (← c .before .before .before .letter .ensures) (c .before .before .line .ensures)
 
 pub entry-line-spec : {M : Type 1} → statement M

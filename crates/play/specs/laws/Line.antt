@@ -10,7 +10,7 @@ use lib.ListN.{length, take, drop, length-append}
 use lib.Seq.{take-append-seam}
 use Rattle.log.specs.laws.Next.{next-end}
 use Rattle.log.specs.laws.Walk.{entries-end}
-use Rattle.text.specs.Text.{digitsOf, joined, lineOf, lengthIn, bufferWith}
+use Rattle.text.specs.Text.{digitsOf, spaced, lineOf, lengthIn, bufferWith}
 use Rattle.play.specs.declared.Step.{Step}
 use Rattle.play.specs.declared.Turn.{Turn}
 use Rattle.play.specs.Play.{stepOf, entryLine, textFrom, textLeft, nextLine, turnBy}
@@ -33,7 +33,7 @@ buffer-none buf = fits-or-not buf [] (λ n out. out ≡ buf) refl refl
 
 -- a line has a byte at least
 line-some : (k kind answer : ℕ) (g : _) → 0 < length (entryLine k kind answer g)
-unfolding entryLine lineOf joined
+unfolding entryLine lineOf spaced
 line-some k kind answer g = rw (length-append (digitsOf k)) (omega arith)
 
 module _ (t : Turn) (log : List ℕ) where

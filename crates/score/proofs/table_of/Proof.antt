@@ -8,7 +8,7 @@ use Rattle.tiles.specs.Kinds.{doraOf}
 use Rattle.fields.specs.declared.Hand.{Hand}
 use Rattle.yaku.specs.declared.Won.{Won}
 use Rattle.yaku.specs.declared.TileTests.{TileTests}
-use Rattle.yaku.specs.OfTiles.{tileTestsOf}
+use Rattle.yaku.specs.search.TileTests.{tileTestsOf}
 use Rattle.best.specs.declared.Table.{Table}
 use Rattle.best.specs.search.Best.{Ready}
 use Rattle.score.specs.Named.{wonOf, seatsOf, meldCodes, meldWays, tableOf}

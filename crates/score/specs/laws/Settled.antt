@@ -23,7 +23,7 @@ use Rattle.value.specs.declared.Value.{Value}
 use Rattle.value.specs.Value.{valueOf}
 use Rattle.best.specs.declared.Table.{Table}
 use Rattle.best.specs.declared.Best.{Best}
-use Rattle.best.specs.Best.{partsOf, worth, isValued}
+use Rattle.best.specs.Best.{partsOf, worth, withYaku}
 use Rattle.best.specs.search.Best.{beats, noneOf, judgeOf, bestOf}
 use Rattle.score.specs.declared.Scored.{Scored}
 use Rattle.score.specs.Named.{tableOf, seatsOf, refusedWith, acceptedAs}
@@ -55,7 +55,7 @@ worth-le t r = basic-le _ _ _
 
 judge-le : (t : Table) (b : Best) (r : Reading) → b .value .basic .0 ≤ 8000 → judgeOf t b r .value .basic .0 ≤ 8000
 unfolding judgeOf
-judge-le t b r h = go (isValued t r && (not (b .valued) || beats (worth t r) (b .value)))
+judge-le t b r h = go (withYaku t r && (not (b .valued) || beats (worth t r) (b .value)))
   where
     go : (c : Bool) → cond {A = Best} c (record { seen = true; valued = true; value = worth t r }) (record { seen = true; valued = b .valued; value = b .value }) .value .basic .0 ≤ 8000
     go true = worth-le t r

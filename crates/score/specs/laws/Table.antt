@@ -12,7 +12,8 @@ use Rattle.reading.specs.search.Readings.{concatMap, isEmpty, less, fits, witho
 use Rattle.reading.specs.search.Judged.{judged}
 use Rattle.groups.specs.Melds.{waysAt}
 use Rattle.groups.specs.Tests.{littleDragons, valueHan, earnsWait, pinfu, twins, inThreeAt, inThreeSuits, straight, touches, outside, concealed, kans, fourWinds}
-use Rattle.yaku.specs.OfTiles.{only, halfFlush, flush, gates, tileTestsOf}
+use Rattle.yaku.specs.OfTiles.{only, halfFlush, flush, gates}
+use Rattle.yaku.specs.search.TileTests.{tileTestsOf}
 use Rattle.yaku.specs.Yaku.{testsOf, isYakuman, listed, yakuOf, hasYaku}
 use Rattle.points.specs.Points.{plain, limit, ordinary, basic, hundreds, share, pays, gain, change, changes}
 use Rattle.value.specs.Han.{tableHan, yakuHan, hanOf}

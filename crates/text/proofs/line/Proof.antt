@@ -5,7 +5,7 @@ use lib.ListN.{length, take}
 use lib.Seq.{take-length}
 use borrow.Author.Needs.{needs}
 use borrow.Author.Tests.{le-leb, lt-leb}
-use Rattle.text.specs.Text.{lineOf, lineLength, lineBuffer}
+use Rattle.text.specs.Text.{lineOf}
 use Rattle.text.specs.laws.Put.{take-put}
 use Rattle.text.proofs.line.Statement.{statement}
 use Rattle.text.proofs.line.Tie as tie
@@ -18,7 +18,6 @@ long : (c : tie.After-put-line) → c .put-line .result ≡ length (take (c .put
 long c = rw (made c) (omega (arith, c .put-line .ensures .0 .place))
 
 returns : tie.Need-returns
-unfolding lineLength lineBuffer
 returns c =
     let s = c .before .before .before .before .before .args in
     let t = lineOf (s .entry) (s .letter) (s .refusal) (s .scores) (s .sticks) in
@@ -26,7 +25,6 @@ returns c =
     (simp h, (simp h, omega (arith, c .before .before .put-line .ensures .0 .place)))
 
 returns-2 : tie.Need-returns-2
-unfolding lineLength lineBuffer
 returns-2 c =
     let s = c .before .before .before .before .before .before .before .before .before .before .args in
     let t = lineOf (s .entry) (s .letter) (s .refusal) (s .scores) (s .sticks) in

@@ -7,7 +7,7 @@ use lib.ListN.{length, take, length-append, set}
 use lib.Seq.{sets, sets-eq, take-append-seam}
 use lib.IntN.{ℤ}
 use Rattle.bits.specs.laws.Pack.{sets-append}
-use Rattle.text.specs.Text.{digitsOf, joined, scoreOf, lineOf}
+use Rattle.text.specs.Text.{digitsOf, spaced, scoreText, lineOf}
 use Rattle.text.specs.laws.Digits.{digits-one, digits-more}
 
 -- a buffer with a text from `at` on is the next buffer, and the text ends before the place `next`
@@ -35,11 +35,11 @@ put-more n h p = rw (digits-more n h) (put-after (48 + n % 10) p)
 
 -- the four scores, a space after each
 unfoldable pub scoresText : List ℤ → List ℕ
-scoresText s = (scoreOf s 0 ++ (32 ∷ [])) ++ ((scoreOf s 1 ++ (32 ∷ [])) ++ ((scoreOf s 2 ++ (32 ∷ [])) ++ (scoreOf s 3 ++ (32 ∷ []))))
+scoresText s = (scoreText s 0 ++ (32 ∷ [])) ++ ((scoreText s 1 ++ (32 ∷ [])) ++ ((scoreText s 2 ++ (32 ∷ [])) ++ (scoreText s 3 ++ (32 ∷ []))))
 
 -- a line by its parts
 pub line-parts : (e letter r : ℕ) (s : List ℤ) (k : ℕ) → lineOf e letter r s k ≡ (digitsOf e ++ (32 ∷ [])) ++ ((letter ∷ 32 ∷ []) ++ ((digitsOf r ++ (32 ∷ [])) ++ (scoresText s ++ (digitsOf k ++ (10 ∷ [])))))
-unfolding lineOf joined scoresText
+unfolding lineOf spaced scoresText
 line-parts e letter r s k = simp append-assoc
 
 -- what was put at the start of a buffer

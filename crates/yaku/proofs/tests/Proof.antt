@@ -1,7 +1,7 @@
 -- `yaku::tests` meets its contract: each place is what its test ensures. Assumes nothing.
 use mathlib.Core.Path.{refl, ap}
 use borrow.Author.Needs.{needs}
-use Rattle.yaku.specs.OfTiles.{tileTestsOf}
+use Rattle.yaku.specs.search.TileTests.{tileTestsOf}
 use Rattle.yaku.specs.Yaku.{testsOf}
 use Rattle.yaku.specs.declared.TileTests.{TileTests}
 use Rattle.yaku.specs.laws.Lists.{six}

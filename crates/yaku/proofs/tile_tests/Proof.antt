@@ -4,7 +4,8 @@ use mathlib.Core.Path.{refl, _∙_}
 use Rattle.tiles.specs.Below.{every}
 use Rattle.tiles.specs.Kinds.{isNumber, isHonour, isTerminal, isYaochu, isSimple}
 use Rattle.yaku.specs.laws.Sets.{only-alike}
-use Rattle.yaku.specs.OfTiles.{tileTestsOf, isGreen}
+use Rattle.yaku.specs.OfTiles.{isGreen}
+use Rattle.yaku.specs.search.TileTests.{tileTestsOf}
 use Rattle.yaku.proofs.tile_tests.Statement.{statement}
 use Rattle.yaku.proofs.tile_tests.Tie as tie
 
