@@ -4,23 +4,22 @@ use Prim.Native.Nat.{ℕ, _+_, _*_, _-_, _≤_, _<_}
 use mathlib.Core.Path.{_≡_}
 use mathlib.Core.Bool.{false}
 use mathlib.Core.Logic.{_↔_}
-use mathlib.Core.List.{List, _++_}
+use mathlib.Core.List.{List, [], _∷_, _++_}
 use lib.ListN.{length, take, drop}
 use Rattle.bits.specs.Bits.{sum, Below, bitsOf}
 use Rattle.fields.specs.declared.Hand.{Hand}
 use Rattle.fields.specs.Refusals.{wrongFields, descends, overFour, wrongSituation}
 use Rattle.hand.specs.Record.{lengthOf, padOf, widths, wrongLength, countIn, handIn, paddingOf, numberOf, handOf, soundAs, readOf, writtenOf, bufferOf}
 use Rattle.hand.specs.laws.Claims as laws
+use Rattle.hand.specs.laws.Examples as examples
 
--- "zero bits to the byte. That is 103 − 10m bits": with under 8 zero bits they are the bytes of m's length
-pub record Filled (m : ℕ) : Type 0 where
-  pub bits : sum (widths m) ≡ 103 - 10 * m + padOf m
-  pub whole : 103 - 10 * m + padOf m ≡ 8 * lengthOf m
-  pub few : padOf m < 8
+-- "zero bits to the byte. That is 103 − 10m bits": with under 8 zero bits the widths of a record's fields are its bytes
+pub widths-fill : (m : ℕ) → m ≤ 4 → (sum (widths m) ≡ 103 - 10 * m + padOf m) × (103 - 10 * m + padOf m ≡ 8 * lengthOf m) × (padOf m < 8)
+widths-fill = laws.filled
 
--- the widths of a record's fields fill it
-pub widths-fill : (m : ℕ) → m ≤ 4 → Filled m
-widths-fill m h = record { bits = laws.filled m h .0; whole = laws.filled m h .1; few = laws.filled m h .2 }
+-- line 6 of document 01's table, bit by bit (docs/RECORDS.md): chi 234m, 567m 22456p 67s and 8s. It fixes "most significant first"
+pub worked : readOf (184 ∷ 30 ∷ 100 ∷ 128 ∷ 136 ∷ 40 ∷ 197 ∷ 20 ∷ 97 ∷ 167 ∷ 46 ∷ 192 ∷ []) ≡ soundAs (record { fields = record { how = 1; winner = 1; discarder = 3; riichi = 0; situation = 0; indicator = 30; winning = 25; m = 1 }; melds = 1 ∷ 0 ∷ 0 ∷ 0 ∷ []; concealed = 4 ∷ 5 ∷ 6 ∷ 10 ∷ 10 ∷ 12 ∷ 13 ∷ 14 ∷ 23 ∷ 24 ∷ 0 ∷ 0 ∷ 0 ∷ [] })
+worked = examples.table .5 .read
 
 -- the hand that a record's bits are (01, "Bits, most significant first: .."), sound or not
 abbrev pub handOfRecord : List ℕ → Hand
@@ -42,14 +41,9 @@ pub record IsSound (s : List ℕ) : Type 0 where
 pub sound : (s : List ℕ) → IsSound s ↔ (numberOf (readOf s .answer) ≡ 0)
 sound s = (λ y. laws.sound-read s (y .form) (y .fields) (y .order) (y .four) (y .situation), λ e. let c = laws.read-sound s e in record { form = c .0; fields = c .1; order = c .2; four = c .3; situation = c .4 })
 
--- "read and written back gives the same bytes": what Read gave of s, written into a buffer, whose "bytes past the record stay"
-pub record WrittenBack (s buf : List ℕ) : Type 0 where
-  pub answer : writtenOf (handOf (readOf s)) buf ≡ record { refusal = 0; len = length s }
-  pub buffer : bufferOf (handOf (readOf s)) buf ≡ s ++ drop (length s) buf
-
--- "A sound hand record read and written back gives the same bytes", in a buffer that it fits
-pub read-write : (s buf : List ℕ) → Below 256 s → IsSound s → length s ≤ length buf → WrittenBack s buf
-read-write s buf b y l = record { answer = laws.read-write-answer s buf b (sound s .0 y) l; buffer = laws.read-write-buffer s buf b (sound s .0 y) l }
+-- "A sound hand record read and written back gives the same bytes", in a buffer that it fits, whose "bytes past the record stay"
+pub read-write : (s buf : List ℕ) → Below 256 s → IsSound s → length s ≤ length buf → (writtenOf (handOf (readOf s)) buf ≡ record { refusal = 0; len = length s }) × (bufferOf (handOf (readOf s)) buf ≡ s ++ drop (length s) buf)
+read-write s buf b y l = (laws.read-write-answer s buf b (sound s .0 y) l, laws.read-write-buffer s buf b (sound s .0 y) l)
 
 -- what every value of the type `Hand` of the code has: four melds of a byte, 13 concealed tiles
 pub record IsHand (h : Hand) : Type 0 where

@@ -5,3 +5,4 @@ pub mod Write
 pub mod Round
 pub mod Claims
 pub mod Bounds
+pub mod Examples

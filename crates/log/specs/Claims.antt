@@ -6,7 +6,7 @@ use mathlib.Core.List.{List, _∷_}
 use Prim.Native.Nat.{ℕ, _+_, _≤_, _<_}
 use lib.ListN.{length, take, drop}
 use Rattle.hand.specs.Record.{countIn, wrongLength}
-use Rattle.log.specs.Log.{isBad, nextOf, numberOf, isEnd, partOf}
+use Rattle.log.specs.Log.{isBad, nextOf, numberOf, partOf}
 use Rattle.log.specs.Walk.{entryAt, entriesFrom, stopFrom, laid}
 use Rattle.log.specs.laws.Next as next
 use Rattle.log.specs.laws.Walk as laws
@@ -28,14 +28,9 @@ step-inside log at k a n e = next.step-inside log at k a n e
 pub kind-and-argument : (log : List ℕ) (at k a n : ℕ) → nextOf log at ≡ Entry k a n → (k ≤ 3) × (a ≤ 15)
 kind-and-argument log at k a n e = (next.entry-kind log at k a n e, next.entry-argument log at k a n e)
 
--- "A win has argument 0 and its record follows": a stretch of the form that Read wants
-pub record IsWin (a : ℕ) (r : List ℕ) : Type 0 where
-  pub argument : a ≡ 0
-  pub form : wrongLength (length r) (countIn r) ≡ false
-
--- each win that Next entry gives has such a record
-pub win-record : (log : List ℕ) (at a n : ℕ) → nextOf log at ≡ Entry 1 a n → IsWin a (drop 1 (partOf log at))
-win-record log at a n e = record { argument = next.win-part log at a n e .0; form = next.win-part log at a n e .1 }
+-- "A win has argument 0 and its record follows": a stretch of the length that Read wants
+pub win-record : (log : List ℕ) (at a n : ℕ) → nextOf log at ≡ Entry 1 a n → (a ≡ 0) × (wrongLength (length (drop 1 (partOf log at))) (countIn (drop 1 (partOf log at))) ≡ false)
+win-record = next.win-part
 
 -- the walk's entries are those that "Next entry hands back", one after the other
 pub entries-follow : (log : List ℕ) (at k a n : ℕ) → nextOf log at ≡ Entry k a n → entriesFrom log at ≡ entryAt log at k a n ∷ entriesFrom log (at + n)
@@ -45,15 +40,9 @@ entries-follow log at k a n e = laws.entries-turn log at k a n e
 pub parts-end-to-end : (log : List ℕ) → laid (entriesFrom log 0) ≡ take (stopFrom log 0) log
 parts-end-to-end log = laws.laid-prefix log
 
--- "the walk ends" at 14 or says "end", inside the log, after at most as many entries as the log has bytes
-pub record Ends (log : List ℕ) : Type 0 where
-  pub answer : (isEnd (nextOf log (stopFrom log 0)) ≡ true) ⊎ (numberOf (nextOf log (stopFrom log 0)) ≡ 14)
-  pub offset : stopFrom log 0 ≤ length log
-  pub entries : length (entriesFrom log 0) ≤ length log
-
--- of every log
-pub walk-ends : (log : List ℕ) → Ends log
-walk-ends log = record { answer = laws.ends-at log 0; offset = laws.stop-within log; entries = laws.entries-within log }
+-- the walk says "end", or "the walk ends" at 14, inside the log, after at most as many entries as the log has bytes
+pub walk-ends : (log : List ℕ) → ((nextOf log (stopFrom log 0) ≡ End) ⊎ (numberOf (nextOf log (stopFrom log 0)) ≡ 14)) × (stopFrom log 0 ≤ length log) × (length (entriesFrom log 0) ≤ length log)
+walk-ends log = (laws.ends-at log 0, laws.stop-within log, laws.entries-within log)
 
 -- a log that meets no "Refusal 14" is walked whole
 pub whole-unless-14 : (log : List ℕ) → (numberOf (nextOf log (stopFrom log 0)) ≡ 14 → ⊥) → laid (entriesFrom log 0) ≡ log

@@ -1,5 +1,5 @@
 -- The log (01, Log): its entries, and what Next entry gives at an offset.
-use mathlib.Core.Bool.{Bool, true, false, _&&_, _||_, cond, not}
+use mathlib.Core.Bool.{Bool, _&&_, _||_, cond, not}
 use mathlib.Core.List.{List, []}
 use Prim.Native.Nat.{ℕ, _+_, _/_, _%_}
 use lib.Dec.{ltb, leb, eqb}
@@ -46,12 +46,6 @@ abbrev pub numberOf : Next → ℕ
 numberOf (Entry kind argument n) = 0
 numberOf End = 0
 numberOf Bad = 14
-
--- it says "end"
-abbrev pub isEnd : Next → Bool
-isEnd (Entry kind argument n) = false
-isEnd End = true
-isEnd Bad = false
 
 -- "hands back that very part of the log, from its header on"; "an empty part" at 14 and at the end
 abbrev pub partBy : Next → List ℕ → ℕ → List ℕ

@@ -18,8 +18,7 @@ changes-sum-zero s ron a h = sum-zero (s .dealer) (s .discarder) ron a (s .winne
 pub record GainIsPayments (s : Seats) (ron : Bool) (a : ℕ) : Type 0 where
   pub others : gain s ron a ≡ sum 4 (λ seat. cond (eqb (s .winner) seat) 0 (pays s ron a seat))
   pub got : s .winner < 4 → getD (changes s ron a) (s .winner) (pos 0) ≡ pos (gain s ron a)
-  pub paid : (seat : ℕ) → seat < 4 → (s .winner ≡ seat → ⊥) →
-      getD (changes s ron a) seat (pos 0) ≡ pos 0 -ℤ pos (pays s ron a seat)
+  pub paid : (seat : ℕ) → seat < 4 → (s .winner ≡ seat → ⊥) → getD (changes s ron a) seat (pos 0) ≡ pos 0 -ℤ pos (pays s ron a seat)
 
 -- of every payment
 pub gain-is-payments : (s : Seats) (ron : Bool) (a : ℕ) → GainIsPayments s ron a

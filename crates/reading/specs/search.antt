@@ -1,3 +1,4 @@
 pub mod Readings
 pub mod Judged
 pub mod Ordered
+pub mod Claims

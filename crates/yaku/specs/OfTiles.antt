@@ -5,7 +5,7 @@ use Prim.Native.Nat.{ℕ, _+_, _*_, _%_}
 use lib.ListN.{getD}
 use lib.Dec.{eqb, leb}
 use Rattle.tiles.specs.Below.{all, any, every}
-use Rattle.tiles.specs.Kinds.{isNumber, inSuit, isHonour, isTerminal, isYaochu, isSimple}
+use Rattle.tiles.specs.Kinds.{isNumber, inSuit, isHonour}
 
 -- "all simples", "only yaochu", "honours only": each tile has p
 unfoldable pub only : List ℕ → (ℕ → Bool) → Bool

@@ -1,5 +1,4 @@
 -- `best::worth` meets its contract: the parts of the reading are valued. Assumes nothing.
-use borrow.Author.Needs.{needs}
 use Prim.Native.Nat.{_≤_}
 use mathlib.Core.Path.{_≡_, ap, _∙_}
 use Rattle.reading.specs.declared.Reading.{Reading}

@@ -13,7 +13,7 @@ use Rattle.score.specs.laws.Z.{Within}
 use Rattle.game.specs.declared.Game.{Game}
 use Rattle.game.specs.declared.Answered.{Answered}
 use Rattle.game.specs.Booking.{Booking}
-use Rattle.game.specs.Ledger.{isLast, refusalFor, gives, moved, after}
+use Rattle.game.specs.Ledger.{isLast, refusalFor, moved, after}
 use Rattle.game.specs.Runs.{Booked}
 
 abbrev pub answered : ℕ → Game → Answered

@@ -1,13 +1,13 @@
 -- The walk a step at a time, and what holds all along it. Assumes nothing.
 use mathlib.Core.Path.{_≡_, refl, ap, sym, _∙_}
-use mathlib.Core.Bool.{Bool, true}
+use mathlib.Core.Bool.{true}
 use mathlib.Core.Logic.{_⊎_, inl, inr, ⊎-elim, _↔_}
 use mathlib.Core.List.{List, [], _∷_}
 use Prim.Native.Nat.{ℕ, zero, suc, _+_, _-_, _≤_, _<_}
 use native.Mathlib.Omega.{arith}
 use lib.ListN.{length, take, drop}
 use lib.Seq.{take-add, drop-drop, take-all}
-use Rattle.log.specs.Log.{isBad, nextOf, numberOf, isEnd}
+use Rattle.log.specs.Log.{isBad, nextOf, numberOf}
 use Rattle.log.specs.Walk.{LogEntry, entryAt, walk, entriesFrom, stopFrom, laid}
 use Rattle.log.specs.laws.Next.{next-end, next-bad, told, step-inside}
 use Rattle.log.specs.declared.Next.{Next}
@@ -125,9 +125,9 @@ module _ (log : List ℕ) where
       laid-from 0 ∙ rw z
 
   -- where it ends stands no entry
-  pub ends-at : (at : ℕ) → (isEnd (nextOf log (stopFrom log at)) ≡ true) ⊎ (numberOf (nextOf log (stopFrom log at)) ≡ 14)
+  pub ends-at : (at : ℕ) → (nextOf log (stopFrom log at) ≡ End) ⊎ (numberOf (nextOf log (stopFrom log at)) ≡ 14)
   ends-at =
-      along log (λ at. (isEnd (nextOf log (stopFrom log at)) ≡ true) ⊎ (numberOf (nextOf log (stopFrom log at)) ≡ 14))
+      along log (λ at. (nextOf log (stopFrom log at) ≡ End) ⊎ (numberOf (nextOf log (stopFrom log at)) ≡ 14))
       (λ at e. inl (rw (stop-end log at e, e))) (λ at e. inr (rw (stop-bad log at e, e))) (λ at k a n e h. rw (stop-turn log at k a n e) h)
 
   -- an entry has a byte at least
@@ -156,11 +156,6 @@ end-exactly log at = (λ e. rw e at (told log at), next-end log at)
 pub bad-exactly : (log : List ℕ) (at : ℕ) → (nextOf log at ≡ Bad) ↔ ((at < length log) × (isBad log at ≡ true))
 bad-exactly log at = (λ e. rw e at (told log at), λ h. next-bad log at (h .0) (h .1))
 
-is-end : (x : Next) → isEnd x ≡ true → x ≡ End
-is-end (Entry k a n) e = absurd (mathlib.Core.Bool.false≢true e)
-is-end End e = refl
-is-end Bad e = absurd (mathlib.Core.Bool.false≢true e)
-
 pub laid-all : (log : List ℕ) → (numberOf (nextOf log (stopFrom log 0)) ≡ 14 → ⊥) → laid (entriesFrom log 0) ≡ log
 laid-all log h =
-    ⊎-elim (λ e. laid-prefix log ∙ take-all (stopFrom log 0) log (end-exactly log (stopFrom log 0) .0 (is-end (nextOf log (stopFrom log 0)) e))) (λ e. absurd (h e)) (ends-at log 0)
+    ⊎-elim (λ e. laid-prefix log ∙ take-all (stopFrom log 0) log (end-exactly log (stopFrom log 0) .0 e)) (λ e. absurd (h e)) (ends-at log 0)

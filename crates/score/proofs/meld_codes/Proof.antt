@@ -1,6 +1,5 @@
 -- `score::meld_codes` meets its contract: place by place. Assumes nothing.
 use borrow.Author.Needs.{needs}
-use native.Mathlib.Omega.{arith}
 use Rattle.score.specs.Named.{meldCodes}
 use Rattle.score.proofs.meld_codes.Statement.{statement}
 use Rattle.score.proofs.meld_codes.Tie as tie

@@ -1,6 +1,5 @@
 -- `score::meld_ways` meets its contract: place by place. Assumes nothing.
 use borrow.Author.Needs.{needs}
-use native.Mathlib.Omega.{arith}
 use Rattle.score.specs.Named.{meldWays}
 use Rattle.score.proofs.meld_ways.Statement.{statement}
 use Rattle.score.proofs.meld_ways.Tie as tie

@@ -1,6 +1,6 @@
 -- `score::settle` meets its contract, by what the search kept. Assumes nothing.
 use borrow.Author.Needs.{needs}
-use mathlib.Core.Path.{sym, _∙_}
+use mathlib.Core.Path.{_∙_}
 use Rattle.score.specs.laws.Settled.{basic-kept, settled-accepted, settled-seven, settled-six}
 use Rattle.score.proofs.settle.Statement.{statement}
 use Rattle.score.proofs.settle.Tie as tie

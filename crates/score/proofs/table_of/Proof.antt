@@ -2,15 +2,13 @@
 use borrow.Author.Needs.{needs}
 use Prim.Native.Nat.{ℕ, _≤_, _<_}
 use mathlib.Core.List.{List}
-use mathlib.Core.Path.{_≡_, ap, sym, _∙_}
+use mathlib.Core.Path.{_≡_, ap, _∙_}
 use native.Mathlib.Omega.{arith}
 use Rattle.tiles.specs.Kinds.{doraOf}
 use Rattle.fields.specs.declared.Hand.{Hand}
 use Rattle.yaku.specs.declared.Won.{Won}
 use Rattle.yaku.specs.declared.TileTests.{TileTests}
 use Rattle.yaku.specs.search.TileTests.{tileTestsOf}
-use Rattle.best.specs.declared.Table.{Table}
-use Rattle.best.specs.search.Best.{Ready}
 use Rattle.score.specs.Named.{wonOf, seatsOf, meldCodes, meldWays, tableOf}
 use Rattle.score.proofs.table_of.Statement.{statement}
 use Rattle.score.proofs.table_of.Tie as tie

@@ -8,7 +8,7 @@ use Rattle.tiles.specs.laws.Tally.{length-tally}
 use Rattle.fields.specs.declared.Hand.{Hand}
 use Rattle.fields.specs.Hand.{isRon, inConcealed, concealedTally}
 use Rattle.reading.specs.search.Readings.{readings}
-use Rattle.reading.specs.Claims.{readings-sound, readings-complete, readings-ordered}
+use Rattle.reading.specs.search.Claims.{readings-sound, readings-complete, readings-ordered}
 use Rattle.best.specs.declared.Best.{Best}
 use Rattle.best.specs.search.Best.{bestOf}
 use Rattle.best.specs.laws.First.{Kept, kept-all, kept-same}

@@ -4,9 +4,9 @@ use mathlib.Core.Path.{_≡_, refl, sym, ap, _∙_}
 use mathlib.Core.Bool.{Bool, true, false, _&&_, _||_, not, cond}
 use mathlib.Core.List.{List, [], _∷_}
 use native.Mathlib.Omega.{arith}
-use borrow.Author.Tests.{ltb-false, lt-ltb, leb-true, le-ltb}
+use borrow.Author.Tests.{ltb-false, le-ltb}
 use lib.Dec.{ltb, leb}
-use Rattle.tiles.specs.laws.Below.{or-both, cond-le}
+use Rattle.tiles.specs.laws.Below.{cond-le}
 use Rattle.fields.specs.declared.Fields.{Fields}
 use Rattle.fields.specs.declared.Hand.{Hand}
 use Rattle.fields.specs.Hand.{isRon, concealedTally}
@@ -19,11 +19,10 @@ use Rattle.reading.specs.declared.Reading.{Reading}
 use Rattle.reading.specs.search.Readings.{readings}
 use Rattle.reading.specs.search.Judged.{judged}
 use Rattle.points.specs.Points.{plain, limit, ordinary, basic}
-use Rattle.value.specs.declared.Value.{Value}
 use Rattle.value.specs.Value.{valueOf}
 use Rattle.best.specs.declared.Table.{Table}
 use Rattle.best.specs.declared.Best.{Best}
-use Rattle.best.specs.Best.{partsOf, worth, withYaku}
+use Rattle.best.specs.Best.{worth, withYaku}
 use Rattle.best.specs.search.Best.{beats, noneOf, judgeOf, bestOf}
 use Rattle.score.specs.declared.Scored.{Scored}
 use Rattle.score.specs.Named.{tableOf, seatsOf, refusedWith, acceptedAs}

@@ -1,7 +1,6 @@
 -- `vectors::same_yaku` is safe and ends. Assumes nothing.
 use borrow.Author.Needs.{needs}
 use Prim.Native.Nat.{_-_, _≤_}
-use native.Mathlib.Omega.{arith}
 use Rattle.vectors.proofs.same_yaku.Statement.{statement}
 use Rattle.vectors.proofs.same_yaku.Tie as tie
 

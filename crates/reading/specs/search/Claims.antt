@@ -1,4 +1,4 @@
--- The claims of this crate: `readings` lists each reading of a hand once, in the document's order, and nothing else.
+-- What is claimed of the search: `readings` lists each reading of a hand once, in the document's order, and nothing else.
 use mathlib.Core.Path.{_≡_}
 use mathlib.Core.List.{List, List·Memᴰ as Member}
 use Prim.Native.Nat.{ℕ}
