@@ -1,2 +1,1 @@
-pub mod Elem
 pub mod Sums

@@ -2,5 +2,4 @@ pub mod Digits
 pub mod Back
 pub mod Put
 pub mod Size
-pub mod Elem
 pub mod Examples

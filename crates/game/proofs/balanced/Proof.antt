@@ -9,7 +9,7 @@ use mir.Syntax.{w32}
 use mir.Val.{SFits}
 use mir.Facts.{toZ-ofZ, sfits-widen}
 use Rattle.score.specs.laws.Z.{Within, mag-parts}
-use Rattle.game.proofs.Elem.{elem-sfits}
+use Rattle.bits.specs.laws.Elem.{elem-sfits}
 use Rattle.game.proofs.Sums.{B32, sum2, sum3, sum-4, sum-5, prod, test}
 use Rattle.game.proofs.balanced.Statement.{statement}
 use Rattle.game.proofs.balanced.Tie as tie

@@ -7,7 +7,7 @@ use mir.Syntax.{w32}
 use mir.Val.{SFits}
 use mir.Facts.{toZ-ofZ}
 use borrow.Author.Needs.{needs}
-use Rattle.text.specs.laws.Elem.{elem-sfits}
+use Rattle.bits.specs.laws.Elem.{elem-sfits}
 use Rattle.text.specs.laws.Put.{put-then, scoresText}
 use Rattle.text.proofs.put_scores.Statement.{statement}
 use Rattle.text.proofs.put_scores.Tie as tie
