@@ -25,13 +25,11 @@ pub gain-is-payments : (s : Seats) (ron : Bool) (a : ℕ) → GainIsPayments s r
 gain-is-payments s ron a = record { others = gain-of-others s ron a; got = winner-gets s ron a; paid = other-pays s ron a }
 
 -- "ron, 4A to a child, 6A to the dealer": one payment
-pub gain-by-ron :
-    (s : Seats) (a : ℕ) → s .discarder < 4 → (s .winner ≡ s .discarder → ⊥) →
+pub gain-by-ron : (s : Seats) (a : ℕ) → s .discarder < 4 → (s .winner ≡ s .discarder → ⊥) →
     gain s true a ≡ hundreds (cond (eqb (s .winner) (s .dealer)) 6 4 * a)
 gain-by-ron s a = ron-payment (s .winner) (s .dealer) a (s .discarder)
 
 -- "child tsumo, children A, dealer 2A; dealer tsumo, 2A each": three payments
-pub gain-by-tsumo :
-    (s : Seats) (a : ℕ) → s .winner < 4 → s .dealer < 4 →
+pub gain-by-tsumo : (s : Seats) (a : ℕ) → s .winner < 4 → s .dealer < 4 →
     gain s false a ≡ cond (eqb (s .winner) (s .dealer)) (3 * hundreds (2 * a)) (2 * hundreds a + hundreds (2 * a))
 gain-by-tsumo s a w = tsumo-payments (s .discarder) a (s .winner) w (s .dealer)

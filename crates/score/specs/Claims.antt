@@ -1,21 +1,26 @@
 -- The theorems of Score (01, Readings and Score), over every reading of a hand and not over the list that a search visits.
-use Prim.Native.Nat.{ℕ, _≤_}
+use Prim.Native.Nat.{ℕ, _-_, _≤_}
 use mathlib.Core.Path.{_≡_}
-use mathlib.Core.List.{List}
+use mathlib.Core.List.{List, _++_, map}
 use mathlib.Core.Logic.{_↔_}
 use lib.IntN.{pos}
+use lib.ListN.{length, take, replicate}
 use Rattle.fields.specs.declared.Hand.{Hand}
 use Rattle.hand.specs.Record.{handOf, readOf}
 use Rattle.hand.specs.Claims.{IsSound}
 use Rattle.reading.specs.declared.Reading.{Reading}
+use Rattle.reading.specs.Reading.{Ascends}
+use Rattle.groups.specs.Melds.{meldCode}
 use Rattle.points.specs.Points.{sumOfFour}
+use Rattle.best.specs.Best.{joined}
 use Rattle.score.specs.declared.Scored.{Scored}
-use Rattle.score.specs.Named.{IsReadingOf, ReadsWithYaku, IsReported, gainIn, scoredAs, Named}
+use Rattle.score.specs.Named.{meldCodes, IsReadingOf, ReadsWithYaku, IsReported, gainIn, scoredAs, Named}
 use Rattle.score.specs.search.Settled.{settledOf}
 use Rattle.score.specs.Score.{scoreOf}
 use Rattle.score.specs.Table.{Lines}
 use Rattle.score.specs.laws.Named as laws
 use Rattle.score.specs.laws.Changes as changes
+use Rattle.score.specs.laws.Melds as melds
 use Rattle.score.specs.laws.Table as table
 
 -- ---- of a sound hand
@@ -48,6 +53,11 @@ module _ (h : Hand) (dealer wind : ℕ) where
   -- "7, readings but none with a yaku"
   pub refused-7 : (settledOf h dealer wind .refusal ≡ 7) ↔ (((q : Reading) × IsReadingOf h q) × ((r : Reading) → ReadsWithYaku h dealer wind r → ⊥))
   refused-7 = laws.refused-7 h dealer wind named
+
+  -- the groups that a regular reading's yaku and fu go by: its own "4 − m groups", and after them those of the m melds
+  pub groups-then-melds : (codes : List ℕ) → h .fields .m ≤ 4 → length codes ≡ 4 - h .fields .m → Ascends 0 codes → length (h .melds) ≡ 4 → joined (codes ++ replicate (h .fields .m) 68) (meldCodes h) ≡ codes ++ map meldCode (take (h .fields .m) (h .melds))
+  unfolding meldCodes
+  groups-then-melds codes = melds.groups-then-melds (h .fields .m) codes (h .melds)
 
 -- ---- of a record
 

@@ -4,3 +4,4 @@ pub mod Named
 pub mod Z
 pub mod Changes
 pub mod Table
+pub mod Melds
