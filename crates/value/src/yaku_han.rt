@@ -61,20 +61,26 @@ fn worth(listed: bool, han: u8) -> u8
     if listed { han } else { 0 }
 }
 
-// Of the two han of a yaku the one that goes for the hand.
-fn han_for(closed: bool, both: u8) -> u8
-    ensures { λ r. ⌜ r ≡ cond closed (both / 16) (both % 16) ⌝ }
+// Of the two han of a listed yaku the one that goes for the hand.
+fn han_for(listed: bool, closed: bool, both: u8) -> u8
+    ensures { λ r. ⌜ r ≡ cond listed (cond closed (both / 16) (both % 16)) 0 ⌝ }
 {
-    if closed { both / 16 } else { both % 16 }
+    if listed {
+        if closed { both / 16 } else { both % 16 }
+    } else {
+        0
+    }
 }
 
 fn table_han(y: [bool; 37], closed: bool) -> u8
     ensures { λ r. ⌜ r ≡ tableHan y (hanFor closed) ⌝ }
     ensures { λ r. ⌜ r ≤ 222 ⌝ }
 {
+    // copied once: a constant that is read in a loop is copied in every turn
+    let table = HAN;
     let mut n: u8 = 0;
     for i in 0..37 {
-        n += worth(y[i], han_for(closed, HAN[i]));
+        n += han_for(y[i], closed, table[i]);
     }
     n
 }
