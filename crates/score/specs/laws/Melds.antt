@@ -9,13 +9,10 @@ use lib.Dec.{ltb, eqb}
 use lib.ListN.{length, getD, take, replicate, length-append, length-map, getD-replicate, List·getD-append, List·getD-map}
 use lib.Seq.{getD-take, getD-append-add, length-take-le, ext-getD}
 use Rattle.tiles.specs.Below.{table}
-use Rattle.tiles.specs.Groups.{isGroup}
-use Rattle.fields.specs.declared.Hand.{Hand}
 use Rattle.reading.specs.Reading.{Ascends}
 use Rattle.reading.specs.laws.Groups.{group-in}
 use Rattle.groups.specs.Melds.{meldCode}
 use Rattle.best.specs.Best.{joined}
-use Rattle.score.specs.Named.{meldCodes}
 
 -- four places
 at-four : (f : ℕ → ℕ) (i : ℕ) → i < 4 → getD (table 4 0 f) i 0 ≡ f i
