@@ -36,6 +36,7 @@ stepBy (Entry kind argument n) g log at =
 stepBy End g log at = record { answer = 0; kind = 0; length = 0; game = g }
 stepBy Bad g log at = record { answer = 14; kind = 0; length = 0; game = g }
 
+-- what Next entry gives at an offset, booked
 unfoldable pub stepOf : Game → List ℕ → ℕ → Step
 stepOf g log at = stepBy (nextOf log at) g log at
 

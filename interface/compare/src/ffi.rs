@@ -24,7 +24,7 @@ pub struct Hand {
 
 #[repr(C)]
 #[derive(Clone, Copy, Debug, PartialEq, Eq)]
-pub struct Read {
+pub struct ReadHand {
     pub refusal: u8,
     pub hand: Hand,
 }
@@ -60,7 +60,7 @@ pub struct Game {
 
 #[repr(C)]
 #[derive(Clone, Copy, Debug, Default, PartialEq, Eq)]
-pub struct Entry {
+pub struct NextEntry {
     pub refusal: u8,
     pub end: u8,
     pub kind: u8,
@@ -78,7 +78,7 @@ impl Hand {
 }
 
 extern "C" {
-    fn hb_read(record: *const u8, len: usize) -> Read;
+    fn hb_read(record: *const u8, len: usize) -> ReadHand;
     fn hb_write(hand: Hand, buffer: *mut u8, len: usize) -> Written;
     fn hb_score(record: *const u8, len: usize, dealer: u8, wind: u8) -> Scored;
     fn hb_fresh() -> Game;
@@ -86,7 +86,7 @@ extern "C" {
     fn hb_win(game: &mut Game, record: *const u8, len: usize) -> u8;
     fn hb_draw(game: &mut Game, bits: u8) -> u8;
     fn hb_chombo(game: &mut Game, seat: u8) -> u8;
-    fn hb_next(log: *const u8, len: usize, at: usize) -> Entry;
+    fn hb_next(log: *const u8, len: usize, at: usize) -> NextEntry;
     fn hb_line(buffer: *mut u8, len: usize, entry: u32, letter: u8, refusal: u8, game: Game) -> usize;
 }
 
@@ -100,7 +100,7 @@ fn lendable(game: &Game) {
 // are borrowed alone, so nothing overlaps them; each bool of a game that goes in is 0 or 1 (`lendable`).
 
 /// Read.
-pub fn read(record: &[u8]) -> Read {
+pub fn read(record: &[u8]) -> ReadHand {
     unsafe { hb_read(record.as_ptr(), record.len()) }
 }
 
@@ -144,7 +144,7 @@ pub fn chombo(game: &mut Game, seat: u8) -> u8 {
 }
 
 /// Next entry.
-pub fn next(log: &[u8], at: usize) -> Entry {
+pub fn next(log: &[u8], at: usize) -> NextEntry {
     unsafe { hb_next(log.as_ptr(), log.len(), at) }
 }
 

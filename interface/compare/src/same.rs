@@ -39,10 +39,10 @@ pub fn hand(hand: &scorer::Hand) -> ffi::Hand {
 }
 
 /// What Read should give (01, Read).
-pub fn read(record: &[u8]) -> ffi::Read {
+pub fn read(record: &[u8]) -> ffi::ReadHand {
     match scorer::read(record) {
-        Ok(sound) => ffi::Read { refusal: 0, hand: hand(&sound) },
-        Err(refusal) => ffi::Read { refusal, hand: ffi::Hand::default() },
+        Ok(sound) => ffi::ReadHand { refusal: 0, hand: hand(&sound) },
+        Err(refusal) => ffi::ReadHand { refusal, hand: ffi::Hand::default() },
     }
 }
 
@@ -96,12 +96,12 @@ pub fn ledger(game: &ffi::Game) -> scorer::Ledger {
 }
 
 /// What Next entry should give (01, Next entry).
-pub fn entry(log: &[u8], at: usize) -> ffi::Entry {
+pub fn entry(log: &[u8], at: usize) -> ffi::NextEntry {
     match scorer::log::next(log, at) {
         Next::Entry { kind, argument, part } => {
-            ffi::Entry { refusal: 0, end: 0, kind, argument, length: part.len() }
+            ffi::NextEntry { refusal: 0, end: 0, kind, argument, length: part.len() }
         }
-        Next::End => ffi::Entry { end: 1, ..ffi::Entry::default() },
-        Next::Bad(refusal) => ffi::Entry { refusal, ..ffi::Entry::default() },
+        Next::End => ffi::NextEntry { end: 1, ..ffi::NextEntry::default() },
+        Next::Bad(refusal) => ffi::NextEntry { refusal, ..ffi::NextEntry::default() },
     }
 }
