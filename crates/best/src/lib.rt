@@ -3,7 +3,7 @@ ghost use mathlib.Core.Path.{_≡_};
 ghost use mathlib.Core.Bool.{cond};
 ghost use Prim.Native.Nat.{_<_, _≤_};
 ghost use lib.Dec.{eqb};
-ghost use Rattle.reading.specs.search.Readings.{placed, formed};
+ghost use Rattle.reading.specs.search.Readings.{placed, shaped};
 ghost use Rattle.reading.specs.search.Judged.{judged};
 ghost use Rattle.reading.specs.laws.Fold.{searched};
 ghost use Rattle.best.specs.Best.{joined as joinedOf, partsOf, worth as worthOf};
@@ -16,7 +16,7 @@ use yaku::TileTests;
 use yaku::Won;
 
 // What is the same in every reading: how the hand was won, the tests of its tiles, the seats, the dora's kind, the melds' groups and ways.
-pub struct Table {
+pub struct Setting {
     pub won: Won,
     pub tests: TileTests,
     pub seats: Seats,
@@ -50,7 +50,7 @@ fn joined(g: [u8; 4], c: [u8; 4]) -> [u8; 4]
     ]
 }
 
-fn parts(t: Table, r: Reading) -> Parts
+fn parts(t: Setting, r: Reading) -> Parts
     requires { ⌜ r .place ≤ 4 ⌝ }
     ensures { λ p. ⌜ p ≡ partsOf t r ⌝ }
 {
@@ -60,7 +60,7 @@ fn parts(t: Table, r: Reading) -> Parts
     let groups = joined(rg, mc);
     let ways = groups::ways_at(mw, t.won.ron, r.place);
     Parts {
-        form: r.form,
+        shape: r.shape,
         pair: r.pair,
         groups,
         ways,
@@ -68,7 +68,7 @@ fn parts(t: Table, r: Reading) -> Parts
     }
 }
 
-fn worth(t: Table, r: Reading) -> Value
+fn worth(t: Setting, r: Reading) -> Value
     requires { ⌜ Ready t × (r .place ≤ 4) ⌝ }
     ensures { λ v. ⌜ v ≡ worthOf t r ⌝ }
 {
@@ -105,7 +105,7 @@ fn none() -> Best
 }
 
 // The better of what is kept and a reading; of equals what is kept.
-fn judge(t: Table, b: Best, r: Reading) -> Best
+fn judge(t: Setting, b: Best, r: Reading) -> Best
     requires { ⌜ Ready t × (r .place ≤ 4) ⌝ }
     ensures { λ x. ⌜ x ≡ judgeOf t b r ⌝ }
 {
@@ -127,7 +127,7 @@ fn judge(t: Table, b: Best, r: Reading) -> Best
 }
 
 // Each place of a pair and groups that holds the winning kind.
-fn places(h: Table, pair: u8, groups: [u8; 4], size: u8, win: u8, best: Best) -> Best
+fn places(h: Setting, pair: u8, groups: [u8; 4], size: u8, win: u8, best: Best) -> Best
     requires { ⌜ Ready h × (size ≤ 4) ⌝ }
     ensures { λ r. ⌜ r ≡ judged (judgeOf h) best (placed size win pair groups) ⌝ }
 {
@@ -139,7 +139,7 @@ fn places(h: Table, pair: u8, groups: [u8; 4], size: u8, win: u8, best: Best) ->
                 h,
                 b,
                 Reading {
-                    form: 0,
+                    shape: 0,
                     pair,
                     groups,
                     place: p,
@@ -153,7 +153,7 @@ fn places(h: Table, pair: u8, groups: [u8; 4], size: u8, win: u8, best: Best) ->
 
 // Each splitting of t into left groups of the codes from code on, behind the groups that so has.
 fn split(
-    h: Table,
+    h: Setting,
     t: [u8; 34],
     code: u8,
     left: u8,
@@ -199,25 +199,25 @@ fn split(
 }
 
 // The forms without groups.
-fn forms(h: Table, t: [u8; 34], m: u8, best: Best) -> Best
+fn shapes(h: Setting, t: [u8; 34], m: u8, best: Best) -> Best
     requires { ⌜ Ready h ⌝ }
-    ensures { λ r. ⌜ r ≡ judged (judgeOf h) best (formed t m) ⌝ }
+    ensures { λ r. ⌜ r ≡ judged (judgeOf h) best (shaped t m) ⌝ }
 {
     if m != 0 {
         return best;
     }
     let mut b = best;
     if reading::is_seven_pairs(t) {
-        b = judge(h, b, reading::of_form(1));
+        b = judge(h, b, reading::of_shape(1));
     }
     if reading::is_orphans(t) {
-        b = judge(h, b, reading::of_form(2));
+        b = judge(h, b, reading::of_shape(2));
     }
     b
 }
 
 // The best of every reading of the tally t with m melds, won by the kind win.
-pub fn best_of(h: Table, t: [u8; 34], m: u8, win: u8) -> Best
+pub fn best_of(h: Setting, t: [u8; 34], m: u8, win: u8) -> Best
     requires { ⌜ Ready h × (m ≤ 4) ⌝ }
     ensures { λ r. ⌜ r ≡ bestOf h t m win ⌝ }
 {
@@ -237,5 +237,5 @@ pub fn best_of(h: Table, t: [u8; 34], m: u8, win: u8) -> Best
             );
         }
     }
-    forms(h, t, m, b)
+    shapes(h, t, m, b)
 }

@@ -21,10 +21,10 @@ fn put(line: &[u8], n: usize) {
     }
 }
 
-fn show(g: Game, entry: u32, letter: u8, answer: u8) {
+fn show(g: Game, entry: u32, letter: u8, refusal: u8) {
     let mut line = [0u8; 96];
     let s = g.scores;
-    let n = text::line(&mut line, entry, letter, answer, s, g.sticks);
+    let n = text::line(&mut line, entry, letter, refusal, s, g.sticks);
     put(&line, n);
 }
 
@@ -37,5 +37,5 @@ fn main() {
     show(g, 400, b'W', 0);
     let after = game::draw(g, 0);
     let h = after.game;
-    show(h, 401, b'D', after.answer);
+    show(h, 401, b'D', after.refusal);
 }

@@ -9,7 +9,7 @@ use lib.IntN.{ℤ, pos, negsuc, _+ℤ_, _*ℤ_}
 use mir.Syntax.{w32, w64}
 use mir.Val.{SFits, toZ, ofZ}
 use mir.Facts.{toZ-ofZ, toZ-pos}
-use Rattle.tiles.specs.Below.{table}
+use Rattle.tiles.specs.Below.{tabulate}
 use Rattle.score.specs.laws.Z.{Within, within-add, parts-mag}
 use Rattle.game.specs.Ledger.{eqZ}
 use Rattle.game.specs.laws.Form.{same-leb, sumOf}
@@ -119,5 +119,5 @@ small a b c d p q r s (suc (suc (suc (suc i)))) l = absurd (omega arith)
 
 -- an array of four small numbers, each that of its seat
 pub four : (a b c d : ℤ) (f : ℕ → ℤ) → (a ≡ f 0) × Within a 40000000 → (b ≡ f 1) × Within b 40000000 → (c ≡ f 2) × Within c 40000000 → (d ≡ f 3) × Within d 40000000
-    → (B32 a ∷ B32 b ∷ B32 c ∷ B32 d ∷ [] ≡ table 4 0 f) × Small (B32 a ∷ B32 b ∷ B32 c ∷ B32 d ∷ [])
+    → (B32 a ∷ B32 b ∷ B32 c ∷ B32 d ∷ [] ≡ tabulate 4 0 f) × Small (B32 a ∷ B32 b ∷ B32 c ∷ B32 d ∷ [])
 four a b c d f p q r s = rw (held a (p .1), held b (q .1), held c (r .1), held d (s .1)) (rw (p .0, q .0, r .0, s .0), small a b c d (p .1) (q .1) (r .1) (s .1))

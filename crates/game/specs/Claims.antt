@@ -8,7 +8,7 @@ use Rattle.game.specs.declared.Game.{Game}
 use Rattle.game.specs.Booking.{Booking}
 use Rattle.game.specs.Ledger.{fresh, scoreAt, floor, outOfForm, ledgerFrom, ledger}
 use Rattle.game.specs.Runs.{Runs}
-pub use Rattle.game.specs.Runs.{answersFrom}
+pub use Rattle.game.specs.Runs.{refusalsFrom}
 pub use Rattle.game.specs.Demand3.{Demand3}
 use Rattle.game.specs.laws.Demand3 as laws
 use Rattle.game.specs.laws.Lists as lists
@@ -18,7 +18,7 @@ pub demand-3 : (bs : List Booking) (ns : List ℕ) (g : Game) → Runs fresh bs 
 demand-3 = laws.demand-3
 
 -- every list has its run, so that demand 3 speaks of each
-pub runs-exists : (bs : List Booking) (l : Game) → Runs l bs (answersFrom l bs) (ledgerFrom l bs)
+pub runs-exists : (bs : List Booking) (l : Game) → Runs l bs (refusalsFrom l bs) (ledgerFrom l bs)
 runs-exists = lists.runs-exist
 
 -- "From a fresh game no score falls under −9,770,000", and the game stays in form

@@ -5,7 +5,7 @@ use mathlib.Core.Bool.{false}
 use mathlib.Core.List.{List}
 use Prim.Native.Nat.{ℕ, _≤_, _<_}
 use lib.IntN.{pos, _+ℤ_}
-use Rattle.hand.specs.Claims.{IsSound}
+use Rattle.hand_record.specs.Claims.{IsSound}
 use Rattle.reading.specs.declared.Reading.{Reading}
 use Rattle.score.specs.Named.{ReadsWithYaku, IsReported, gainIn, scoredAs}
 use Rattle.game.specs.declared.Game.{Game}
@@ -13,7 +13,7 @@ use Rattle.game.specs.Booking.{Booking, win}
 use Rattle.game.specs.Ledger.{fresh, scoreAt, totalOf, notOpen, handFor, scoredFor, riichiMismatch, refusalFor, ledger, givenFrom}
 use Rattle.game.specs.Runs.{Every}
 
--- ---- a win with record s that got the answer n; l is "the ledger as the win meets it"
+-- ---- a win with record s that got the refusal n; l is "the ledger as the win meets it"
 
 module _ (l : Game) (s : List ℕ) where
   -- r is one "of the readings with a yaku" of the record's tiles

@@ -6,9 +6,9 @@ use lib.Dec.{ltb, eqb}
 use lib.IntN.{ℤ, pos, negsuc, negℤ, _+ℤ_}
 use lib.Signed.{ltZ, leZ}
 use lib.ListN.{getD}
-use Rattle.tiles.specs.Below.{any, count, table}
-use Rattle.fields.specs.declared.Hand.{Hand}
-use Rattle.hand.specs.Record.{handOf, readOf}
+use Rattle.tiles.specs.Below.{any, count, tabulate}
+use Rattle.hand.specs.declared.Hand.{Hand}
+use Rattle.hand_record.specs.Record.{handOf, readOf}
 use Rattle.score.specs.declared.Scored.{Scored}
 use Rattle.score.specs.Score.{scoreOf}
 use Rattle.game.specs.declared.Game.{Game}
@@ -129,10 +129,10 @@ sticksAfter l (chombo seat) = l .sticks - declarations l
 
 -- "declares the seat"; "Win, draw and chombo each finish a hand and clear declarations"
 unfoldable pub declaredAfter : Game → Booking → List Bool
-declaredAfter l (riichi seat) = table 4 0 (λ i. eqb i seat || isDeclared l i)
-declaredAfter l (win s) = table 4 0 (λ i. false)
-declaredAfter l (draw bits) = table 4 0 (λ i. false)
-declaredAfter l (chombo seat) = table 4 0 (λ i. false)
+declaredAfter l (riichi seat) = tabulate 4 0 (λ i. eqb i seat || isDeclared l i)
+declaredAfter l (win s) = tabulate 4 0 (λ i. false)
+declaredAfter l (draw bits) = tabulate 4 0 (λ i. false)
+declaredAfter l (chombo seat) = tabulate 4 0 (λ i. false)
 
 -- "Win, draw and chombo each finish a hand"
 unfoldable pub handsAfter : Game → Booking → ℕ
@@ -169,7 +169,7 @@ overAfter l b = (dealPasses l b && isLast l) || eqb (handsAfter l b) 200
 -- the fields after a booking that no refusal meets
 unfoldable pub moved : Game → Booking → Game
 moved l b = record {
-  scores = table 4 0 (λ i. scoreAt l i +ℤ gives l b i);
+  scores = tabulate 4 0 (λ i. scoreAt l i +ℤ gives l b i);
   sticks = sticksAfter l b;
   declared = declaredAfter l b;
   dealer = dealerAfter l b;

@@ -17,7 +17,7 @@ pub data Runs : Game → List Booking → List ℕ → Game → Type 0 where
   done : {g : Game} → Runs g [] [] g
   next : {g h k : Game} {b : Booking} {n : ℕ} {bs : List Booking} {ns : List ℕ} → Booked g b n h → Runs h bs ns k → Runs g (b ∷ bs) (n ∷ ns) k
 
--- P of each booking and its answer, with "the ledger as the win meets it"
+-- P of each booking and its refusal, with "the ledger as the win meets it"
 abbrev pub Every : (Game → Booking → ℕ → Type 0) → Game → List Booking → List ℕ → Type 0
 Every P l [] [] = Unit {0}
 Every P l [] (n ∷ ns) = ⊥
@@ -25,6 +25,6 @@ Every P l (b ∷ bs) [] = ⊥
 Every P l (b ∷ bs) (n ∷ ns) = P l b n × Every P (after l b) bs ns
 
 -- the answers that a list gets, so that what is said of runs is said of every list
-unfoldable pub answersFrom : Game → List Booking → List ℕ
-answersFrom l [] = []
-answersFrom l (b ∷ bs) = refusalFor l b ∷ answersFrom (after l b) bs
+unfoldable pub refusalsFrom : Game → List Booking → List ℕ
+refusalsFrom l [] = []
+refusalsFrom l (b ∷ bs) = refusalFor l b ∷ refusalsFrom (after l b) bs

@@ -6,17 +6,17 @@ ghost use lib.Dec.{ltb, eqb};
 ghost use lib.IntN.{pos, negsuc, _+ℤ_};
 ghost use lib.ListN.{getD};
 ghost use lib.Signed.{ltZ};
-ghost use Rattle.tiles.specs.Below.{any, count, table};
+ghost use Rattle.tiles.specs.Below.{any, count, tabulate};
 ghost use Rattle.score.specs.laws.Z.{Within};
 ghost use Rattle.game.specs.Booking as Booking;
 ghost use Rattle.game.specs.Ledger.{fresh, floor, eqZ, notOpen, isReady, moved};
 ghost use Rattle.game.specs.Runs.{Booked};
 ghost use Rattle.game.specs.laws.Form.{sumOf, Open};
-ghost use Rattle.game.specs.laws.Steps.{answered, Small, paid, dealerNext, windNext, finished, shareOf};
+ghost use Rattle.game.specs.laws.Steps.{outcome, Small, paid, dealerNext, windNext, finished, shareOf};
 ghost use Rattle.game.specs.laws.Refusals.{winningsOf, Won};
-ghost use Rattle.hand.specs.laws.Bounds.{Bounds};
-use fields::Hand;
-use hand::Answer;
+ghost use Rattle.hand_record.specs.laws.Bounds.{Bounds};
+use hand::Hand;
+use hand_record::Answer;
 
 // scores of seats 0 to 3; sticks on the table; who has declared riichi this hand; dealer; wind 0 East, 1 South; finished hands; a mark that it is over.
 #[repr(C)]
@@ -31,8 +31,8 @@ pub struct Game {
 }
 
 // What a booking gives: 0 and the game after it, or the refusal and the game as it was.
-pub struct Answered {
-    pub answer: u8,
+pub struct Outcome {
+    pub refusal: u8,
     pub game: Game,
 }
 
@@ -52,10 +52,13 @@ pub fn fresh_game() -> Game
     }
 }
 
-fn refused(g: Game, n: u8) -> Answered
-    ensures { λ r. ⌜ r ≡ answered n g ⌝ }
+fn refused(g: Game, n: u8) -> Outcome
+    ensures { λ r. ⌜ r ≡ outcome n g ⌝ }
 {
-    Answered { answer: n, game: g }
+    Outcome {
+        refusal: n,
+        game: g,
+    }
 }
 
 fn one(b: bool) -> u32
@@ -164,7 +167,7 @@ fn stake(pays: bool) -> i32
 }
 
 fn stakes(seat: u8) -> [i32; 4]
-    ensures { λ r. ⌜ (r ≡ table 4 0 (λ i. cond (eqb i seat) (negsuc 999) (pos 0))) × Small r ⌝ }
+    ensures { λ r. ⌜ (r ≡ tabulate 4 0 (λ i. cond (eqb i seat) (negsuc 999) (pos 0))) × Small r ⌝ }
 {
     [
         stake(0 == seat),
@@ -175,7 +178,7 @@ fn stakes(seat: u8) -> [i32; 4]
 }
 
 fn declare(d: [bool; 4], seat: u8) -> [bool; 4]
-    ensures { λ r. ⌜ r ≡ table 4 0 (λ i. eqb i seat || getD d i false) ⌝ }
+    ensures { λ r. ⌜ r ≡ tabulate 4 0 (λ i. eqb i seat || getD d i false) ⌝ }
 {
     [
         (0 == seat) | d[0],
@@ -205,8 +208,8 @@ fn put_stick(g: Game, seat: u8) -> Game
     }
 }
 
-pub fn riichi(g: Game, seat: u8) -> Answered
-    ensures { λ r. ⌜ Booked g (Booking.riichi seat) (r .answer) (r .game) ⌝ }
+pub fn riichi(g: Game, seat: u8) -> Outcome
+    ensures { λ r. ⌜ Booked g (Booking.riichi seat) (r .refusal) (r .game) ⌝ }
 {
     if 3 < seat {
         return refused(g, 8);
@@ -220,12 +223,15 @@ pub fn riichi(g: Game, seat: u8) -> Answered
         return refused(g, 10);
     }
     let h = put_stick(g, seat);
-    Answered { answer: 0, game: h }
+    Outcome {
+        refusal: 0,
+        game: h,
+    }
 }
 
 // Which seats are ready.
 fn ready(bits: u8) -> [bool; 4]
-    ensures { λ r. ⌜ r ≡ table 4 0 (isReady bits) ⌝ }
+    ensures { λ r. ⌜ r ≡ tabulate 4 0 (isReady bits) ⌝ }
 {
     [
         bits / 8 % 2 == 1,
@@ -258,7 +264,7 @@ fn share(n: u32, ready: bool) -> i32
 }
 
 fn shares(b: [bool; 4]) -> [i32; 4]
-    ensures { λ r. ⌜ (r ≡ table 4 0 (λ i. shareOf (count 4 (λ j. getD b j false)) (getD b i false))) × Small r ⌝ }
+    ensures { λ r. ⌜ (r ≡ tabulate 4 0 (λ i. shareOf (count 4 (λ j. getD b j false)) (getD b i false))) × Small r ⌝ }
 {
     let n = set_seats(b);
     [
@@ -269,8 +275,8 @@ fn shares(b: [bool; 4]) -> [i32; 4]
     ]
 }
 
-pub fn draw(g: Game, bits: u8) -> Answered
-    ensures { λ r. ⌜ Booked g (Booking.draw bits) (r .answer) (r .game) ⌝ }
+pub fn draw(g: Game, bits: u8) -> Outcome
+    ensures { λ r. ⌜ Booked g (Booking.draw bits) (r .refusal) (r .game) ⌝ }
 {
     if 15 < bits {
         return refused(g, 8);
@@ -285,7 +291,10 @@ pub fn draw(g: Game, bits: u8) -> Answered
     }
     let i = g.dealer as usize;
     let h = finish(g, shares(b), g.sticks, !b[i]);
-    Answered { answer: 0, game: h }
+    Outcome {
+        refusal: 0,
+        game: h,
+    }
 }
 
 // What a chombo gives a seat that pays, or does not, and has declared, or has not.
@@ -302,7 +311,7 @@ fn penalty(pays: bool, declared: bool) -> i32
 }
 
 fn penalties(seat: u8, d: [bool; 4]) -> [i32; 4]
-    ensures { λ r. ⌜ (r ≡ table 4 0 (λ i. cond (eqb i seat) (negsuc 8999) (pos 3000) +ℤ cond (getD d i false) (pos 1000) (pos 0))) × Small r ⌝ }
+    ensures { λ r. ⌜ (r ≡ tabulate 4 0 (λ i. cond (eqb i seat) (negsuc 8999) (pos 3000) +ℤ cond (getD d i false) (pos 1000) (pos 0))) × Small r ⌝ }
 {
     [
         penalty(0 == seat, d[0]),
@@ -312,8 +321,8 @@ fn penalties(seat: u8, d: [bool; 4]) -> [i32; 4]
     ]
 }
 
-pub fn chombo(g: Game, seat: u8) -> Answered
-    ensures { λ r. ⌜ Booked g (Booking.chombo seat) (r .answer) (r .game) ⌝ }
+pub fn chombo(g: Game, seat: u8) -> Outcome
+    ensures { λ r. ⌜ Booked g (Booking.chombo seat) (r .refusal) (r .game) ⌝ }
 {
     if 3 < seat {
         return refused(g, 8);
@@ -323,7 +332,10 @@ pub fn chombo(g: Game, seat: u8) -> Answered
     }
     let d = g.declared;
     let h = finish(g, penalties(seat, d), g.sticks - set_seats(d), false);
-    Answered { answer: 0, game: h }
+    Outcome {
+        refusal: 0,
+        game: h,
+    }
 }
 
 // A riichi in the record without a declaration, or the reverse.
@@ -358,9 +370,9 @@ fn winnings(c: [i32; 4], winner: u8, sticks: u32) -> [i32; 4]
 }
 
 // The win of a hand that read, in an open game.
-fn win_hand(g: Game, h: Hand) -> Answered
+fn win_hand(g: Game, h: Hand) -> Outcome
     requires { ⌜ Open g × Bounds h ⌝ }
-    ensures { λ r. ⌜ Won g h (r .answer) (r .game) ⌝ }
+    ensures { λ r. ⌜ Won g h (r .refusal) (r .game) ⌝ }
 {
     let v = score::settle(h, g.dealer, g.wind);
     if 0 < v.refusal {
@@ -374,19 +386,22 @@ fn win_hand(g: Game, h: Hand) -> Answered
     }
     let c = v.changes;
     let k = finish(g, winnings(c, winner, g.sticks), 0, !(winner == g.dealer));
-    Answered { answer: 0, game: k }
+    Outcome {
+        refusal: 0,
+        game: k,
+    }
 }
 
-pub fn win(g: Game, s: &[u8]) -> Answered
-    ensures { λ r. ⌜ Booked g (Booking.win (now (s .entry))) (r .answer) (r .game) ⌝ }
+pub fn win(g: Game, s: &[u8]) -> Outcome
+    ensures { λ r. ⌜ Booked g (Booking.win (now (s .entry))) (r .refusal) (r .game) ⌝ }
 {
     if not_open(g) {
         return refused(g, 9);
     }
-    let r = hand::read(s);
+    let r = hand_record::read(s);
     let a = r.answer;
     let Answer::Sound(f) = a else {
-        return refused(g, hand::why(a));
+        return refused(g, hand_record::refusal(a));
     };
     let melds = r.melds;
     let concealed = r.concealed;

@@ -1,6 +1,6 @@
--- Record   the hand record: its bits, what Read answers, what Write answers and stores
--- Claims   the theorems: widths-fill, worked, sound, read-write, write-read
--- laws     what they stand on
-pub mod Record
+-- Hand       the parts of a hand: its melds, its concealed tiles, how many of each kind it has
+-- Refusals   what a hand is refused for (01, Read: 2 to 5)
+-- laws       bounds on how many there are
+pub mod Hand
+pub mod Refusals
 pub mod laws
-pub mod Claims

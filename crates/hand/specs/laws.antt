@@ -1,8 +1,1 @@
-pub mod Clean
-pub mod Fill
-pub mod Read
-pub mod Write
-pub mod Round
-pub mod Claims
-pub mod Bounds
-pub mod Examples
+pub mod Held

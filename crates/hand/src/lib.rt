@@ -1,211 +1,305 @@
-// The hand record: Read and Write (01, Tiles and the hand record). Both take all input.
+// The hand: its fields, the tallies of its tiles, and the refusals 2 to 5 (01, Tiles and the hand record).
 ghost use mathlib.Core.Path.{_≡_};
-ghost use Prim.Native.Nat.{_+_, _*_, _≤_};
-ghost use lib.ListN.{length, drop};
-ghost use Rattle.bits.specs.Bits.{pack, unpack, Below, bitsOf, fill};
-ghost use Rattle.hand.specs.Record.{headOf, meldsOf, sixes, refusedWith, judged, readOf, numberOf, widths, valuesOf, writtenOf, bufferOf};
-use fields::Fields;
-use fields::Hand;
+ghost use mathlib.Core.Bool.{true, false, _&&_, _||_, not, cond};
+ghost use Prim.Native.Nat.{ℕ, _+_, _-_, _*_, _/_, _%_, _≤_, _<_};
+ghost use lib.Dec.{ltb, leb, eqb};
+ghost use lib.ListN.{getD};
+ghost use Rattle.tiles.specs.Below.{every, some, number};
+ghost use Rattle.tiles.specs.Kinds.{isRunStart};
+ghost use Rattle.tiles.specs.Groups.{at as atKind};
+ghost use Rattle.tiles.specs.Tally.{tallyOf};
+ghost use Rattle.hand.specs.Hand.{eachMeld, someMeld, meldHolds, concealedTally, handTally};
+ghost use Rattle.hand.specs.Refusals.{tileOver33, chiWithoutRun, wrongDiscarder, wrongFields, tooLarge, unusedNotZero, inRecord, wrongRiichi, wrongRinshan, wrongChankan, wrongFirstTurn, refusalOf, unwritable as unwritableOf};
 
-const HEAD: [u8; 8] = [1, 2, 2, 2, 3, 6, 6, 3];
-
-const LENGTHS: [usize; 5] = [13, 12, 11, 10, 8];
-
-const PADS: [usize; 5] = [1, 3, 5, 7, 1];
-
-// The fields that read, or the number of the refusal.
-pub enum Answer {
-    Sound(Fields),
-    Refused(u8),
+// The numbers of a hand, in the record's order: how 0 tsumo, 1 ron; m the meld count.
+#[repr(C)]
+pub struct Fields {
+    pub how: u8,
+    pub winner: u8,
+    pub discarder: u8,
+    pub riichi: u8,
+    pub situation: u8,
+    pub indicator: u8,
+    pub winning: u8,
+    pub m: u8,
 }
 
-// What Read gives: the arrays stand beside the answer, all zero where it is refused.
-pub struct HandRead {
-    pub answer: Answer,
+// A meld is 64 times its kind and its tile. Unused places are 0.
+#[repr(C)]
+pub struct Hand {
+    pub fields: Fields,
     pub melds: [u8; 4],
     pub concealed: [u8; 13],
 }
 
-// What Write gives: 0 and the record's length, or the refusal and 0.
-#[repr(C)]
-pub struct Written {
-    pub refusal: u8,
-    pub len: usize,
-}
-
-// The bits of at most 13 bytes, with zeros after them.
-fn spread(s: &[u8]) -> [u8; 104]
-    requires { ⌜ length (now s) ≤ 13 ⌝ }
-    ensures { λ r. ⌜ r ≡ fill 104 (bitsOf (now (s .entry))) ⌝ }
+// How many concealed tiles there are beside the winning one.
+pub fn others(m: u8) -> usize
+    ensures { λ r. ⌜ (r ≡ 13 - 3 * m) × (r ≤ 13) ⌝ }
 {
-    let eights = [8u8; 13];
-    let mut b = [0u8; 104];
-    let n = s.len();
-    bits::pack_into(&eights[..n], s, &mut b, 0);
-    b
+    if m <= 4 { 13 - 3 * (m as usize) } else { 0 }
 }
 
-fn header(b: &[u8]) -> Fields
-    requires { ⌜ (25 ≤ length (now b)) × Below 2 (now b) ⌝ }
-    ensures { λ r. ⌜ r ≡ headOf (now (b .entry)) ⌝ }
+// A tile over 33 among the first n.
+fn over_33(c: [u8; 13], n: usize) -> bool
+    requires { ⌜ n ≤ 13 ⌝ }
+    ensures { λ r. ⌜ r ≡ some n (λ i. ltb 33 (getD c i 0)) ⌝ }
 {
-    let ws = HEAD;
-    let mut h = [0u8; 8];
-    bits::unpack_into(&ws, b, 0, &mut h);
-    Fields {
-        how: h[0],
-        winner: h[1],
-        discarder: h[2],
-        riichi: h[3],
-        situation: h[4],
-        indicator: h[5],
-        winning: h[6],
-        m: h[7],
+    for i in 0..n {
+        if 33 < c[i] {
+            return true;
+        }
     }
+    false
 }
 
-// The m melds, with zeros after them.
-fn melds_in(b: &[u8], m: usize) -> [u8; 4]
-    requires { ⌜ (m ≤ 4) × (25 + 8 * m ≤ length (now b)) × Below 2 (now b) ⌝ }
-    ensures { λ r. ⌜ r ≡ fill 4 (meldsOf m (now (b .entry))) ⌝ }
+fn tile_over_33(h: Hand) -> bool
+    ensures { λ r. ⌜ r ≡ tileOver33 h ⌝ }
 {
-    let ws = [8u8; 4];
-    let mut out = [0u8; 4];
-    bits::unpack_into(&ws[..m], b, 25, &mut out);
-    out
+    let m = h.fields.m;
+    let d = h.melds;
+    let c = h.concealed;
+    (33 < h.fields.indicator)
+        | (33 < h.fields.winning)
+        | (((0 < m) & (33 < d[0] % 64))
+            | ((1 < m) & (33 < d[1] % 64))
+            | ((2 < m) & (33 < d[2] % 64))
+            | ((3 < m) & (33 < d[3] % 64)))
+        | over_33(c, others(m))
 }
 
-// The n tiles from `at` on, with zeros after them.
-fn tiles_in(b: &[u8], at: usize, n: usize) -> [u8; 13]
-    requires { ⌜ (n ≤ 13) × (at + 6 * n ≤ length (now b)) × Below 2 (now b) ⌝ }
-    ensures { λ r. ⌜ r ≡ fill 13 (unpack (sixes n) (drop at (now (b .entry)))) ⌝ }
+// A chi from whose tile no run goes.
+fn bad_chi(b: u8) -> bool
+    ensures { λ r. ⌜ r ≡ (eqb (b / 64) 0 && not (isRunStart (b % 64))) ⌝ }
 {
-    let ws = [6u8; 13];
-    let mut out = [0u8; 13];
-    bits::unpack_into(&ws[..n], b, at, &mut out);
-    out
+    (b / 64 == 0) & !tiles::is_run_start(b % 64)
 }
 
-fn refused(n: u8) -> HandRead
-    ensures { λ r. ⌜ r ≡ refusedWith n ⌝ }
+fn chi_without_run(h: Hand) -> bool
+    ensures { λ r. ⌜ r ≡ chiWithoutRun h ⌝ }
 {
-    HandRead {
-        answer: Answer::Refused(n),
-        melds: [0u8; 4],
-        concealed: [0u8; 13],
-    }
+    let m = h.fields.m;
+    let d = h.melds;
+    ((0 < m) & bad_chi(d[0]))
+        | ((1 < m) & bad_chi(d[1]))
+        | ((2 < m) & bad_chi(d[2]))
+        | ((3 < m) & bad_chi(d[3]))
 }
 
-// The hand of m melds and the header f that bits are, or why it is refused.
-fn hand_in(b: &[u8], f: Fields, m: usize) -> HandRead
-    requires { ⌜ (m ≤ 4) × (104 ≤ length (now b)) × Below 2 (now b) × (f ≡ headOf (now b)) ⌝ }
-    ensures { λ r. ⌜ r ≡ judged m (now (b .entry)) ⌝ }
+fn wrong_discarder(f: Fields) -> bool
+    ensures { λ r. ⌜ r ≡ wrongDiscarder f ⌝ }
 {
-    let k = 13 - 3 * m;
-    let at = 25 + 8 * m;
-    let melds = melds_in(b, m);
-    let concealed = tiles_in(b, at, k);
-    let padding = bits::gather(b, at + 6 * k, PADS[m]);
-    let h = Hand {
-        fields: f,
-        melds,
-        concealed,
-    };
-    let j = fields::refusal(h, padding);
-    if 0 < j {
-        return refused(j);
-    }
-    HandRead {
-        answer: Answer::Sound(f),
-        melds,
-        concealed,
+    if f.how == 1 {
+        f.discarder == f.winner
+    } else {
+        !(f.discarder == 0)
     }
 }
 
-// Read.
-pub fn read(s: &[u8]) -> HandRead
-    ensures { λ r. ⌜ r ≡ readOf (now (s .entry)) ⌝ }
-{
-    let n = s.len();
-    if n < 4 {
-        return refused(1);
-    }
-    if 13 < n {
-        return refused(1);
-    }
-    let b = spread(s);
-    let f = header(&b);
-    let m = f.m as usize;
-    if 4 < m {
-        return refused(1);
-    }
-    if n != LENGTHS[m] {
-        return refused(1);
-    }
-    hand_in(&b, f, m)
-}
-
-// The number of an answer, 0 for a sound record.
-pub fn why(a: Answer) -> u8
-    ensures { λ r. ⌜ r ≡ numberOf a ⌝ }
-{
-    match a {
-        Answer::Sound(_) => 0,
-        Answer::Refused(n) => n,
-    }
-}
-
-// The bits of a hand, with zeros after them.
-fn pack_hand(h: Hand) -> [u8; 104]
-    requires { ⌜ h .fields .m ≤ 4 ⌝ }
-    ensures { λ r. ⌜ r ≡ fill 104 (pack (widths (h .fields .m)) (valuesOf h)) ⌝ }
+// 2
+fn wrong_fields(h: Hand, padding: u8) -> bool
+    ensures { λ r. ⌜ r ≡ wrongFields h padding ⌝ }
 {
     let f = h.fields;
-    let m = f.m as usize;
-    let melds = h.melds;
-    let concealed = h.concealed;
-    let mut b = [0u8; 104];
-    let hw = HEAD;
-    let hv = [
-        f.how,
-        f.winner,
-        f.discarder,
-        f.riichi,
-        f.situation,
-        f.indicator,
-        f.winning,
-        f.m,
-    ];
-    let ew = [8u8; 4];
-    let sw = [6u8; 13];
-    let k = 13 - 3 * m;
-    let at = 25 + 8 * m;
-    bits::pack_into(&hw, &hv, &mut b, 0);
-    bits::pack_into(&ew[..m], &melds[..m], &mut b, 25);
-    bits::pack_into(&sw[..k], &concealed[..k], &mut b, at);
-    bits::put(&mut b, at + 6 * k, PADS[m], 0);
-    b
+    tile_over_33(h)
+        | ((3 <= f.riichi) | (4 < f.situation))
+        | chi_without_run(h)
+        | (0 < padding)
+        | wrong_discarder(f)
 }
 
-// Write.
-pub fn write(h: Hand, buf: &mut [u8]) -> Written
-    ensures { λ r. ⌜ r ≡ writtenOf h (now (buf .entry)) ⌝ }
-    ensures { λ _. ⌜ now (buf .exit) ≡ bufferOf h (now (buf .entry)) ⌝ }
+// Each place from n on is 0.
+fn zero_from(c: [u8; 13], n: usize) -> bool
+    ensures { λ r. ⌜ r ≡ every 13 (λ i. ltb i n || eqb (getD c i 0) 0) ⌝ }
 {
-    let j = fields::unwritable(h);
-    if 0 < j {
-        return Written { refusal: j, len: 0 };
+    for i in 0..13 {
+        if !((i < n) | (c[i] == 0)) {
+            return false;
+        }
     }
-    let m = h.fields.m as usize;
-    let n = LENGTHS[m];
-    if buf.len() < n {
-        return Written {
-            refusal: 13,
-            len: 0,
-        };
+    true
+}
+
+fn unused_not_zero(h: Hand) -> bool
+    ensures { λ r. ⌜ r ≡ unusedNotZero h ⌝ }
+{
+    let m = h.fields.m;
+    let d = h.melds;
+    let c = h.concealed;
+    !(((0 < m) | (d[0] == 0))
+        & ((1 < m) | (d[1] == 0))
+        & ((2 < m) | (d[2] == 0))
+        & ((3 < m) | (d[3] == 0)))
+        | !zero_from(c, others(m))
+}
+
+fn too_large(f: Fields) -> bool
+    ensures { λ r. ⌜ r ≡ tooLarge f ⌝ }
+{
+    (4 < f.m)
+        | (1 < f.how)
+        | (3 < f.winner)
+        | (3 < f.discarder)
+        | (3 < f.riichi)
+        | (7 < f.situation)
+}
+
+// How many tiles have one after them.
+fn followed(m: u8) -> usize
+    ensures { λ r. ⌜ (r ≡ 13 - 3 * m - 1) × (r ≤ 12) ⌝ }
+{
+    if m <= 4 { 12 - 3 * (m as usize) } else { 0 }
+}
+
+// One of the first n tiles is over the one after it.
+fn falls(c: [u8; 13], n: usize) -> bool
+    requires { ⌜ n ≤ 12 ⌝ }
+    ensures { λ r. ⌜ r ≡ some n (λ i. ltb (getD c (i + 1) 0) (getD c i 0)) ⌝ }
+{
+    for i in 0..n {
+        if c[i + 1] < c[i] {
+            return true;
+        }
     }
-    let b = pack_hand(h);
-    let ew = [8u8; 13];
-    bits::unpack_into(&ew[..n], &b, 0, buf);
-    Written { refusal: 0, len: n }
+    false
+}
+
+// The first n tiles and the winning one.
+fn tally_of(c: [u8; 13], n: usize, winning: u8) -> [u8; 34]
+    requires { ⌜ n ≤ 13 ⌝ }
+    ensures { λ r. ⌜ r ≡ tallyOf (λ k. number n (λ i. eqb (getD c i 0) k) + atKind winning 1 k) ⌝ }
+{
+    let mut t = [0u8; 34];
+    for i in 0..n {
+        let u = tiles::add(t, c[i], 1);
+        t = u;
+    }
+    tiles::add(t, winning, 1)
+}
+
+pub fn concealed_tally(h: Hand) -> [u8; 34]
+    ensures { λ r. ⌜ r ≡ concealedTally h ⌝ }
+{
+    let c = h.concealed;
+    tally_of(c, others(h.fields.m), h.fields.winning)
+}
+
+// The tiles of a meld.
+fn add_meld(t: [u8; 34], b: u8) -> [u8; 34]
+    requires { ⌜ ((k : ℕ) → getD t k 0 ≤ 240) ⌝ }
+    ensures { λ r. ⌜ ((k : ℕ) → k < 34 → getD r k 0 ≡ getD t k 0 + meldHolds b k) ⌝ }
+{
+    let tile = b % 64;
+    if b / 64 == 0 {
+        let u = tiles::add(t, tile, 1);
+        let v = tiles::add(u, tile + 1, 1);
+        tiles::add(v, tile + 2, 1)
+    } else if b / 64 == 1 {
+        tiles::add(t, tile, 3)
+    } else {
+        tiles::add(t, tile, 4)
+    }
+}
+
+// The meld where it is one of the m.
+fn add_meld_if(t: [u8; 34], used: bool, b: u8) -> [u8; 34]
+    requires { ⌜ ((k : ℕ) → getD t k 0 ≤ 240) ⌝ }
+    ensures { λ r. ⌜ ((k : ℕ) → k < 34 → getD r k 0 ≡ getD t k 0 + cond used (meldHolds b k) 0) ⌝ }
+{
+    if used { add_meld(t, b) } else { t }
+}
+
+// All tiles of the hand, kans whole.
+pub fn hand_tally(h: Hand) -> [u8; 34]
+    ensures { λ r. ⌜ r ≡ handTally h ⌝ }
+{
+    let m = h.fields.m;
+    let d = h.melds;
+    let t0 = concealed_tally(h);
+    let t1 = add_meld_if(t0, 0 < m, d[0]);
+    let t2 = add_meld_if(t1, 1 < m, d[1]);
+    let t3 = add_meld_if(t2, 2 < m, d[2]);
+    add_meld_if(t3, 3 < m, d[3])
+}
+
+// With the indicator: the tiles of 4.
+fn record_tally(h: Hand) -> [u8; 34]
+    ensures { λ r. ⌜ r ≡ tallyOf (inRecord h) ⌝ }
+{
+    tiles::add(hand_tally(h), h.fields.indicator, 1)
+}
+
+// Over four of a kind.
+fn over_four(t: [u8; 34]) -> bool
+    ensures { λ r. ⌜ r ≡ some 34 (λ k. ltb 4 (getD t k 0)) ⌝ }
+{
+    for k in 0..34 {
+        if 4 < t[k] {
+            return true;
+        }
+    }
+    false
+}
+
+pub fn is_closed(m: u8, d: [u8; 4]) -> bool
+    ensures { λ r. ⌜ r ≡ eachMeld m d (λ b. eqb (b / 64) 3) ⌝ }
+{
+    ((m <= 0) | (d[0] / 64 == 3))
+        & ((m <= 1) | (d[1] / 64 == 3))
+        & ((m <= 2) | (d[2] / 64 == 3))
+        & ((m <= 3) | (d[3] / 64 == 3))
+}
+
+fn has_kan(m: u8, d: [u8; 4]) -> bool
+    ensures { λ r. ⌜ r ≡ someMeld m d (λ b. leb 2 (b / 64)) ⌝ }
+{
+    ((0 < m) & (2 <= d[0] / 64))
+        | ((1 < m) & (2 <= d[1] / 64))
+        | ((2 < m) & (2 <= d[2] / 64))
+        | ((3 < m) & (2 <= d[3] / 64))
+}
+
+// 5. `held` is how many of the winning tile's kind the tiles of 4 have.
+fn wrong_situation(f: Fields, closed: bool, kan: bool, held: u8) -> bool
+    ensures { λ r. ⌜ r ≡ (wrongRiichi f closed || (eqb (f .situation) 1 && wrongRinshan f kan) || (eqb (f .situation) 2 && wrongChankan f held) || (eqb (f .situation) 4 && wrongFirstTurn f)) ⌝ }
+{
+    let ron = f.how == 1;
+    (((0 < f.riichi) & !closed) | ((f.riichi == 2) & (0 < f.m)))
+        | ((f.situation == 1) & (ron | (0 < f.riichi) | !kan))
+        | ((f.situation == 2) & (!ron | (1 < held)))
+        | ((f.situation == 4) & (ron | (0 < f.m) | (0 < f.riichi)))
+}
+
+// 2 to 5, first match wins; 0 where there is none.
+pub fn refusal(h: Hand, padding: u8) -> u8
+    ensures { λ r. ⌜ r ≡ refusalOf h padding ⌝ }
+{
+    if wrong_fields(h, padding) {
+        return 2;
+    }
+    let f = h.fields;
+    let d = h.melds;
+    let c = h.concealed;
+    if falls(c, followed(f.m)) {
+        return 3;
+    }
+    let t = record_tally(h);
+    if over_four(t) {
+        return 4;
+    }
+    let at = f.winning as usize;
+    if wrong_situation(f, is_closed(f.m, d), has_kan(f.m, d), t[at]) {
+        return 5;
+    }
+    0
+}
+
+// What Write refuses of a hand.
+pub fn unwritable(h: Hand) -> u8
+    ensures { λ r. ⌜ r ≡ unwritableOf h ⌝ }
+{
+    if too_large(h.fields) | unused_not_zero(h) {
+        2
+    } else {
+        refusal(h, 0)
+    }
 }

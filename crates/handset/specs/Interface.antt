@@ -2,7 +2,7 @@
 use mathlib.Core.Bool.{true, false}
 use mathlib.Core.List.{List}
 use Prim.Native.Nat.{ℕ}
-use Rattle.hand.specs.Record.{numberOf, handOf, readOf}
+use Rattle.hand_record.specs.Record.{refusalIn, handOf, readOf}
 use Rattle.log.specs.Log.{nextOf}
 use Rattle.log.specs.declared.Next.{Next}
 use Rattle.log.specs.declared.Next.the-variants.{Entry, End, Bad}
@@ -11,7 +11,7 @@ use Rattle.handset.specs.declared.NextEntry.{NextEntry}
 
 -- Read: the number, and the hand, all zero where it is refused
 unfoldable pub readHandOf : List ℕ → ReadHand
-readHandOf s = record { refusal = numberOf (readOf s .answer); hand = handOf (readOf s) }
+readHandOf s = record { refusal = refusalIn (readOf s .answer); hand = handOf (readOf s) }
 
 -- Next entry: an entry, "end", or 14
 abbrev pub nextEntryBy : Next → NextEntry

@@ -1,2 +1,2 @@
--- Interface  what the calls give where an answer is an enum, which is not exported
+-- Interface  what the calls give where an refusal is an enum, which is not exported
 pub mod Interface

@@ -1,17 +1,17 @@
 // The public calls as the handset's firmware links them, with one prefix. They take all input; the bookings are lent the game and update it there.
 ghost use mathlib.Core.Path.{_≡_};
-ghost use Rattle.hand.specs.Record.{fieldsOf, writtenOf, bufferOf};
+ghost use Rattle.hand_record.specs.Record.{fieldsOf, writtenOf, bufferOf};
 ghost use Rattle.score.specs.Score.{scoreOf};
 ghost use Rattle.game.specs.Booking as Booking;
 ghost use Rattle.game.specs.Ledger.{fresh};
 ghost use Rattle.game.specs.Runs.{Booked};
 ghost use Rattle.text.specs.Text.{lineOf, lengthIn, bufferWith};
 ghost use Rattle.handset.specs.Interface.{readHandOf, nextEntryBy, nextEntryOf};
-use fields::Fields;
-use fields::Hand;
 use game::Game;
-use hand::Answer;
-use hand::Written;
+use hand::Fields;
+use hand::Hand;
+use hand_record::Answer;
+use hand_record::Written;
 use log::Next;
 use score::Scored;
 
@@ -32,7 +32,7 @@ pub struct NextEntry {
     pub length: usize,
 }
 
-// The fields of an answer, zero where the record is refused.
+// The fields of an refusal, zero where the record is refused.
 fn fields_of(a: Answer) -> Fields
     ensures { λ r. ⌜ r ≡ fieldsOf a ⌝ }
 {
@@ -55,7 +55,7 @@ fn fields_of(a: Answer) -> Fields
 pub extern "C" fn hb_read(s: &[u8]) -> ReadHand
     ensures { λ r. ⌜ r ≡ readHandOf (now (s .entry)) ⌝ }
 {
-    let r = hand::read(s);
+    let r = hand_record::read(s);
     let a = r.answer;
     let melds = r.melds;
     let concealed = r.concealed;
@@ -66,7 +66,7 @@ pub extern "C" fn hb_read(s: &[u8]) -> ReadHand
         concealed,
     };
     ReadHand {
-        refusal: hand::why(a),
+        refusal: hand_record::refusal(a),
         hand,
     }
 }
@@ -76,7 +76,7 @@ pub extern "C" fn hb_write(h: Hand, buf: &mut [u8]) -> Written
     ensures { λ r. ⌜ r ≡ writtenOf h (now (buf .entry)) ⌝ }
     ensures { λ _. ⌜ now (buf .exit) ≡ bufferOf h (now (buf .entry)) ⌝ }
 {
-    hand::write(h, buf)
+    hand_record::write(h, buf)
 }
 
 #[no_mangle]
@@ -99,7 +99,7 @@ pub extern "C" fn hb_riichi(g: &mut Game, seat: u8) -> u8
 {
     let b = game::riichi(*g, seat);
     *g = b.game;
-    b.answer
+    b.refusal
 }
 
 #[no_mangle]
@@ -108,7 +108,7 @@ pub extern "C" fn hb_win(g: &mut Game, s: &[u8]) -> u8
 {
     let b = game::win(*g, s);
     *g = b.game;
-    b.answer
+    b.refusal
 }
 
 #[no_mangle]
@@ -117,7 +117,7 @@ pub extern "C" fn hb_draw(g: &mut Game, bits: u8) -> u8
 {
     let b = game::draw(*g, bits);
     *g = b.game;
-    b.answer
+    b.refusal
 }
 
 #[no_mangle]
@@ -126,7 +126,7 @@ pub extern "C" fn hb_chombo(g: &mut Game, seat: u8) -> u8
 {
     let b = game::chombo(*g, seat);
     *g = b.game;
-    b.answer
+    b.refusal
 }
 
 fn flat(n: Next) -> NextEntry

@@ -5,8 +5,8 @@ use mathlib.Core.Logic.{_⊎_, _↔_}
 use mathlib.Core.List.{List, _∷_}
 use Prim.Native.Nat.{ℕ, _+_, _≤_, _<_}
 use lib.ListN.{length, take, drop}
-use Rattle.hand.specs.Record.{countIn, wrongLength}
-use Rattle.log.specs.Log.{isBad, nextOf, numberOf, partOf}
+use Rattle.hand_record.specs.Record.{countIn, wrongLength}
+use Rattle.log.specs.Log.{isBad, nextOf, refusalIn, partOf}
 use Rattle.log.specs.Walk.{entryAt, entriesFrom, stopFrom, laid}
 use Rattle.log.specs.laws.Next as next
 use Rattle.log.specs.laws.Walk as laws
@@ -41,9 +41,9 @@ pub parts-end-to-end : (log : List ℕ) → laid (entriesFrom log 0) ≡ take (s
 parts-end-to-end log = laws.laid-prefix log
 
 -- the walk says "end", or "the walk ends" at 14, inside the log, after at most as many entries as the log has bytes
-pub walk-ends : (log : List ℕ) → ((nextOf log (stopFrom log 0) ≡ End) ⊎ (numberOf (nextOf log (stopFrom log 0)) ≡ 14)) × (stopFrom log 0 ≤ length log) × (length (entriesFrom log 0) ≤ length log)
+pub walk-ends : (log : List ℕ) → ((nextOf log (stopFrom log 0) ≡ End) ⊎ (refusalIn (nextOf log (stopFrom log 0)) ≡ 14)) × (stopFrom log 0 ≤ length log) × (length (entriesFrom log 0) ≤ length log)
 walk-ends log = (laws.ends-at log 0, laws.stop-within log, laws.entries-within log)
 
 -- a log that meets no "Refusal 14" is walked whole
-pub whole-unless-14 : (log : List ℕ) → (numberOf (nextOf log (stopFrom log 0)) ≡ 14 → ⊥) → laid (entriesFrom log 0) ≡ log
+pub whole-unless-14 : (log : List ℕ) → (refusalIn (nextOf log (stopFrom log 0)) ≡ 14 → ⊥) → laid (entriesFrom log 0) ≡ log
 whole-unless-14 log h = laws.laid-all log h

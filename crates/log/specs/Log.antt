@@ -4,7 +4,7 @@ use mathlib.Core.List.{List, []}
 use Prim.Native.Nat.{ℕ, _+_, _/_, _%_}
 use lib.Dec.{ltb, leb, eqb}
 use lib.ListN.{length, getD, take, drop}
-use Rattle.hand.specs.Record.{lengthOf, countIn}
+use Rattle.hand_record.specs.Record.{lengthOf, countIn}
 use Rattle.log.specs.declared.Next.{Next}
 use Rattle.log.specs.declared.Next.the-variants.{Entry, End, Bad}
 
@@ -42,10 +42,10 @@ nextOf log at =
     cond (leb (length log) at) End (cond (isBad log at) Bad (Entry (kindAt log at) (argumentAt log at) (entryLength log at)))
 
 -- the number of an answer: "Refusal 14", else 0
-abbrev pub numberOf : Next → ℕ
-numberOf (Entry kind argument n) = 0
-numberOf End = 0
-numberOf Bad = 14
+abbrev pub refusalIn : Next → ℕ
+refusalIn (Entry kind argument n) = 0
+refusalIn End = 0
+refusalIn Bad = 14
 
 -- "hands back that very part of the log, from its header on"; "an empty part" at 14 and at the end
 abbrev pub partBy : Next → List ℕ → ℕ → List ℕ

@@ -2,7 +2,7 @@
 ghost use mathlib.Core.Path.{_≡_};
 ghost use Prim.Native.Nat.{_+_, _≤_};
 ghost use lib.ListN.{length, drop};
-ghost use Rattle.hand.specs.Record.{countIn};
+ghost use Rattle.hand_record.specs.Record.{countIn};
 ghost use Rattle.log.specs.Log.{nextOf, partOf};
 ghost use Rattle.log.specs.laws.Next.{recordLength};
 

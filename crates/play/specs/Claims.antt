@@ -4,7 +4,7 @@ use mathlib.Core.List.{List, [], _∷_, _++_}
 use lib.ListN.{take}
 use Prim.Native.Nat.{ℕ, _<_}
 use Rattle.game.specs.Ledger.{fresh, ledgerFrom, notOpen, outOfForm, totalOf, refusalFor, after, moved, gives, drawGives, sticksAfter, declaredAfter, handsAfter, dealPasses, dealerAfter, windAfter, overAfter}
-use Rattle.game.specs.Claims.{Demand3, demand-3, answersFrom, runs-exists}
+use Rattle.game.specs.Claims.{Demand3, demand-3, refusalsFrom, runs-exists}
 use Rattle.log.specs.Log.{isBad, entryLength, nextOf}
 use Rattle.log.specs.Walk.{walk, entriesFrom}
 use Rattle.text.specs.Text.{lengthIn, bufferWith, lastDigits, digitsOf, signedOf, spaced, lineOf}
@@ -13,8 +13,8 @@ use Rattle.play.specs.Play.{bookingOf, bookingsFrom, entryLine, textFrom
 use Rattle.play.specs.laws.Line as turn
 
 -- demand 3 holds of every log: of its bookings, their answers, and the game that `play` leaves of a fresh one
-pub log-demand-3 : (log : List ℕ) → Demand3 (bookingsFrom log 0) (answersFrom fresh (bookingsFrom log 0)) (ledgerFrom fresh (bookingsFrom log 0))
-log-demand-3 log = demand-3 (bookingsFrom log 0) (answersFrom fresh (bookingsFrom log 0)) (ledgerFrom fresh (bookingsFrom log 0)) (runs-exists (bookingsFrom log 0) fresh)
+pub log-demand-3 : (log : List ℕ) → Demand3 (bookingsFrom log 0) (refusalsFrom fresh (bookingsFrom log 0)) (ledgerFrom fresh (bookingsFrom log 0))
+log-demand-3 log = demand-3 (bookingsFrom log 0) (refusalsFrom fresh (bookingsFrom log 0)) (ledgerFrom fresh (bookingsFrom log 0)) (runs-exists (bookingsFrom log 0) fresh)
 
 -- what next_line writes, and then the text from where it leaves the walk, is the text from where the walk stood
 pub line-by-line : (t : Turn) (log buf : List ℕ) → let n = lengthIn buf (nextLine t log) in take n (bufferWith buf (nextLine t log)) ++ textLeft (turnBy n t log) log ≡ textLeft t log

@@ -28,13 +28,13 @@ bookingOf entry = bookingBy (entry .kind) (entry .argument) (drop 1 (entry .byte
 unfoldable pub bookingsFrom : List ℕ → ℕ → List Booking
 bookingsFrom log at = map bookingOf (entriesFrom log at)
 
--- an entry booked: its answer, kind and length and the game after it; no length and the game as it was at "end", and with 14
+-- an entry booked: its refusal, kind and length and the game after it; no length and the game as it was at "end", and with 14
 abbrev pub stepBy : Next → Game → List ℕ → ℕ → Step
 stepBy (Entry kind argument n) g log at =
     let b = bookingOf (entryAt log at kind argument n) in
-    record { answer = refusalFor g b; kind = kind; length = n; game = after g b }
-stepBy End g log at = record { answer = 0; kind = 0; length = 0; game = g }
-stepBy Bad g log at = record { answer = 14; kind = 0; length = 0; game = g }
+    record { refusal = refusalFor g b; kind = kind; length = n; game = after g b }
+stepBy End g log at = record { refusal = 0; kind = 0; length = 0; game = g }
+stepBy Bad g log at = record { refusal = 14; kind = 0; length = 0; game = g }
 
 -- what Next entry gives at an offset, booked
 unfoldable pub stepOf : Game → List ℕ → ℕ → Step
@@ -44,9 +44,9 @@ stepOf g log at = stepBy (nextOf log at) g log at
 abbrev pub letterOf : ℕ → ℕ
 letterOf kind = cond (eqb kind 0) 82 (cond (eqb kind 1) 87 (cond (eqb kind 2) 68 67))
 
--- the line of entry k, of a kind, with its answer and the game after it
+-- the line of entry k, of a kind, with its refusal and the game after it
 unfoldable pub entryLine : ℕ → ℕ → ℕ → Game → List ℕ
-entryLine k kind answer g = lineOf k (letterOf kind) answer (g .scores) (g .sticks)
+entryLine k kind refusal g = lineOf k (letterOf kind) refusal (g .scores) (g .sticks)
 
 -- "books every entry, refused or not, printing" a line for each: the text from entry k on
 unfoldable pub textFrom : ℕ → Game → List LogEntry → List ℕ
@@ -69,7 +69,7 @@ textLeft t log = textFrom (t .entry) (t .game) (entriesFrom log (t .at))
 unfoldable pub nextLine : Turn → List ℕ → List ℕ
 nextLine t log =
     let s = stepOf (t .game) log (t .at) in
-    cond (eqb (s .length) 0 || eqb (t .entry) 4294967295) [] (entryLine (t .entry) (s .kind) (s .answer) (s .game))
+    cond (eqb (s .length) 0 || eqb (t .entry) 4294967295) [] (entryLine (t .entry) (s .kind) (s .refusal) (s .game))
 
 -- where the walk then stands, n bytes being written: as before where none are
 unfoldable pub turnBy : ℕ → Turn → List ℕ → Turn

@@ -6,22 +6,22 @@ ghost use Rattle.game.specs.Ledger.{fresh, ledgerFrom};
 ghost use Rattle.game.specs.Runs.{Booked};
 ghost use Rattle.text.specs.Text.{lengthIn, bufferWith};
 ghost use Rattle.play.specs.Play.{bookingBy, bookingsFrom, stepOf, letterOf, entryLine, nextLine, turnBy};
-use game::Answered;
 use game::Game;
+use game::Outcome;
 use log::Next;
 
-// An entry booked: its answer, its kind, its length with the header, the game after it. Where there is no entry the length is 0,
-// the answer 0 at the log's end and 14 otherwise, and the game is as it was.
+// An entry booked: its refusal, its kind, its length with the header, the game after it. Where there is no entry the length is 0,
+// the refusal 0 at the log's end and 14 otherwise, and the game is as it was.
 pub struct Step {
-    pub answer: u8,
+    pub refusal: u8,
     pub kind: u8,
     pub length: usize,
     pub game: Game,
 }
 
 // The booking of a kind, with its argument and, of a win, its record.
-fn book(g: Game, kind: u8, argument: u8, s: &[u8]) -> Answered
-    ensures { λ r. ⌜ Booked g (bookingBy kind argument (now (s .entry))) (r .answer) (r .game) ⌝ }
+fn book(g: Game, kind: u8, argument: u8, s: &[u8]) -> Outcome
+    ensures { λ r. ⌜ Booked g (bookingBy kind argument (now (s .entry))) (r .refusal) (r .game) ⌝ }
 {
     if kind == 0 {
         return game::riichi(g, argument);
@@ -35,11 +35,11 @@ fn book(g: Game, kind: u8, argument: u8, s: &[u8]) -> Answered
     game::chombo(g, argument)
 }
 
-fn no_entry(g: Game, answer: u8) -> Step
-    ensures { λ r. ⌜ r ≡ record { answer = answer; kind = 0; length = 0; game = g } ⌝ }
+fn no_entry(g: Game, refusal: u8) -> Step
+    ensures { λ r. ⌜ r ≡ record { refusal = refusal; kind = 0; length = 0; game = g } ⌝ }
 {
     Step {
-        answer,
+        refusal,
         kind: 0,
         length: 0,
         game: g,
@@ -61,7 +61,7 @@ pub fn book_at(g: Game, s: &[u8], at: usize) -> Step
             let b = book(g, kind, argument, &s[from..end]);
             let after = b.game;
             return Step {
-                answer: b.answer,
+                refusal: b.refusal,
                 kind,
                 length,
                 game: after,
@@ -110,12 +110,12 @@ fn letter(k: u8) -> u8
 
 // The line of entry k, booked, at the start of a buffer, or nothing where the buffer is too short.
 fn entry_line(buf: &mut [u8], k: u32, t: Step) -> usize
-    ensures { λ r. ⌜ r ≡ lengthIn (now (buf .entry)) (entryLine k (t .kind) (t .answer) (t .game)) ⌝ }
-    ensures { λ _. ⌜ now (buf .exit) ≡ bufferWith (now (buf .entry)) (entryLine k (t .kind) (t .answer) (t .game)) ⌝ }
-    ensures { λ _. ⌜ length (entryLine k (t .kind) (t .answer) (t .game)) ≤ 83 ⌝ }
+    ensures { λ r. ⌜ r ≡ lengthIn (now (buf .entry)) (entryLine k (t .kind) (t .refusal) (t .game)) ⌝ }
+    ensures { λ _. ⌜ now (buf .exit) ≡ bufferWith (now (buf .entry)) (entryLine k (t .kind) (t .refusal) (t .game)) ⌝ }
+    ensures { λ _. ⌜ length (entryLine k (t .kind) (t .refusal) (t .game)) ≤ 83 ⌝ }
 {
     let s = t.game.scores;
-    text::line(buf, k, letter(t.kind), t.answer, s, t.game.sticks)
+    text::line(buf, k, letter(t.kind), t.refusal, s, t.game.sticks)
 }
 
 // Where a walk that prints stands: the game, the offset and the number of the next entry, and how many bytes were written last.

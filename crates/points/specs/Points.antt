@@ -5,7 +5,7 @@ use Prim.Native.Nat.{ℕ, _+_, _*_, _/_, _^_}
 use lib.IntN.{ℤ, pos, _+ℤ_, _-ℤ_}
 use lib.ListN.{getD}
 use lib.Dec.{eqb, leb, ltb}
-use Rattle.tiles.specs.Below.{sum, table}
+use Rattle.tiles.specs.Below.{sum, tabulate}
 use Rattle.points.specs.declared.Seats.{Seats}
 
 -- "A = fu times 2 to the (h + 2)"
@@ -49,7 +49,7 @@ change s ron a seat = cond (eqb (s .winner) seat) (pos (gain s ron a)) (pos 0 -�
 
 -- the "four changes", of seats 0 to 3
 unfoldable pub changes : Seats → Bool → ℕ → List ℤ
-changes s ron a = table 4 0 (change s ron a)
+changes s ron a = tabulate 4 0 (change s ron a)
 
 -- "four changes summing to 0": their sum
 abbrev pub sumOfFour : List ℤ → ℤ

@@ -13,7 +13,7 @@ Lex (a ∷ x) (b ∷ y) = (a < b) ⊎ ((a ≡ b) × Lex x y)
 
 -- "regular before seven pairs. Regular ones compare by pair kind, then groups ... as a list, then place (pair first)"
 abbrev pub keyOf : Reading → List ℕ
-keyOf r = r .form ∷ r .pair ∷ (r .groups ++ (r .place ∷ []))
+keyOf r = r .shape ∷ r .pair ∷ (r .groups ++ (r .place ∷ []))
 
 -- "Order": a comes before b
 abbrev pub Before : Reading → Reading → Type 0

@@ -28,7 +28,7 @@ holds pair groups (suc i) win = leb 1 (uses (getD groups i 68) win)
 -- "regular: a pair and 4 − m groups (run or triplet) using every tile exactly once, and a place": of the tally t
 -- of the concealed tiles with the winning tile, m melds, and the winning tile's kind win
 pub record IsRegular (t : List ℕ) (m win : ℕ) (r : Reading) : Type 0 where
-  pub form : r .form ≡ 0
+  pub shape : r .shape ≡ 0
   pub codes : List ℕ
   pub size : length codes ≡ 4 - m
   pub groups : r .groups ≡ codes ++ replicate m 68
@@ -48,20 +48,20 @@ isOrphans t =
     every 34 (λ k. cond (isYaochu k) (eqb (getD t k 0) 1 || eqb (getD t k 0) 2) (eqb (getD t k 0) 0)) && eqb (number 34 (λ k. eqb (getD t k 0) 2)) 1
 
 -- "seven pairs", "thirteen orphans": the reading without pair (34), groups (68) and place, of form 1 or 2
-abbrev pub ofForm : ℕ → Reading
-ofForm f = record { form = f; pair = 34; groups = 68 ∷ 68 ∷ 68 ∷ 68 ∷ []; place = 0 }
+abbrev pub ofShape : ℕ → Reading
+ofShape f = record { shape = f; pair = 34; groups = 68 ∷ 68 ∷ 68 ∷ 68 ∷ []; place = 0 }
 
 -- "seven pairs: m = 0, seven different kinds"
 pub record IsSevenPairs (t : List ℕ) (m : ℕ) (r : Reading) : Type 0 where
   pub closed : m ≡ 0
   pub kinds : isSevenPairs t ≡ true
-  pub reading : r ≡ ofForm 1
+  pub reading : r ≡ ofShape 1
 
 -- "thirteen orphans: m = 0, all 13 yaochu kinds, one twice"
 pub record IsOrphans (t : List ℕ) (m : ℕ) (r : Reading) : Type 0 where
   pub closed : m ≡ 0
   pub kinds : isOrphans t ≡ true
-  pub reading : r ≡ ofForm 2
+  pub reading : r ≡ ofShape 2
 
 -- "A reading of the concealed tiles with the winning tile is one of"
 pub data IsReading (t : List ℕ) (m win : ℕ) (r : Reading) : Type 0 where

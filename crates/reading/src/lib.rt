@@ -5,24 +5,24 @@ ghost use mathlib.Core.Bool.{true};
 ghost use Prim.Native.Nat.{_<_, _≤_};
 ghost use lib.ListN.{getD};
 ghost use Rattle.tiles.specs.Groups.{isGroup};
-ghost use Rattle.reading.specs.Reading.{holds as holdsOf, isSevenPairs, isOrphans, ofForm};
+ghost use Rattle.reading.specs.Reading.{holds as holdsOf, isSevenPairs, isOrphans, ofShape};
 ghost use Rattle.reading.specs.search.Readings.{isEmpty, less, fits as fitsOf, without as withoutOf, passes as passesOf};
 
 // A reading: form 0 regular, 1 seven pairs, 2 thirteen orphans. groups: the 4 - m codes in order, then 68 in each place that a meld takes. A form
 // without a pair has pair 34; place 0 is the pair, i + 1 the group at i.
 pub struct Reading {
-    pub form: u8,
+    pub shape: u8,
     pub pair: u8,
     pub groups: [u8; 4],
     pub place: u8,
 }
 
 // A form without groups.
-pub fn of_form(form: u8) -> Reading
-    ensures { λ r. ⌜ r ≡ ofForm form ⌝ }
+pub fn of_shape(shape: u8) -> Reading
+    ensures { λ r. ⌜ r ≡ ofShape shape ⌝ }
 {
     Reading {
-        form,
+        shape,
         pair: 34,
         groups: [68, 68, 68, 68],
         place: 0,

@@ -6,10 +6,10 @@ use Prim.Native.Nat.{ℕ, _+_, _-_, _%_}
 use lib.Dec.{ltb, eqb}
 use lib.IntN.{pos}
 use lib.ListN.{getD, replicate}
-use Rattle.tiles.specs.Below.{table}
+use Rattle.tiles.specs.Below.{tabulate}
 use Rattle.tiles.specs.Kinds.{doraOf}
-use Rattle.fields.specs.declared.Hand.{Hand}
-use Rattle.fields.specs.Hand.{isRon, isClosed, concealedTally, handTally}
+use Rattle.hand.specs.declared.Hand.{Hand}
+use Rattle.hand.specs.Hand.{isRon, isClosed, concealedTally, handTally}
 use Rattle.reading.specs.declared.Reading.{Reading}
 use Rattle.reading.specs.Reading.{IsReading}
 use Rattle.groups.specs.Melds.{meldCode, meldWay}
@@ -18,7 +18,7 @@ use Rattle.yaku.specs.search.TileTests.{tileTestsOf}
 use Rattle.points.specs.declared.Seats.{Seats}
 use Rattle.points.specs.Points.{changes}
 use Rattle.value.specs.declared.Value.{Value}
-use Rattle.best.specs.declared.Table.{Table}
+use Rattle.best.specs.declared.Setting.{Setting}
 use Rattle.best.specs.Best.{worth, withYaku, Over}
 use Rattle.score.specs.declared.Scored.{Scored}
 
@@ -48,15 +48,15 @@ meldAt h i = getD (h .melds) (i - (4 - h .fields .m)) 0
 
 -- the group of each (01, Readings: "run: lowest kind; triplet: 34 + kind"), 68 where there is none
 unfoldable pub meldCodes : Hand → List ℕ
-meldCodes h = table 4 0 (λ i. cond (ltb i (4 - h .fields .m)) 68 (meldCode (meldAt h i)))
+meldCodes h = tabulate 4 0 (λ i. cond (ltb i (4 - h .fields .m)) 68 (meldCode (meldAt h i)))
 
 -- whether each is concealed, open, an open or a closed kan (01, Fu and points)
 unfoldable pub meldWays : Hand → List ℕ
-meldWays h = table 4 0 (λ i. cond (ltb i (4 - h .fields .m)) 0 (meldWay (meldAt h i)))
+meldWays h = tabulate 4 0 (λ i. cond (ltb i (4 - h .fields .m)) 0 (meldWay (meldAt h i)))
 
 -- what is the same in every reading of the hand; "Dora is the kind after the indicator"
-unfoldable pub tableOf : Hand → ℕ → ℕ → Table
-tableOf h dealer wind = record {
+unfoldable pub settingOf : Hand → ℕ → ℕ → Setting
+settingOf h dealer wind = record {
   won = wonOf h dealer wind;
   tests = tileTestsOf (handTally h) (eqb (h .fields .m) 0);
   seats = seatsOf h dealer;
@@ -84,20 +84,20 @@ IsReadingOf h r = IsReading (concealedTally h) (h .fields .m) (h .fields .winnin
 module _ (h : Hand) (dealer wind : ℕ) where
   -- r is one "of the readings with a yaku"
   abbrev pub ReadsWithYaku : Reading → Type 0
-  ReadsWithYaku r = IsReadingOf h r × (withYaku (tableOf h dealer wind) r ≡ true)
+  ReadsWithYaku r = IsReadingOf h r × (withYaku (settingOf h dealer wind) r ≡ true)
 
   -- "Of the readings with a yaku, the first with the highest winner's gain, then highest h, then fu, is reported"
   pub record IsReported (r : Reading) : Type 0 where
     pub yaku : ReadsWithYaku r
-    pub first : (q : Reading) → ReadsWithYaku q → Over (tableOf h dealer wind) r q
+    pub first : (q : Reading) → ReadsWithYaku q → Over (settingOf h dealer wind) r q
 
   -- the winner's gain in r (01, Fu and points: "A reading's gain")
   abbrev pub gainIn : Reading → ℕ
-  gainIn r = worth (tableOf h dealer wind) r .gain .0
+  gainIn r = worth (settingOf h dealer wind) r .gain .0
 
   -- r reported: its h, fu, yaku and changes
   abbrev pub scoredAs : Reading → Scored
-  scoredAs r = acceptedAs (worth (tableOf h dealer wind) r) (seatsOf h dealer) (isRon (h .fields))
+  scoredAs r = acceptedAs (worth (settingOf h dealer wind) r) (seatsOf h dealer) (isRon (h .fields))
 
   -- accepted; "6, no reading"; "7, readings but none with a yaku"
   pub data Named : Scored → Type 0 where

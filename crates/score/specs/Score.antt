@@ -3,10 +3,10 @@ use mathlib.Core.Bool.{_||_, cond}
 use mathlib.Core.List.{List}
 use Prim.Native.Nat.{ℕ}
 use lib.Dec.{ltb}
-use Rattle.fields.specs.declared.Hand.{Hand}
-use Rattle.hand.specs.declared.Answer.{Answer}
-use Rattle.hand.specs.declared.Answer.the-variants.{Sound, Refused}
-use Rattle.hand.specs.Record.{handOf, readOf}
+use Rattle.hand.specs.declared.Hand.{Hand}
+use Rattle.hand_record.specs.declared.Answer.{Answer}
+use Rattle.hand_record.specs.declared.Answer.the-variants.{Sound, Refused}
+use Rattle.hand_record.specs.Record.{handOf, readOf}
 use Rattle.score.specs.declared.Scored.{Scored}
 use Rattle.score.specs.Named.{refusedWith}
 use Rattle.score.specs.search.Settled.{settledOf}

@@ -6,8 +6,8 @@ use mathlib.Core.Bool.{true, false}
 use Prim.Native.Nat.{ℕ}
 use lib.IntN.{ℤ, pos, negsuc}
 use Rattle.points.specs.Points.{basic, gain}
-use Rattle.fields.specs.declared.Hand.{Hand}
-use Rattle.hand.specs.Record.{recordOf}
+use Rattle.hand.specs.declared.Hand.{Hand}
+use Rattle.hand_record.specs.Record.{recordOf}
 use Rattle.score.specs.Score.{scoreOf}
 
 -- "indicator North, no riichi, ordinary": how (0 tsumo, 1 ron), winner, discarder, winning tile, m, melds, other concealed tiles

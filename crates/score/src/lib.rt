@@ -6,12 +6,12 @@ ghost use lib.Dec.{ltb};
 ghost use lib.ListN.{getD};
 ghost use Rattle.groups.specs.Melds.{meldCode, meldWay};
 ghost use Rattle.best.specs.search.Best.{Ready};
-ghost use Rattle.score.specs.Named.{wonOf, meldCodes, meldWays, tableOf, refusedWith, acceptedAs};
+ghost use Rattle.score.specs.Named.{wonOf, meldCodes, meldWays, settingOf, refusedWith, acceptedAs};
 ghost use Rattle.score.specs.search.Settled.{settledOf};
 ghost use Rattle.score.specs.Score.{scoreOf};
-use best::Table;
-use fields::Hand;
-use hand::Answer;
+use best::Setting;
+use hand::Hand;
+use hand_record::Answer;
 use points::Seats;
 use value::Value;
 use yaku::Won;
@@ -32,7 +32,7 @@ fn won_of(h: Hand, dealer: u8, wind: u8) -> Won
 {
     let f = h.fields;
     let d = h.melds;
-    let t = fields::hand_tally(h);
+    let t = hand::hand_tally(h);
     Won {
         tally: t,
         win: f.winning,
@@ -41,7 +41,7 @@ fn won_of(h: Hand, dealer: u8, wind: u8) -> Won
         riichi: f.riichi,
         situation: f.situation,
         ron: f.how == 1,
-        closed: fields::is_closed(f.m, d),
+        closed: hand::is_closed(f.m, d),
         bare: f.m == 0,
     }
 }
@@ -101,9 +101,9 @@ fn meld_ways(h: Hand) -> [u8; 4]
 }
 
 // What is the same in every reading of the hand.
-fn table_of(h: Hand, dealer: u8, wind: u8) -> Table
+fn setting_of(h: Hand, dealer: u8, wind: u8) -> Setting
     requires { ⌜ (h .fields .m ≤ 4) × (h .fields .winner ≤ 3) × (dealer ≤ 3) × (wind ≤ 1) ⌝ }
-    ensures { λ r. ⌜ (r ≡ tableOf h dealer wind) × Ready r ⌝ }
+    ensures { λ r. ⌜ (r ≡ settingOf h dealer wind) × Ready r ⌝ }
 {
     let won = won_of(h, dealer, wind);
     let t = won.tally;
@@ -115,7 +115,7 @@ fn table_of(h: Hand, dealer: u8, wind: u8) -> Table
         dealer,
         discarder: h.fields.discarder,
     };
-    Table {
+    Setting {
         won,
         tests,
         seats,
@@ -160,8 +160,8 @@ pub fn settle(h: Hand, dealer: u8, wind: u8) -> Scored
     requires { ⌜ (h .fields .m ≤ 4) × (h .fields .winner ≤ 3) × (dealer ≤ 3) × (wind ≤ 1) ⌝ }
     ensures { λ r. ⌜ r ≡ settledOf h dealer wind ⌝ }
 {
-    let t = table_of(h, dealer, wind);
-    let c = fields::concealed_tally(h);
+    let t = setting_of(h, dealer, wind);
+    let c = hand::concealed_tally(h);
     let b = best::best_of(t, c, h.fields.m, h.fields.winning);
     if b.seen {
         if b.valued {
@@ -185,10 +185,10 @@ pub fn score(s: &[u8], dealer: u8, wind: u8) -> Scored
     if (3 < dealer) | (1 < wind) {
         return refused(8);
     }
-    let r = hand::read(s);
+    let r = hand_record::read(s);
     let a = r.answer;
     let Answer::Sound(f) = a else {
-        return refused(hand::why(a));
+        return refused(hand_record::refusal(a));
     };
     let melds = r.melds;
     let concealed = r.concealed;

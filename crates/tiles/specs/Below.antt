@@ -24,9 +24,9 @@ sum zero f = 0
 sum (suc n) f = sum n f + f n
 
 -- f at each of the n numbers from i on
-abbrev pub table {ℓ} : {A : Type ℓ} → ℕ → ℕ → (ℕ → A) → List A
-table zero i f = []
-table (suc n) i f = f i ∷ table n (suc i) f
+abbrev pub tabulate {ℓ} : {A : Type ℓ} → ℕ → ℕ → (ℕ → A) → List A
+tabulate zero i f = []
+tabulate (suc n) i f = f i ∷ tabulate n (suc i) f
 
 -- The same four under names that stay shut until a proof opens them, for ranges such as the 34 kinds.
 -- `all`: p at each k below n

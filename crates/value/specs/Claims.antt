@@ -5,7 +5,7 @@ use mathlib.Core.List.{List, [], _∷_}
 use Prim.Native.Nat.{ℕ, _-_}
 use lib.Dec.{eqb}
 use lib.ListN.{length, getD}
-use Rattle.tiles.specs.Below.{any, table}
+use Rattle.tiles.specs.Below.{any, tabulate}
 use Rattle.yaku.specs.Yaku.{closedOnly}
 use Rattle.yaku.specs.declared.Won.{Won}
 use Rattle.yaku.specs.declared.Parts.{Parts}
@@ -24,7 +24,7 @@ abbrev among : List ℕ → ℕ → Bool
 among l n = any (length l) (λ i. eqb (getD l i 0) n)
 
 -- the han of an open hand are those of a closed one: none where a yaku is "closed only", "one less when open" at "−1", and else the same
-pub open-han : openHan ≡ table 37 0 (λ n. cond (among closedOnly n) 0 (getD closedHan n 0 - cond (among lessOpen n) 1 0))
+pub open-han : openHan ≡ tabulate 37 0 (λ n. cond (among closedOnly n) 0 (getD closedHan n 0 - cond (among lessOpen n) 1 0))
 open-han = refl
 
 module _ (w : Won) (p : Parts) (dora : ℕ) (s : Seats) where

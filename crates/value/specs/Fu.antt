@@ -50,7 +50,7 @@ rounded closed n = cond (not closed && eqb ((n + 9) / 10 * 10) 20) 30 ((n + 9) /
 
 -- "Seven pairs: 25"; with a yakuman "h and fu are 0"
 unfoldable pub fuOf : Won → Parts → Bool → ℕ
-fuOf w p yakuman = cond yakuman 0 (cond (eqb (p .form) 1) 25 (rounded (w .closed) (added (earned w p 0))))
+fuOf w p yakuman = cond yakuman 0 (cond (eqb (p .shape) 1) 25 (rounded (w .closed) (added (earned w p 0))))
 
 -- "a base of 25 alone", "only zeros" (02, S-3): all other items are 0
 abbrev pub baseAlone : ℕ → Items
@@ -60,5 +60,5 @@ baseAlone n = record { base = fu n; ron = fu 0; pair = fu 0; g0 = fu 0; g1 = fu 
 unfoldable pub itemsOf : Won → Parts → Bool → Items
 itemsOf w p yakuman =
     cond yakuman (baseAlone 0)
-    (cond (eqb (p .form) 1) (baseAlone 25)
+    (cond (eqb (p .shape) 1) (baseAlone 25)
     (earned w p (rounded (w .closed) (added (earned w p 0)) - added (earned w p 0))))

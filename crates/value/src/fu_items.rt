@@ -136,11 +136,11 @@ pub fn items_of(w: Won, p: Parts, yakuman: bool) -> Items
     ensures { λ i. ⌜ i ≡ itemsOf w p yakuman ⌝ }
     ensures { λ i. ⌜ addedOf i ≤ 170 ⌝ }
 {
-    let form = p.form;
+    let shape = p.shape;
     if yakuman {
         return base_alone(0);
     }
-    if form == 1 {
+    if shape == 1 {
         return base_alone(25);
     }
     let mut i = earned(w, p);

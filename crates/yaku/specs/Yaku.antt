@@ -4,7 +4,7 @@ use mathlib.Core.List.{List, [], _∷_}
 use Prim.Native.Nat.{ℕ, _+_}
 use lib.ListN.{getD}
 use lib.Dec.{eqb, leb, ltb}
-use Rattle.tiles.specs.Below.{any, table, some}
+use Rattle.tiles.specs.Below.{any, tabulate, some}
 use Rattle.tiles.specs.Kinds.{isHonour, isTerminal, isYaochu, isSimple}
 use Rattle.yaku.specs.OfTiles.{only, honourPresent, halfFlush, flush, isGreen, gates}
 use Rattle.groups.specs.Tests.{littleDragons, valueHan, pinfu, twins, inThreeSuits, straight, outside, triplets, concealed, kans, dragons, fourWinds}
@@ -46,7 +46,7 @@ testsOf w p =
     -- 11 "double riichi c, instead of 10"
     ∷ (w .closed && eqb (w .riichi) 2)
     -- 12 "seven pairs c"
-    ∷ (w .closed && eqb (p .form) 1)
+    ∷ (w .closed && eqb (p .shape) 1)
     -- 13 "same run in three suits"
     ∷ inThreeSuits 0 (p .groups)
     -- 14 "123 456 789 of a suit"
@@ -94,7 +94,7 @@ testsOf w p =
     -- 35 "m = 0, one suit's 1112345678999 and one more of it"
     ∷ gates (w .tally) (w .bare)
     -- 36 "thirteen orphans"
-    ∷ eqb (p .form) 2
+    ∷ eqb (p .shape) 2
     ∷ []
 
 -- "Yakuman: 26 .. 36": one is among them
@@ -103,7 +103,7 @@ isYakuman y = any 11 (λ i. getD y (26 + i) false)
 
 -- "With a yakuman only yakuman are listed"
 unfoldable pub listed : List Bool → List Bool
-listed y = cond (isYakuman y) (table 37 0 (λ n. leb 26 n && getD y n false)) y
+listed y = cond (isYakuman y) (tabulate 37 0 (λ n. leb 26 n && getD y n false)) y
 
 -- the "yaku set" of a reading (01, Score)
 unfoldable pub yakuOf : Won → Parts → List Bool

@@ -24,7 +24,7 @@ pub struct Won {
 // order and then the melds; a way is 0 concealed, 1 open, 2 an open kan, 3 a closed kan. Where there is none, the pair is 34
 // and a group 68.
 pub struct Parts {
-    pub form: u8,
+    pub shape: u8,
     pub pair: u8,
     pub groups: [u8; 4],
     pub ways: [u8; 4],
@@ -71,7 +71,7 @@ pub fn tests(w: Won, x: TileTests, p: Parts) -> [bool; 37]
     let g = p.groups;
     let ways = p.ways;
     let pair = p.pair;
-    let form = p.form;
+    let shape = p.shape;
     let place = p.place;
     let win = w.win;
     let round = w.round;
@@ -98,7 +98,7 @@ pub fn tests(w: Won, x: TileTests, p: Parts) -> [bool; 37]
         (situation == 3) & ron,
         closed & (riichi == 1),
         closed & (riichi == 2),
-        closed & (form == 1),
+        closed & (shape == 1),
         groups::in_three_suits(0, g),
         groups::straight(g),
         outside & x.honour,
@@ -122,7 +122,7 @@ pub fn tests(w: Won, x: TileTests, p: Parts) -> [bool; 37]
         x.terminals,
         x.greens,
         x.gates,
-        form == 2,
+        shape == 2,
     ]
 }
 

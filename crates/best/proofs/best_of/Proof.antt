@@ -43,4 +43,4 @@ best-of-spec =
     (λ c κs. search needs)
     (λ c.
     rw (← c .before .before .before .none .ensures)
-    (readings-with (judgeOf _) _ _ _ _ _ _ (ranged-done (judgeOf _) _ _ _ _ (c .before .loop-test .left) ∙ c .before .before .loop .inv .1) (c .forms .ensures))))
+    (readings-with (judgeOf _) _ _ _ _ _ _ (ranged-done (judgeOf _) _ _ _ _ (c .before .loop-test .left) ∙ c .before .before .loop .inv .1) (c .shapes .ensures))))

@@ -5,14 +5,14 @@ use mathlib.Core.Bool.{Bool, true, false, _&&_, _||_, not}
 use Rattle.reading.specs.declared.Reading.{Reading}
 use Rattle.yaku.specs.Yaku.{hasYaku}
 use Rattle.value.specs.declared.Value.{Value}
-use Rattle.best.specs.declared.Table.{Table}
+use Rattle.best.specs.declared.Setting.{Setting}
 use Rattle.best.specs.declared.Best.{Best}
 use Rattle.best.specs.Best.{worth}
 use Rattle.best.specs.search.Best.{beats, judgeOf}
 use Rattle.best.proofs.judge.Statement.{statement}
 use Rattle.best.proofs.judge.Tie as tie
 
-module _ (t : Table) (b : Best) (r : Reading) (v : Value) (x y : Bool) (ev : v ≡ worth t r) (ex : x ≡ hasYaku (v .yaku)) (ey : y ≡ beats v (b .value)) where
+module _ (t : Setting) (b : Best) (r : Reading) (v : Value) (x y : Bool) (ev : v ≡ worth t r) (ex : x ≡ hasYaku (v .yaku)) (ey : y ≡ beats v (b .value)) where
   test : x && (not (b .valued) || y) ≡ hasYaku (worth t r .yaku) && (not (b .valued) || beats (worth t r) (b .value))
   test = rw (← ev, ← ex, ← ey)
 

@@ -4,12 +4,12 @@ use mathlib.Core.Path.{_≡_, ap, _∙_}
 use Rattle.reading.specs.declared.Reading.{Reading}
 use Rattle.yaku.specs.declared.Parts.{Parts}
 use Rattle.value.specs.Value.{valueOf}
-use Rattle.best.specs.declared.Table.{Table}
+use Rattle.best.specs.declared.Setting.{Setting}
 use Rattle.best.specs.Best.{partsOf, worth}
 use Rattle.best.proofs.worth.Statement.{statement}
 use Rattle.best.proofs.worth.Tie as tie
 
-place-kept : (t : Table) (r : Reading) (p : Parts) → p ≡ partsOf t r → r .place ≤ 4 → p .place ≤ 4
+place-kept : (t : Setting) (r : Reading) (p : Parts) → p ≡ partsOf t r → r .place ≤ 4 → p .place ≤ 4
 unfolding partsOf
 place-kept t r p e h = rw e h
 

@@ -14,7 +14,7 @@ use Rattle.reading.specs.search.Ordered.{Pairwise, first}
 use Rattle.reading.specs.search.Judged.{judged}
 use Rattle.reading.specs.laws.Lists.{each-member}
 use Rattle.value.specs.declared.Value.{Value}
-use Rattle.best.specs.declared.Table.{Table}
+use Rattle.best.specs.declared.Setting.{Setting}
 use Rattle.best.specs.declared.Best.{Best}
 use Rattle.best.specs.Best.{worth, withYaku, figures, Over}
 use Rattle.best.specs.search.Best.{beats, noneOf, judgeOf}
@@ -73,7 +73,7 @@ lex-trans (x ∷ a) (y ∷ b) (z ∷ c) h g =
 -- ---- what is kept
 
 -- the first of the readings S with a yaku that no other beats, or none
-pub record Kept (t : Table) (S : Reading → Type 0) (b : Best) : Type 0 where
+pub record Kept (t : Setting) (S : Reading → Type 0) (b : Best) : Type 0 where
   pub unseen : b .seen ≡ false → (q : Reading) → S q → ⊥
   pub seen : b .seen ≡ true → (r : Reading) × S r
   pub worthless : b .valued ≡ false → (q : Reading) → S q → withYaku t q ≡ false
@@ -82,7 +82,7 @@ pub record Kept (t : Table) (S : Reading → Type 0) (b : Best) : Type 0 where
 abbrev With : (Reading → Type 0) → Reading → Reading → Type 0
 With S x q = S q ⊎ (q ≡ x)
 
-module _ (t : Table) (S : Reading → Type 0) (b : Best) (x : Reading) (k : Kept t S b) (later : (q : Reading) → S q → Before q x) where
+module _ (t : Setting) (S : Reading → Type 0) (b : Best) (x : Reading) (k : Kept t S b) (later : (q : Reading) → S q → Before q x) where
   -- the reading that is kept, where x does not beat it or has no yaku
   keeps : (r : Reading) → ((q : Reading) → S q → withYaku t q ≡ true → Over t r q) → (withYaku t x ≡ true → Over t r x) → (q : Reading) → With S x q → withYaku t q ≡ true → Over t r q
   keeps r o ox q m v = ⊎-elim (λ s. o q s v) (λ e. rw e (ox (rw e at v))) m
@@ -138,7 +138,7 @@ module _ (t : Table) (S : Reading → Type 0) (b : Best) (x : Reading) (k : Kept
       go true true true ev ew ez = taken ev (rw (ew, ez) refl)
       go true true false ev ew ez = passed (λ _. (ew, ez))
 
-pub kept-same : (t : Table) (S T : Reading → Type 0) (b : Best) → ((q : Reading) → S q → T q) → ((q : Reading) → T q → S q) → Kept t S b → Kept t T b
+pub kept-same : (t : Setting) (S T : Reading → Type 0) (b : Best) → ((q : Reading) → S q → T q) → ((q : Reading) → T q → S q) → Kept t S b → Kept t T b
 kept-same t S T b to from k = record {
   unseen = λ z q s. k .unseen z q (from q s);
   seen = λ z. let y = k .seen z in (y .0, to (y .0) (y .1));
@@ -146,7 +146,7 @@ kept-same t S T b to from k = record {
   best = λ z. let y = k .best z in (y .0, to (y .0) (y .1), y .2, y .3, λ q s v. y .4 q (from q s) v);
 }
 
-kept-fold : (t : Table) (rs : List Reading) (S : Reading → Type 0) (b : Best) → Kept t S b → ((q r : Reading) → S q → Member r rs → Before q r) → Pairwise Before rs
+kept-fold : (t : Setting) (rs : List Reading) (S : Reading → Type 0) (b : Best) → Kept t S b → ((q r : Reading) → S q → Member r rs → Before q r) → Pairwise Before rs
     → Kept t (λ q. S q ⊎ Member q rs) (judged (judgeOf t) b rs)
 unfolding judged
 kept-fold t [] S b k later p = kept-same t S (λ q. S q ⊎ Member q []) b (λ q s. inl s) (λ q m. ⊎-elim (λ s. s) (λ n. absurd (List·Memᴰ·not-nil n)) m) k
@@ -158,7 +158,7 @@ kept-fold t (x ∷ rs) S b k later (first e p) =
     (λ q r w m. ⊎-elim (λ s. later q r s (List·Memᴰ·tail m)) (λ z. rw z (each-member e m)) w) p)
 
 -- before any reading
-kept-none : (t : Table) → Kept t (λ q. ⊥) noneOf
+kept-none : (t : Setting) → Kept t (λ q. ⊥) noneOf
 unfolding noneOf
 kept-none t = record {
   unseen = λ z q s. s;
@@ -168,7 +168,7 @@ kept-none t = record {
 }
 
 -- after a list in order: each of it was held against the others
-pub kept-all : (t : Table) (rs : List Reading) → Pairwise Before rs → Kept t (λ q. Member q rs) (judged (judgeOf t) noneOf rs)
+pub kept-all : (t : Setting) (rs : List Reading) → Pairwise Before rs → Kept t (λ q. Member q rs) (judged (judgeOf t) noneOf rs)
 kept-all t rs p =
     kept-same t (λ q. ⊥ ⊎ Member q rs) (λ q. Member q rs) _ (λ q m. ⊎-elim (λ z. absurd z) (λ n. n) m) (λ q m. inr m)
     (kept-fold t rs (λ q. ⊥) noneOf (kept-none t) (λ q r z m. absurd z) p)

@@ -6,7 +6,7 @@ use Prim.Native.Nat.{ℕ}
 use Rattle.reading.specs.declared.Reading.{Reading}
 use Rattle.reading.specs.Order.{Lex, keyOf}
 use Rattle.reading.specs.laws.Readings.{lex-irreflexive}
-use Rattle.best.specs.declared.Table.{Table}
+use Rattle.best.specs.declared.Setting.{Setting}
 use Rattle.best.specs.Best.{worth, figures, Over}
 use Rattle.best.specs.laws.First.{lex-trans}
 
@@ -17,7 +17,7 @@ lex-one-way a b h g = lex-irreflexive a (lex-trans a b a h g)
 lex-differ : (a b : List ℕ) → Lex a b → a ≡ b → ⊥
 lex-differ a b h e = lex-irreflexive b (subst (λ (z : List ℕ). Lex z b) e h)
 
-pub over-same : (t : Table) (r q : Reading) → Over t r q → Over t q r → r ≡ q
+pub over-same : (t : Setting) (r q : Reading) → Over t r q → Over t q r → r ≡ q
 over-same t r q (inl h) (inl g) = absurd (lex-one-way (figures (worth t q)) (figures (worth t r)) h g)
 over-same t r q (inl h) (inr g) = absurd (lex-differ (figures (worth t q)) (figures (worth t r)) h (sym (g .0)))
 over-same t r q (inr h) (inl g) = absurd (lex-differ (figures (worth t r)) (figures (worth t q)) g (sym (h .0)))

@@ -10,7 +10,7 @@ use Rattle.reading.specs.search.Readings.{readings}
 use Rattle.reading.specs.search.Judged.{judged}
 use Rattle.yaku.specs.search.TileTests.{tileTestsOf}
 use Rattle.value.specs.declared.Value.{Value}
-use Rattle.best.specs.declared.Table.{Table}
+use Rattle.best.specs.declared.Setting.{Setting}
 use Rattle.best.specs.declared.Best.{Best}
 use Rattle.best.specs.Best.{worth, withYaku}
 
@@ -29,18 +29,18 @@ unfoldable pub noneOf : Best
 noneOf = record { seen = false; valued = false; value = nothing }
 
 -- "the first": a later reading has to beat the one that is kept
-unfoldable pub judgeOf : Table → Best → Reading → Best
+unfoldable pub judgeOf : Setting → Best → Reading → Best
 judgeOf t b r =
     cond (withYaku t r && (not (b .valued) || beats (worth t r) (b .value)))
     (record { seen = true; valued = true; value = worth t r })
     (record { seen = true; valued = b .valued; value = b .value })
 
 -- what is kept after all readings of a tally, in their order
-unfoldable pub bestOf : Table → List ℕ → ℕ → ℕ → Best
+unfoldable pub bestOf : Setting → List ℕ → ℕ → ℕ → Best
 bestOf t tally m win = judged (judgeOf t) noneOf (readings tally m win)
 
 -- what a table has that was made for a hand: the tests are those of its tiles, winds and dora are kinds
-pub record Ready (t : Table) : Type 0 where
+pub record Ready (t : Setting) : Type 0 where
   pub tests : t .tests ≡ tileTestsOf (t .won .tally) (t .won .bare)
   pub round : t .won .round < 34
   pub own : t .won .own < 34

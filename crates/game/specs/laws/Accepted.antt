@@ -7,7 +7,7 @@ use native.Mathlib.Omega.{arith}
 use borrow.Author.Tests.{ltb-false, ltb-true}
 use lib.Dec.{ltb}
 use Rattle.tiles.specs.Below.{any}
-use Rattle.hand.specs.Record.{numberOf, readOf}
+use Rattle.hand_record.specs.Record.{refusalIn, readOf}
 use Rattle.score.specs.declared.Scored.{Scored}
 use Rattle.score.specs.laws.Settled.{score-unread}
 use Rattle.game.specs.declared.Game.{Game}
@@ -47,14 +47,14 @@ module _ (g : Game) where
       cond-zero (notOpen g) 8 (cond x 12 0) (cond-zero (ltb 15 bits) 7 (cond (notOpen g) 9 (cond x 12 0)) e .1) .0
 
   -- in an open game a record that scores has read
-  read-of : (s : List ℕ) → notOpen g ≡ false → scoredFor g s .refusal ≡ 0 → (n : ℕ) → numberOf (readOf s .answer) ≡ n → n ≡ 0
+  read-of : (s : List ℕ) → notOpen g ≡ false → scoredFor g s .refusal ≡ 0 → (n : ℕ) → refusalIn (readOf s .answer) ≡ n → n ≡ 0
   read-of s o e zero q = refl
   read-of s o e (suc n) q =
       let f = open-of g o .form in
       let z : suc n ≡ 0 = ap (λ (x : Scored). x .refusal) (sym (score-unread s (g .dealer) (g .wind) (f .dealer) (f .wind) (suc n) q (omega arith))) ∙ e in
       absurd (omega arith)
 
-  pub win-accepted : (s : List ℕ) → refusalFor g (win s) ≡ 0 → (notOpen g ≡ false) × (numberOf (readOf s .answer) ≡ 0) × (scoredFor g s .refusal ≡ 0) × (riichiMismatch g (handFor s) ≡ false)
+  pub win-accepted : (s : List ℕ) → refusalFor g (win s) ≡ 0 → (notOpen g ≡ false) × (refusalIn (readOf s .answer) ≡ 0) × (scoredFor g s .refusal ≡ 0) × (riichiMismatch g (handFor s) ≡ false)
   unfolding refusalFor
   win-accepted s e =
       let m : ℕ = cond (riichiMismatch g (handFor s)) 11 0 in

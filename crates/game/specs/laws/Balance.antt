@@ -8,7 +8,8 @@ use native.Mathlib.Omega.{arith}
 use lib.Dec.{eqb}
 use lib.IntN.{ℤ, pos, negsuc, negℤ, _+ℤ_}
 use lib.ListN.{getD}
-use Rattle.tiles.specs.Below.{table}
+use Rattle.tiles.specs.laws.Tabulate.{getD-tabulate}
+use Rattle.tiles.specs.Below.{tabulate}
 use Rattle.score.specs.laws.Z.{up, dn, add-law, parts-eq, eq-parts}
 use Rattle.score.specs.laws.Changes.{score-within, zero-sum}
 use Rattle.game.specs.declared.Game.{Game}
@@ -19,17 +20,10 @@ use Rattle.game.specs.laws.Steps.{shareOf}
 
 -- ---- the scores after a booking
 
-pub getD-four {ℓ} : {A : Type ℓ} (d : A) (f : ℕ → A) (i : ℕ) → i < 4 → getD (table 4 0 f) i d ≡ f i
-getD-four d f zero l = refl
-getD-four d f (suc zero) l = refl
-getD-four d f (suc (suc zero)) l = refl
-getD-four d f (suc (suc (suc zero))) l = refl
-getD-four d f (suc (suc (suc (suc i)))) l = absurd (omega arith)
-
 module _ (g : Game) (b : Booking) where
   pub score-moved : (i : ℕ) → i < 4 → scoreAt (moved g b) i ≡ scoreAt g i +ℤ gives g b i
   unfolding moved
-  score-moved i l = getD-four (pos 0) (λ j. scoreAt g j +ℤ gives g b j) i l
+  score-moved i l = getD-tabulate (pos 0) 4 (λ j. scoreAt g j +ℤ gives g b j) i l
 
   -- what is given comes from the seats or the sticks
   abbrev pub Balanced : Type 0

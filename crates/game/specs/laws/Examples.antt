@@ -4,13 +4,13 @@ use mathlib.Core.List.{List, [], _∷_}
 use lib.IntN.{pos}
 use Rattle.game.specs.Booking.{Booking, riichi, draw}
 use Rattle.game.specs.Ledger.{fresh, totalOf, notOpen, outOfForm, refusalFor, drawGives, gives, sticksAfter, declaredAfter, handsAfter, dealPasses, dealerAfter, windAfter, overAfter, moved, after, ledgerFrom, ledger}
-use Rattle.game.specs.Runs.{answersFrom}
+use Rattle.game.specs.Runs.{refusalsFrom}
 
 unfoldable pub example : List Booking
 example = riichi 1 ∷ draw 4 ∷ []
 
-pub example-answers : answersFrom fresh example ≡ 0 ∷ 0 ∷ []
-unfolding example answersFrom fresh refusalFor notOpen outOfForm totalOf after moved gives drawGives sticksAfter declaredAfter handsAfter dealPasses dealerAfter windAfter overAfter
+pub example-answers : refusalsFrom fresh example ≡ 0 ∷ 0 ∷ []
+unfolding example refusalsFrom fresh refusalFor notOpen outOfForm totalOf after moved gives drawGives sticksAfter declaredAfter handsAfter dealPasses dealerAfter windAfter overAfter
 example-answers = refl
 
 pub example-scores : ledger example .scores ≡ pos 29000 ∷ pos 32000 ∷ pos 29000 ∷ pos 29000 ∷ []

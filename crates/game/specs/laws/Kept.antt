@@ -10,13 +10,14 @@ use borrow.Author.Tests.{ltb-false, eqb-true}
 use lib.Dec.{ltb, eqb}
 use lib.IntN.{ℤ, pos, negsuc, _+ℤ_}
 use Rattle.score.specs.laws.Z.{up, dn, add-law, part-law}
+use Rattle.tiles.specs.laws.Tabulate.{getD-tabulate}
 use Rattle.game.specs.declared.Game.{Game}
 use Rattle.game.specs.Booking.{Booking, riichi, win, draw, chombo}
 use Rattle.game.specs.Ledger.{fresh, scoreAt, isDeclared, declarations, totalOf, isLast, notOpen, refusalFor, gives, sticksAfter, declaredAfter, handsAfter, dealPasses, dealerAfter, windAfter, moved, after, ledgerFrom}
 use Rattle.game.specs.laws.Form.{InForm, open-of}
-use Rattle.hand.specs.laws.Bounds.{read-bounds}
+use Rattle.hand_record.specs.laws.Bounds.{read-bounds}
 use Rattle.game.specs.laws.Accepted.{riichi-accepted, chombo-accepted, draw-accepted, win-accepted}
-use Rattle.game.specs.laws.Balance.{getD-four, score-moved, Balanced, total-moved, riichi-balanced, draw-balanced, draw-bounded, chombo-balanced, chombo-bounded, win-balanced, win-bounded}
+use Rattle.game.specs.laws.Balance.{score-moved, Balanced, total-moved, riichi-balanced, draw-balanced, draw-bounded, chombo-balanced, chombo-bounded, win-balanced, win-bounded}
 
 -- ---- the invariant
 
@@ -90,7 +91,7 @@ module _ (g : Game) where
 
   declared-moved : (seat i : ℕ) → i < 4 → isDeclared (moved g (riichi seat)) i ≡ (eqb i seat || isDeclared g i)
   unfolding moved declaredAfter
-  declared-moved seat i l = getD-four false (λ j. eqb j seat || isDeclared g j) i l
+  declared-moved seat i l = getD-tabulate false 4 (λ j. eqb j seat || isDeclared g j) i l
 
   riichi-above : (seat i : ℕ) → i < 4 → g .hands < 200 → isDeclared g seat ≡ false → Above g i → Above (moved g (riichi seat)) i
   unfolding moved handsAfter gives
@@ -135,7 +136,7 @@ module _ (g : Game) (b : Booking) where
 
   cleared : Finishes → (i : ℕ) → i < 4 → isDeclared (moved g b) i ≡ false
   unfolding moved
-  cleared f i l = rw (f .1) (getD-four false (λ j. false) i l)
+  cleared f i l = rw (f .1) (getD-tabulate false 4 (λ j. false) i l)
 
   hands-moved : Finishes → moved g b .hands ≡ g .hands + 1
   unfolding moved

@@ -5,19 +5,20 @@ use mathlib.Core.List.{List, [], _∷_}
 use Prim.Native.Nat.{ℕ, _<_}
 use lib.Dec.{ltb}
 use lib.IntN.{ℤ, pos, _+ℤ_, +ℤ-idr, +ℤ-assoc}
+use Rattle.tiles.specs.laws.Tabulate.{getD-tabulate}
 use Rattle.game.specs.declared.Game.{Game}
 use Rattle.game.specs.Booking.{Booking}
 use Rattle.game.specs.Ledger.{fresh, scoreAt, refusalFor, gives, moved, after, ledgerFrom, givenFrom}
-use Rattle.game.specs.Runs.{Runs, done, next, Every, answersFrom}
+use Rattle.game.specs.Runs.{Runs, done, next, Every, refusalsFrom}
 use Rattle.game.specs.laws.Form.{InForm}
-use Rattle.game.specs.laws.Balance.{getD-four, score-moved}
+use Rattle.game.specs.laws.Balance.{score-moved}
 use Rattle.game.specs.laws.Kept.{Kept, kept-form, after-kept}
 
 -- ---- scores
 
 pub fresh-score : (i : ℕ) → i < 4 → scoreAt fresh i ≡ pos 30000
 unfolding fresh
-fresh-score i h = getD-four (pos 0) (λ j. pos 30000) i h
+fresh-score i h = getD-tabulate (pos 0) 4 (λ j. pos 30000) i h
 
 pub score-after : (l : Game) (b : Booking) (i : ℕ) → i < 4 → scoreAt (after l b) i ≡ scoreAt l i +ℤ cond (ltb 0 (refusalFor l b)) (pos 0) (gives l b i)
 unfolding after
@@ -49,7 +50,7 @@ every-of P f done k = tt
 every-of P f {l} (next {b = b} {n = n} {bs = bs} {ns = ns} p r) k =
     (f l b n (kept-form l k) (p .0), subst (λ (x : Game). Every P x bs ns) (p .1) (every-of P f r (subst (λ (x : Game). Kept x) (sym (p .1)) (after-kept l b k))))
 
-pub runs-exist : (bs : List Booking) (l : Game) → Runs l bs (answersFrom l bs) (ledgerFrom l bs)
-unfolding answersFrom ledgerFrom
+pub runs-exist : (bs : List Booking) (l : Game) → Runs l bs (refusalsFrom l bs) (ledgerFrom l bs)
+unfolding refusalsFrom ledgerFrom
 runs-exist [] l = done
 runs-exist (b ∷ bs) l = next (refl, refl) (runs-exist bs (after l b))

@@ -8,19 +8,20 @@ use borrow.Author.Tests.{lt-ltb, le-ltb, ne-eqb}
 use lib.Dec.{ltb, eqb}
 use lib.IntN.{ℤ, pos, _+ℤ_}
 use lib.ListN.{getD}
-use Rattle.tiles.specs.Below.{any, count, table}
-use Rattle.fields.specs.declared.Hand.{Hand}
-use Rattle.hand.specs.Record.{numberOf, readOf}
+use Rattle.tiles.specs.Below.{any, count, tabulate}
+use Rattle.tiles.specs.laws.Tabulate.{getD-tabulate}
+use Rattle.hand.specs.declared.Hand.{Hand}
+use Rattle.hand_record.specs.Record.{refusalIn, readOf}
 use Rattle.score.specs.declared.Scored.{Scored}
 use Rattle.score.specs.search.Settled.{settledOf}
 use Rattle.score.specs.laws.Settled.{score-read, score-unread}
 use Rattle.game.specs.declared.Game.{Game}
-use Rattle.game.specs.declared.Answered.{Answered}
+use Rattle.game.specs.declared.Outcome.{Outcome}
 use Rattle.game.specs.Booking.{riichi, win, draw, chombo}
 use Rattle.game.specs.Ledger.{isDeclared, declarations, notOpen, isReady, riichiMismatch, handFor, scoredFor, refusalFor, drawGives, gives, sticksAfter, declaredAfter, handsAfter, dealPasses, dealerAfter, windAfter, overAfter, moved, after}
 use Rattle.game.specs.Runs.{Booked}
 use Rattle.game.specs.laws.Form.{Open, open-of}
-use Rattle.game.specs.laws.Steps.{answered, paid, shareOf, finished}
+use Rattle.game.specs.laws.Steps.{outcome, paid, shareOf, finished}
 
 module _ (g : Game) (seat : ℕ) where
   pub riichi-seat : 3 < seat → refusalFor g (riichi seat) ≡ 8
@@ -43,24 +44,16 @@ module _ (g : Game) (seat : ℕ) where
   unfolding refusalFor
   chombo-by h b e = rw (le-ltb 3 seat h, e)
 
-  pub riichi-moved : Open g → (s : List ℤ) (d : List Bool) → s ≡ paid (g .scores) (table 4 0 (gives g (riichi seat))) → d ≡ declaredAfter g (riichi seat)
+  pub riichi-moved : Open g → (s : List ℤ) (d : List Bool) → s ≡ paid (g .scores) (tabulate 4 0 (gives g (riichi seat))) → d ≡ declaredAfter g (riichi seat)
       → record { scores = s; sticks = g .sticks + 1; declared = d; dealer = g .dealer; wind = g .wind; hands = g .hands; over = false } ≡ moved g (riichi seat)
   unfolding moved gives sticksAfter handsAfter dealPasses dealerAfter windAfter overAfter
   riichi-moved o s d p q =
       let n : eqb (g .hands) 200 ≡ false = ne-eqb (g .hands) 200 (λ e. omega (arith, o .hands)) in
       rw (p, q, n)
 
-  pub chombo-moved : (by : List ℤ) (n : ℕ) → by ≡ table 4 0 (gives g (chombo seat)) → n ≡ declarations g → finished g by (g .sticks - n) false ≡ moved g (chombo seat)
+  pub chombo-moved : (by : List ℤ) (n : ℕ) → by ≡ tabulate 4 0 (gives g (chombo seat)) → n ≡ declarations g → finished g by (g .sticks - n) false ≡ moved g (chombo seat)
   unfolding moved gives sticksAfter declaredAfter handsAfter dealPasses dealerAfter windAfter overAfter finished
   chombo-moved by n p q = rw (p, q)
-
--- a seat's place in a table of four
-pub ready-at : (bits i : ℕ) → i ≤ 3 → getD (table 4 0 (isReady bits)) i false ≡ isReady bits i
-ready-at bits zero h = refl
-ready-at bits (suc zero) h = refl
-ready-at bits (suc (suc zero)) h = refl
-ready-at bits (suc (suc (suc zero))) h = refl
-ready-at bits (suc (suc (suc (suc i)))) h = absurd (omega arith)
 
 module _ (g : Game) (bits : ℕ) where
   pub draw-bits : 15 < bits → refusalFor g (draw bits) ≡ 8
@@ -71,16 +64,16 @@ module _ (g : Game) (bits : ℕ) where
   unfolding refusalFor
   draw-shut h o = rw (le-ltb 15 bits h, o)
 
-  pub draw-by : bits ≤ 15 → notOpen g ≡ false → (b : Bool) (r : List Bool) → r ≡ table 4 0 (isReady bits) → any 4 (λ i. isDeclared g i && not (getD r i false)) ≡ b → refusalFor g (draw bits) ≡ cond b 12 0
+  pub draw-by : bits ≤ 15 → notOpen g ≡ false → (b : Bool) (r : List Bool) → r ≡ tabulate 4 0 (isReady bits) → any 4 (λ i. isDeclared g i && not (getD r i false)) ≡ b → refusalFor g (draw bits) ≡ cond b 12 0
   unfolding refusalFor
   draw-by h o b r q e =
       let t : any 4 (λ i. isDeclared g i && not (isReady bits i)) ≡ b = rw q at e in
       rw (le-ltb 15 bits h, o, t)
 
-  pub draw-moved : g .dealer ≤ 3 → (by : List ℤ) (r : List Bool) → r ≡ table 4 0 (isReady bits) → by ≡ table 4 0 (λ i. shareOf (count 4 (λ j. getD r j false)) (getD r i false))
+  pub draw-moved : g .dealer ≤ 3 → (by : List ℤ) (r : List Bool) → r ≡ tabulate 4 0 (isReady bits) → by ≡ tabulate 4 0 (λ i. shareOf (count 4 (λ j. getD r j false)) (getD r i false))
       → finished g by (g .sticks) (not (getD r (g .dealer) false)) ≡ moved g (draw bits)
   unfolding moved gives sticksAfter declaredAfter handsAfter dealPasses dealerAfter windAfter overAfter finished drawGives
-  draw-moved h by r q p = rw (p, q, ready-at bits (g .dealer) h)
+  draw-moved h by r q p = rw (p, q, getD-tabulate false 4 (isReady bits) (g .dealer) (omega (arith, h)))
 
 -- ---- a win, of a hand that read
 
@@ -88,7 +81,7 @@ abbrev pub wonRefusal : Game → Hand → ℕ
 wonRefusal g h = cond (ltb 0 (settledOf h (g .dealer) (g .wind) .refusal)) (settledOf h (g .dealer) (g .wind) .refusal) (cond (riichiMismatch g h) 11 0)
 
 abbrev pub winningsOf : List ℤ → ℕ → ℕ → List ℤ
-winningsOf c winner sticks = table 4 0 (λ i. getD c i (pos 0) +ℤ cond (eqb i winner) (pos (1000 * sticks)) (pos 0))
+winningsOf c winner sticks = tabulate 4 0 (λ i. getD c i (pos 0) +ℤ cond (eqb i winner) (pos (1000 * sticks)) (pos 0))
 
 unfoldable pub wonGame : Game → Hand → Game
 wonGame g h = finished g (winningsOf (settledOf h (g .dealer) (g .wind) .changes) (h .fields .winner) (g .sticks)) 0 (not (eqb (h .fields .winner) (g .dealer)))
@@ -98,7 +91,7 @@ abbrev pub Won : Game → Hand → ℕ → Game → Type 0
 Won g h n k = (n ≡ wonRefusal g h) × (k ≡ cond (ltb 0 (wonRefusal g h)) g (wonGame g h))
 
 module _ (g : Game) (h : Hand) (v : Scored) (scored : v ≡ settledOf h (g .dealer) (g .wind)) where
-  pub won-unscored : (r : Answered) → 0 < v .refusal → r ≡ answered (v .refusal) g → Won g h (r .answer) (r .game)
+  pub won-unscored : (r : Outcome) → 0 < v .refusal → r ≡ outcome (v .refusal) g → Won g h (r .refusal) (r .game)
   won-unscored r l q =
       let t : ltb 0 (settledOf h (g .dealer) (g .wind) .refusal) ≡ true = rw scored at (lt-ltb 0 (v .refusal) l) in
       rw (q, scored, t, t) (refl, refl)
@@ -108,7 +101,7 @@ module _ (g : Game) (h : Hand) (v : Scored) (scored : v ≡ settledOf h (g .deal
       let t : ltb 0 (settledOf h (g .dealer) (g .wind) .refusal) ≡ false = rw scored at (le-ltb 0 (v .refusal) l) in
       rw (t, q)
 
-  pub won-mismatch : (r : Answered) → v .refusal ≤ 0 → riichiMismatch g h ≡ true → r ≡ answered 11 g → Won g h (r .answer) (r .game)
+  pub won-mismatch : (r : Outcome) → v .refusal ≤ 0 → riichiMismatch g h ≡ true → r ≡ outcome 11 g → Won g h (r .refusal) (r .game)
   won-mismatch r l m q =
       let w : wonRefusal g h ≡ 11 = won-by l true m in
       rw q (sym w, ap (λ (n : ℕ). cond (ltb 0 n) g (wonGame g h)) (sym w))
@@ -125,14 +118,14 @@ module _ (g : Game) (s : List ℕ) where
   unfolding refusalFor
   win-shut o = rw o
 
-  pub win-unread : (n : ℕ) → notOpen g ≡ false → numberOf (readOf s .answer) ≡ n → 0 < n → refusalFor g (win s) ≡ n
+  pub win-unread : (n : ℕ) → notOpen g ≡ false → refusalIn (readOf s .answer) ≡ n → 0 < n → refusalFor g (win s) ≡ n
   unfolding refusalFor
   win-unread n o e l =
       let f = open-of g o .form in
       rw (o, score-unread s (g .dealer) (g .wind) (f .dealer) (f .wind) n e l, lt-ltb 0 n l)
 
   -- past the refusals of Read, Score gives what the hand scores
-  module _ (o : notOpen g ≡ false) (e : numberOf (readOf s .answer) ≡ 0) where
+  module _ (o : notOpen g ≡ false) (e : refusalIn (readOf s .answer) ≡ 0) where
     settled : scoredFor g s ≡ settledOf (handFor s) (g .dealer) (g .wind)
     settled = let f = open-of g o .form in score-read s (g .dealer) (g .wind) (f .dealer) (f .wind) e
 
@@ -144,7 +137,7 @@ module _ (g : Game) (s : List ℕ) where
     unfolding refusalFor
     win-refusal = rw (o, settled)
 
-  pub win-read : (h : Hand) (n : ℕ) (k : Game) → notOpen g ≡ false → numberOf (readOf s .answer) ≡ 0 → h ≡ handFor s → Won g h n k → Booked g (win s) n k
+  pub win-read : (h : Hand) (n : ℕ) (k : Game) → notOpen g ≡ false → refusalIn (readOf s .answer) ≡ 0 → h ≡ handFor s → Won g h n k → Booked g (win s) n k
   unfolding after
   win-read h n k o e q w =
       let r = win-refusal o e in

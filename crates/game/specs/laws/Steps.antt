@@ -8,23 +8,23 @@ use borrow.Author.Tests.{lt-ltb}
 use lib.Dec.{ltb, eqb}
 use lib.IntN.{ℤ, pos, negℤ, _+ℤ_}
 use lib.ListN.{getD}
-use Rattle.tiles.specs.Below.{table}
+use Rattle.tiles.specs.Below.{tabulate}
 use Rattle.score.specs.laws.Z.{Within}
 use Rattle.game.specs.declared.Game.{Game}
-use Rattle.game.specs.declared.Answered.{Answered}
+use Rattle.game.specs.declared.Outcome.{Outcome}
 use Rattle.game.specs.Booking.{Booking}
 use Rattle.game.specs.Ledger.{isLast, refusalFor, moved, after}
 use Rattle.game.specs.Runs.{Booked}
 
-abbrev pub answered : ℕ → Game → Answered
-answered n g = record { answer = n; game = g }
+abbrev pub outcome : ℕ → Game → Outcome
+outcome n g = record { refusal = n; game = g }
 
 -- each of four is small enough that a sum of two does not wrap
 abbrev pub Small : List ℤ → Type 0
 Small s = (i : ℕ) → i < 4 → Within (getD s i (pos 0)) 40000000
 
 abbrev pub paid : List ℤ → List ℤ → List ℤ
-paid s by = table 4 0 (λ i. getD s i (pos 0) +ℤ getD by i (pos 0))
+paid s by = tabulate 4 0 (λ i. getD s i (pos 0) +ℤ getD by i (pos 0))
 
 abbrev pub dealerNext : Game → Bool → ℕ
 dealerNext g passes = cond (passes && not (isLast g)) ((g .dealer + 1) % 4) (g .dealer)
@@ -41,7 +41,7 @@ unfoldable pub finished : Game → List ℤ → ℕ → Bool → Game
 finished g by sticks passes = record {
   scores = paid (g .scores) by;
   sticks = sticks;
-  declared = table 4 0 (λ i. false);
+  declared = tabulate 4 0 (λ i. false);
   dealer = dealerNext g passes;
   wind = windNext g passes;
   hands = g .hands + 1;
@@ -49,7 +49,7 @@ finished g by sticks passes = record {
 }
 
 module _ (g : Game) (b : Booking) where
-  pub refused-booked : (n : ℕ) (r : Answered) → r ≡ answered n g → refusalFor g b ≡ n → 0 < n → Booked g b (r .answer) (r .game)
+  pub refused-booked : (n : ℕ) (r : Outcome) → r ≡ outcome n g → refusalFor g b ≡ n → 0 < n → Booked g b (r .refusal) (r .game)
   unfolding after
   refused-booked n r e q l =
       let t : ltb 0 (refusalFor g b) ≡ true = lt-ltb 0 (refusalFor g b) (omega arith) in

@@ -7,7 +7,7 @@ use Prim.Native.Nat.{ℕ}
 use native.Mathlib.Omega.{arith}
 use borrow.Author.Tests.{ltb-false}
 use lib.Dec.{ltb}
-use Rattle.hand.specs.Claims.{IsSound, sound}
+use Rattle.hand_record.specs.Claims.{IsSound, sound}
 use Rattle.score.specs.Named.{Named}
 use Rattle.score.specs.laws.Named.{scored, accepted, best, most, for-tiles}
 use Rattle.game.specs.declared.Game.{Game}
@@ -17,7 +17,7 @@ use Rattle.game.specs.Demand3.{PaidByBest, AcceptedWhen, TilesRefused}
 use Rattle.game.specs.laws.Form.{open-of}
 use Rattle.game.specs.laws.Accepted.{win-accepted}
 
--- a number that the scorer gives is the answer, and 11 and 0 are not for the tiles
+-- a number that the scorer gives is the refusal, and 11 and 0 are not for the tiles
 abbrev Tiles : ℕ → Type 0
 Tiles n = (n ≡ 6) ⊎ (n ≡ 7)
 

@@ -1,7 +1,7 @@
 -- `handset::fields_of` meets its contract, case by case. Assumes nothing.
 use borrow.Author.Needs.{needs}
 use mathlib.Core.Path.{ap, sym}
-use Rattle.hand.specs.Record.{fieldsOf}
+use Rattle.hand_record.specs.Record.{fieldsOf}
 use Rattle.handset.proofs.fields_of.Statement.{statement}
 use Rattle.handset.proofs.fields_of.Tie as tie
 

@@ -4,7 +4,7 @@ use Prim.Native.Nat.{_-_}
 use native.Mathlib.Omega.{arith}
 use lib.ListN.{length, drop, length-drop}
 use borrow.Author.Needs.{needs}
-use Rattle.hand.specs.Record.{countIn, lengthOf}
+use Rattle.hand_record.specs.Record.{countIn, lengthOf}
 use Rattle.log.specs.laws.Next.{record-short, record-over, record-cut, record-whole}
 use Rattle.log.proofs.record_length.Statement.{statement}
 use Rattle.log.proofs.record_length.Tie as tie

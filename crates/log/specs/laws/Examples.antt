@@ -2,8 +2,8 @@
 use mathlib.Core.Path.{_≡_, refl}
 use mathlib.Core.List.{[], _∷_}
 use lib.ListN.{take, drop}
-use Rattle.hand.specs.Record.{headOf}
-use Rattle.hand.specs.laws.Examples.{line1}
+use Rattle.hand_record.specs.Record.{headOf}
+use Rattle.hand_record.specs.laws.Examples.{line1}
 use Rattle.log.specs.Log.{isBad, entryLength, nextOf}
 use Rattle.log.specs.Walk.{LogEntry, walk, entriesFrom}
 use Rattle.log.specs.declared.Next.the-variants.{Entry, Bad}

@@ -11,8 +11,8 @@ use native.Mathlib.Numerals.{add-one}
 use lib.ListN.{length, getD, take, drop, length-drop}
 use lib.Seq.{take-nil, drop-drop, length-take-le}
 use Rattle.tiles.specs.laws.Below.{or-both}
-use Rattle.hand.specs.Record.{headOf, countIn, lengthOf, wrongLength}
-use Rattle.hand.specs.laws.Read.{whole, form-right}
+use Rattle.hand_record.specs.Record.{headOf, countIn, lengthOf, wrongLength}
+use Rattle.hand_record.specs.laws.Read.{whole, form-right}
 use Rattle.log.specs.Log.{kindAt, argumentAt, isWin, isBroken, recordsFrom, isBad, entryLength, nextOf, partOf}
 use Rattle.log.specs.declared.Next.{Next}
 use Rattle.log.specs.declared.Next.the-variants.{Entry, End, Bad}

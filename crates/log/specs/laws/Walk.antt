@@ -7,7 +7,7 @@ use Prim.Native.Nat.{ℕ, zero, suc, _+_, _-_, _≤_, _<_}
 use native.Mathlib.Omega.{arith}
 use lib.ListN.{length, take, drop}
 use lib.Seq.{take-add, drop-drop, take-all}
-use Rattle.log.specs.Log.{isBad, nextOf, numberOf}
+use Rattle.log.specs.Log.{isBad, nextOf, refusalIn}
 use Rattle.log.specs.Walk.{LogEntry, entryAt, walk, entriesFrom, stopFrom, laid}
 use Rattle.log.specs.laws.Next.{next-end, next-bad, told, step-inside}
 use Rattle.log.specs.declared.Next.{Next}
@@ -125,9 +125,9 @@ module _ (log : List ℕ) where
       laid-from 0 ∙ rw z
 
   -- where it ends stands no entry
-  pub ends-at : (at : ℕ) → (nextOf log (stopFrom log at) ≡ End) ⊎ (numberOf (nextOf log (stopFrom log at)) ≡ 14)
+  pub ends-at : (at : ℕ) → (nextOf log (stopFrom log at) ≡ End) ⊎ (refusalIn (nextOf log (stopFrom log at)) ≡ 14)
   ends-at =
-      along log (λ at. (nextOf log (stopFrom log at) ≡ End) ⊎ (numberOf (nextOf log (stopFrom log at)) ≡ 14))
+      along log (λ at. (nextOf log (stopFrom log at) ≡ End) ⊎ (refusalIn (nextOf log (stopFrom log at)) ≡ 14))
       (λ at e. inl (rw (stop-end log at e, e))) (λ at e. inr (rw (stop-bad log at e, e))) (λ at k a n e h. rw (stop-turn log at k a n e) h)
 
   -- an entry has a byte at least
@@ -156,6 +156,6 @@ end-exactly log at = (λ e. rw e at (told log at), next-end log at)
 pub bad-exactly : (log : List ℕ) (at : ℕ) → (nextOf log at ≡ Bad) ↔ ((at < length log) × (isBad log at ≡ true))
 bad-exactly log at = (λ e. rw e at (told log at), λ h. next-bad log at (h .0) (h .1))
 
-pub laid-all : (log : List ℕ) → (numberOf (nextOf log (stopFrom log 0)) ≡ 14 → ⊥) → laid (entriesFrom log 0) ≡ log
+pub laid-all : (log : List ℕ) → (refusalIn (nextOf log (stopFrom log 0)) ≡ 14 → ⊥) → laid (entriesFrom log 0) ≡ log
 laid-all log h =
     ⊎-elim (λ e. laid-prefix log ∙ take-all (stopFrom log 0) log (end-exactly log (stopFrom log 0) .0 e)) (λ e. absurd (h e)) (ends-at log 0)

@@ -32,16 +32,16 @@ buffer-none : (buf : List ℕ) → bufferWith buf [] ≡ buf
 buffer-none buf = fits-or-not buf [] (λ n out. out ≡ buf) refl refl
 
 -- a line has a byte at least
-line-some : (k kind answer : ℕ) (g : _) → 0 < length (entryLine k kind answer g)
+line-some : (k kind refusal : ℕ) (g : _) → 0 < length (entryLine k kind refusal g)
 unfolding entryLine lineOf spaced
-line-some k kind answer g = rw (length-append (digitsOf k)) (omega arith)
+line-some k kind refusal g = rw (length-append (digitsOf k)) (omega arith)
 
 module _ (t : Turn) (log : List ℕ) where
   abbrev this : Step
   this = stepOf (t .game) log (t .at)
 
   abbrev line : List ℕ
-  line = entryLine (t .entry) (this .kind) (this .answer) (this .game)
+  line = entryLine (t .entry) (this .kind) (this .refusal) (this .game)
 
   -- the next line: none, or the entry's
   pub no-entry : this .length ≡ 0 → nextLine t log ≡ []
@@ -86,9 +86,9 @@ module _ (t : Turn) (log : List ℕ) where
     pub gives-end : (buf : List ℕ) (r : Turn) → b .length ≡ 0 → r ≡ record { game = t .game; at = t .at; entry = t .entry; written = 0 } → Gives buf r buf
     gives-end buf r z s = gives-none buf r (no-entry (rw eb at z)) s
 
-    module _ (buf out : List ℕ) (n : ℕ) (l : b .length ≡ 0 → ⊥) (m : t .entry ≡ 4294967295 → ⊥) (en : n ≡ lengthIn buf (entryLine (t .entry) (b .kind) (b .answer) (b .game)))
-        (eo : out ≡ bufferWith buf (entryLine (t .entry) (b .kind) (b .answer) (b .game))) (short : length (entryLine (t .entry) (b .kind) (b .answer) (b .game)) ≤ 83) where
-      line-is : nextLine t log ≡ entryLine (t .entry) (b .kind) (b .answer) (b .game)
+    module _ (buf out : List ℕ) (n : ℕ) (l : b .length ≡ 0 → ⊥) (m : t .entry ≡ 4294967295 → ⊥) (en : n ≡ lengthIn buf (entryLine (t .entry) (b .kind) (b .refusal) (b .game)))
+        (eo : out ≡ bufferWith buf (entryLine (t .entry) (b .kind) (b .refusal) (b .game))) (short : length (entryLine (t .entry) (b .kind) (b .refusal) (b .game)) ≤ 83) where
+      line-is : nextLine t log ≡ entryLine (t .entry) (b .kind) (b .refusal) (b .game)
       line-is = next-is (rw eb at l) m ∙ rw eb
 
       pub gives-short : (r : Turn) → n ≡ 0 → r ≡ record { game = t .game; at = t .at; entry = t .entry; written = 0 } → Gives buf r out
@@ -131,7 +131,7 @@ module _ (t : Turn) (log : List ℕ) where
       go : (n : ℕ) → this .length ≡ n → textLeft t log ≡ []
       go zero z = text-none (t .game) log (t .at) z (t .entry)
       go (suc n) z =
-          absurd (omega (arith, line-some (t .entry) (this .kind) (this .answer) (this .game), ap length (sym (next-is (λ y. omega (arith, sym z ∙ y)) (λ y. omega (arith, y))) ∙ e)))
+          absurd (omega (arith, line-some (t .entry) (this .kind) (this .refusal) (this .game), ap length (sym (next-is (λ y. omega (arith, sym z ∙ y)) (λ y. omega (arith, y))) ∙ e)))
 
   -- ---- a turn of what next_line gives, and its end
 

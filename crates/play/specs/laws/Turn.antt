@@ -26,7 +26,7 @@ module _ (g : Game) (log : List ℕ) (at : ℕ) where
   step-is x e = rw e
 
   -- an entry booked, its record handed on as a stretch of the log
-  pub step-entry : (k a n : ℕ) → nextOf log at ≡ Entry k a n → (x : ℕ) (h : Game) → Booked g (bookingBy k a (take (at + n - (at + 1)) (drop (at + 1) log))) x h → record { answer = x; kind = k; length = n; game = h } ≡ stepOf g log at
+  pub step-entry : (k a n : ℕ) → nextOf log at ≡ Entry k a n → (x : ℕ) (h : Game) → Booked g (bookingBy k a (take (at + n - (at + 1)) (drop (at + 1) log))) x h → record { refusal = x; kind = k; length = n; game = h } ≡ stepOf g log at
   unfolding bookingOf
   step-entry k a n e x h b =
       let m = at + n - (at + 1) in
@@ -34,10 +34,10 @@ module _ (g : Game) (log : List ℕ) (at : ℕ) where
       let r : drop 1 (take n (drop at log)) ≡ take m (drop (at + 1) log) = ap (λ (j : ℕ). drop 1 (take j (drop at log))) l ∙ after-header log at m in
       rw (step-is (Entry k a n) e, r, b .0, b .1)
 
-  pub step-end : nextOf log at ≡ End → record { answer = 0; kind = 0; length = 0; game = g } ≡ stepOf g log at
+  pub step-end : nextOf log at ≡ End → record { refusal = 0; kind = 0; length = 0; game = g } ≡ stepOf g log at
   step-end e = sym (step-is End e)
 
-  pub step-bad : nextOf log at ≡ Bad → record { answer = 14; kind = 0; length = 0; game = g } ≡ stepOf g log at
+  pub step-bad : nextOf log at ≡ Bad → record { refusal = 14; kind = 0; length = 0; game = g } ≡ stepOf g log at
   step-bad e = sym (step-is Bad e)
 
   -- no entry: nothing is booked and nothing printed
@@ -59,7 +59,7 @@ module _ (g : Game) (log : List ℕ) (at : ℕ) where
     unfolding bookingsFrom ledgerFrom
     ledger-turn = either-entry (λ k a n e. rw (step-is (Entry k a n) e, entries-turn log at k a n e))
 
-    pub text-turn : (i : ℕ) → textFrom i g (entriesFrom log at) ≡ entryLine i (this .kind) (this .answer) (this .game) ++ textFrom (i + 1) (this .game) (entriesFrom log (at + this .length))
+    pub text-turn : (i : ℕ) → textFrom i g (entriesFrom log at) ≡ entryLine i (this .kind) (this .refusal) (this .game) ++ textFrom (i + 1) (this .game) (entriesFrom log (at + this .length))
     unfolding textFrom
     text-turn i = either-entry (λ k a n e. rw (step-is (Entry k a n) e, entries-turn log at k a n e))
 

@@ -9,9 +9,9 @@ use Rattle.tiles.specs.Groups.{isGroup, at, uses}
 use Rattle.tiles.specs.Tally.{tallyOf}
 use Rattle.tiles.specs.laws.Tally.{held}
 use Rattle.reading.specs.declared.Reading.{Reading}
-use Rattle.reading.specs.Reading.{holds, isSevenPairs, isOrphans, ofForm}
+use Rattle.reading.specs.Reading.{holds, isSevenPairs, isOrphans, ofShape}
 use Rattle.reading.specs.Order.{Before}
-use Rattle.reading.specs.search.Readings.{concatMap, isEmpty, less, fits, without, passes, step, splits, regularOf, placedAt, placed, paired, formed, readings}
+use Rattle.reading.specs.search.Readings.{concatMap, isEmpty, less, fits, without, passes, step, splits, regularOf, placedAt, placed, paired, shaped, readings}
 
 -- of tiles, m melds and the winning kind
 abbrev readingsOf : List ℕ → ℕ → ℕ → List Reading
@@ -25,11 +25,11 @@ record Worked : Type 0 where
   -- line 5: 112233m 778899p 55s by 5s
   line-5 :
       readingsOf (0 ∷ 0 ∷ 1 ∷ 1 ∷ 2 ∷ 2 ∷ 15 ∷ 15 ∷ 16 ∷ 16 ∷ 17 ∷ 17 ∷ 22 ∷ 22 ∷ []) 0 22
-      ≡ regularOf 22 (0 ∷ 0 ∷ 15 ∷ 15 ∷ []) 0 ∷ ofForm 1 ∷ []
+      ≡ regularOf 22 (0 ∷ 0 ∷ 15 ∷ 15 ∷ []) 0 ∷ ofShape 1 ∷ []
   -- the same by 3m: two equal groups are two places
   equal-groups :
       readingsOf (0 ∷ 0 ∷ 1 ∷ 1 ∷ 2 ∷ 2 ∷ 15 ∷ 15 ∷ 16 ∷ 16 ∷ 17 ∷ 17 ∷ 22 ∷ 22 ∷ []) 0 2
-      ≡ regularOf 22 (0 ∷ 0 ∷ 15 ∷ 15 ∷ []) 1 ∷ regularOf 22 (0 ∷ 0 ∷ 15 ∷ 15 ∷ []) 2 ∷ ofForm 1 ∷ []
+      ≡ regularOf 22 (0 ∷ 0 ∷ 15 ∷ 15 ∷ []) 1 ∷ regularOf 22 (0 ∷ 0 ∷ 15 ∷ 15 ∷ []) 2 ∷ ofShape 1 ∷ []
   -- line 6: chi, 567m 456p 678s 22p by 8s
   line-6 : readingsOf (4 ∷ 5 ∷ 6 ∷ 12 ∷ 13 ∷ 14 ∷ 23 ∷ 24 ∷ 25 ∷ 10 ∷ 10 ∷ []) 1 25 ≡ regularOf 10 (4 ∷ 12 ∷ 23 ∷ 68 ∷ []) 3 ∷ []
   -- four melds and a pair
@@ -41,11 +41,11 @@ record Worked : Type 0 where
   -- line 4's two readings are ordered by their groups, not by their places
   groups-first : Before (regularOf 17 (0 ∷ 0 ∷ 0 ∷ 24 ∷ []) 4) (regularOf 17 (24 ∷ 34 ∷ 35 ∷ 36 ∷ []) 1)
   -- thirteen orphans with two chun, and without North
-  thirteen : readingsOf (0 ∷ 8 ∷ 9 ∷ 17 ∷ 18 ∷ 26 ∷ 27 ∷ 28 ∷ 29 ∷ 30 ∷ 31 ∷ 32 ∷ 33 ∷ 33 ∷ []) 0 33 ≡ ofForm 2 ∷ []
+  thirteen : readingsOf (0 ∷ 8 ∷ 9 ∷ 17 ∷ 18 ∷ 26 ∷ 27 ∷ 28 ∷ 29 ∷ 30 ∷ 31 ∷ 32 ∷ 33 ∷ 33 ∷ []) 0 33 ≡ ofShape 2 ∷ []
   twelve : readingsOf (0 ∷ 8 ∷ 9 ∷ 17 ∷ 18 ∷ 26 ∷ 27 ∷ 28 ∷ 29 ∷ 31 ∷ 32 ∷ 33 ∷ 33 ∷ []) 0 33 ≡ []
 
 worked : Worked
-unfolding concatMap isEmpty less fits without passes step splits placedAt placed paired formed readings holds isSevenPairs isOrphans every number isGroup at uses held tallyOf
+unfolding concatMap isEmpty less fits without passes step splits placedAt placed paired shaped readings holds isSevenPairs isOrphans every number isGroup at uses held tallyOf
 worked =
     record {
       line-4 = refl;

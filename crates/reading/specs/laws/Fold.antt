@@ -11,11 +11,11 @@ use borrow.Author.Tests.{le-leb, lt-leb, ne-eqb}
 use lib.Dec.{leb, eqb}
 use lib.ListN.{length, getD, set, drop, replicate}
 use lib.Seq.{sets, sets-eq}
-use Rattle.tiles.specs.Below.{table}
+use Rattle.tiles.specs.Below.{tabulate}
 use Rattle.reading.specs.declared.Reading.{Reading}
-use Rattle.reading.specs.Reading.{isSevenPairs, isOrphans, ofForm}
+use Rattle.reading.specs.Reading.{isSevenPairs, isOrphans, ofShape}
 use Rattle.reading.specs.search.Judged.{judged}
-use Rattle.reading.specs.search.Readings.{when, concatMap, isEmpty, less, fits, without, passes, step, splits, placedAt, placed, paired, formed, readings}
+use Rattle.reading.specs.search.Readings.{when, concatMap, isEmpty, less, fits, without, passes, step, splits, placedAt, placed, paired, shaped, readings}
 use Rattle.reading.specs.laws.Lists.{each-imp, concat-cong, concat-append, concat-map}
 use Rattle.reading.specs.laws.Groups.{less-long}
 use Rattle.reading.specs.laws.Splits.{splits-sound}
@@ -47,13 +47,13 @@ module _ {B : Type 0} (judge : B → Reading → B) where
 
   -- ---- a loop over numbers: what is left is that of i, i + 1, .., n - 1
   unfoldable pub ranged : (ℕ → List Reading) → ℕ → ℕ → B → B
-  ranged f n i b = judged judge b (concatMap f (table (n - i) i (λ k. k)))
+  ranged f n i b = judged judge b (concatMap f (tabulate (n - i) i (λ k. k)))
 
   pub ranged-turn : (f : ℕ → List Reading) (n i : ℕ) (b x : B) → i < n → x ≡ judged judge b (f i) → ranged f n (i + 1) x ≡ ranged f n i b
   unfolding ranged concatMap
   ranged-turn f n i b x h e =
       let s : n - i ≡ suc (n - suc i) = omega arith in
-      rw (add-one, s, e) (sym (judged-append b (f i) (concatMap f (table (n - suc i) (suc i) (λ k. k)))))
+      rw (add-one, s, e) (sym (judged-append b (f i) (concatMap f (tabulate (n - suc i) (suc i) (λ k. k)))))
 
   pub ranged-done : (f : ℕ → List Reading) (n i : ℕ) (b : B) → n ≤ i → b ≡ ranged f n i b
   unfolding ranged concatMap judged
@@ -168,15 +168,15 @@ module _ {B : Type 0} (judge : B → Reading → B) where
 
   -- ---- the whole: the pairs, then the other forms
   module _ (t : List ℕ) (m : ℕ) where
-    pub formed-with : (b x y : B) → m ≡ 0 → x ≡ judged judge b (when (isSevenPairs t) (λ _. ofForm 1 ∷ [])) →
-        y ≡ judged judge x (when (isOrphans t) (λ _. ofForm 2 ∷ [])) → y ≡ judged judge b (formed t m)
-    unfolding formed
-    formed-with b x y z e f = rw (z, f, e) (sym (judged-append b (when (isSevenPairs t) (λ _. ofForm 1 ∷ [])) (when (isOrphans t) (λ _. ofForm 2 ∷ []))))
+    pub shaped-with : (b x y : B) → m ≡ 0 → x ≡ judged judge b (when (isSevenPairs t) (λ _. ofShape 1 ∷ [])) →
+        y ≡ judged judge x (when (isOrphans t) (λ _. ofShape 2 ∷ [])) → y ≡ judged judge b (shaped t m)
+    unfolding shaped
+    shaped-with b x y z e f = rw (z, f, e) (sym (judged-append b (when (isSevenPairs t) (λ _. ofShape 1 ∷ [])) (when (isOrphans t) (λ _. ofShape 2 ∷ []))))
 
-    pub formed-none : (b : B) → (m ≡ 0 → ⊥) → b ≡ judged judge b (formed t m)
-    unfolding formed
-    formed-none b h = judged-none b _ (eqb m 0) (ne-eqb m 0 h)
+    pub shaped-none : (b : B) → (m ≡ 0 → ⊥) → b ≡ judged judge b (shaped t m)
+    unfolding shaped
+    shaped-none b h = judged-none b _ (eqb m 0) (ne-eqb m 0 h)
 
-    pub readings-with : (win : ℕ) (b x y : B) → x ≡ ranged (paired t m win) 34 0 b → y ≡ judged judge x (formed t m) → y ≡ judged judge b (readings t m win)
+    pub readings-with : (win : ℕ) (b x y : B) → x ≡ ranged (paired t m win) 34 0 b → y ≡ judged judge x (shaped t m) → y ≡ judged judge b (readings t m win)
     unfolding ranged readings
-    readings-with win b x y e f = rw (f, e) (sym (judged-append b (concatMap (paired t m win) (table 34 0 (λ k. k))) (formed t m)))
+    readings-with win b x y e f = rw (f, e) (sym (judged-append b (concatMap (paired t m win) (tabulate 34 0 (λ k. k))) (shaped t m)))

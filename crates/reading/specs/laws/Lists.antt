@@ -6,7 +6,7 @@ use mathlib.Core.List.{List, [], _∷_, _++_, map, append-assoc, List·Memᴰ, L
 use Prim.Native.Nat.{ℕ, zero, suc, _+_, _≤_, _<_}
 use native.Mathlib.Nat.{eq-or-lt-of-le}
 use native.Mathlib.Omega.{arith}
-use Rattle.tiles.specs.Below.{table}
+use Rattle.tiles.specs.Below.{tabulate}
 use Rattle.reading.specs.search.Ordered.{Each, none, also, Pairwise, ended, first}
 use Rattle.reading.specs.search.Readings.{when, concatMap}
 
@@ -96,14 +96,14 @@ module _ {A B : Type 0} (f : A → List B) where
   concat-map g (x ∷ xs) = rw (concat-map g xs)
 
 -- ---- the n numbers from i on
-pub range-in : (n i b : ℕ) → b ≤ i → Each (λ k. (b ≤ k) × (k < i + n)) (table n i (λ k. k))
+pub range-in : (n i b : ℕ) → b ≤ i → Each (λ k. (b ≤ k) × (k < i + n)) (tabulate n i (λ k. k))
 range-in zero i b h = none
 range-in (suc n) i b h = also (h, omega arith) (each-imp (λ k q. (q .0, omega (arith, q .1))) (range-in n (suc i) b (omega arith)))
 
-pub range-ascends : (n i : ℕ) → Pairwise _<_ (table n i (λ k. k))
+pub range-ascends : (n i : ℕ) → Pairwise _<_ (tabulate n i (λ k. k))
 range-ascends zero i = ended
 range-ascends (suc n) i = first (each-imp (λ k q. q .0) (range-in n (suc i) (suc i) (omega arith))) (range-ascends n (suc i))
 
-pub mem-range : (n i k : ℕ) → i ≤ k → k < i + n → List·Memᴰ k (table n i (λ j. j))
+pub mem-range : (n i k : ℕ) → i ≤ k → k < i + n → List·Memᴰ k (tabulate n i (λ j. j))
 mem-range zero i k h l = absurd (omega arith)
 mem-range (suc n) i k h l = ⊎-elim (λ e. List·Memᴰ·head (sym e)) (λ u. List·Memᴰ·tail (mem-range n (suc i) k u (omega arith))) (eq-or-lt-of-le h)

@@ -8,13 +8,13 @@ use native.Mathlib.Omega.{arith}
 use borrow.Author.Tests.{le-leb, leb-true, eq-eqb, eqb-true}
 use lib.Dec.{leb, eqb}
 use lib.ListN.{length, getD, replicate}
-use Rattle.tiles.specs.Below.{table}
+use Rattle.tiles.specs.Below.{tabulate}
 use Rattle.tiles.specs.Groups.{at}
 use Rattle.reading.specs.declared.Reading.{Reading}
-use Rattle.reading.specs.Reading.{holds, IsRegular, isSevenPairs, isOrphans, ofForm, IsReading, regular, pairs, orphans}
+use Rattle.reading.specs.Reading.{holds, IsRegular, isSevenPairs, isOrphans, ofShape, IsReading, regular, pairs, orphans}
 use Rattle.reading.specs.Order.{Lex, Before}
 use Rattle.reading.specs.search.Ordered.{Each, none, also, Pairwise}
-use Rattle.reading.specs.search.Readings.{when, concatMap, less, regularOf, placedAt, placed, paired, formed, readings}
+use Rattle.reading.specs.search.Readings.{when, concatMap, less, regularOf, placedAt, placed, paired, shaped, readings}
 use Rattle.reading.specs.laws.Lists.{each-append, each-imp, each-when, each-all, each-concat, pairwise-append, pairwise-when, pairwise-one, pairwise-concat, mem-when, mem-concat, range-in, range-ascends, mem-range}
 use Rattle.reading.specs.laws.Groups.{at-same, less-at, less-long}
 use Rattle.reading.specs.laws.Splits.{Splits, splits-sound, splits-complete, splits-ordered}
@@ -25,7 +25,7 @@ module _ (t : List ℕ) (m win : ℕ) (l : length t ≡ 34) where
       holds k (gs ++ replicate m 68) p win ≡ true → IsRegular t m win (regularOf k (gs ++ replicate m 68) p)
   regular-of k p gs h two s q e =
       record {
-        form = refl;
+        shape = refl;
         codes = gs;
         size = s .size;
         groups = refl;
@@ -47,9 +47,9 @@ module _ (t : List ℕ) (m win : ℕ) (l : length t ≡ 34) where
       (range-in (suc (4 - m)) 0 0 (omega arith))))
       (splits-sound (4 - m) 68 0 (less t k 2) (less-long t k 2 l))))
 
-  formed-sound : Each (IsReading t m win) (formed t m)
-  unfolding formed
-  formed-sound =
+  shaped-sound : Each (IsReading t m win) (shaped t m)
+  unfolding shaped
+  shaped-sound =
       each-when (eqb m 0) _ (λ z.
       each-append
       (each-when (isSevenPairs t) _ (λ e. also (pairs (record { closed = eqb-true m 0 z; kinds = e; reading = refl })) none))
@@ -58,7 +58,7 @@ module _ (t : List ℕ) (m win : ℕ) (l : length t ≡ 34) where
   pub readings-each : Each (IsReading t m win) (readings t m win)
   unfolding readings
   readings-each =
-      each-append (each-concat (paired t m win) (each-imp (λ k q. paired-sound k (omega (arith, q .1))) (range-in 34 0 0 (omega arith)))) formed-sound
+      each-append (each-concat (paired t m win) (each-imp (λ k q. paired-sound k (omega (arith, q .1))) (range-in 34 0 0 (omega arith)))) shaped-sound
 
 -- ---- each reading is listed
 module _ (t : List ℕ) (m win : ℕ) (r : Reading) (l : length t ≡ 34) where
@@ -67,7 +67,7 @@ module _ (t : List ℕ) (m win : ℕ) (r : Reading) (l : length t ≡ 34) where
     grouped = s .codes ++ replicate m 68
 
     same : r ≡ regularOf (r .pair) grouped (r .place)
-    same = λ i. record { form = s .form i; pair = r .pair; groups = s .groups i; place = r .place }
+    same = λ i. record { shape = s .shape i; pair = r .pair; groups = s .groups i; place = r .place }
 
     has-pair : 2 ≤ getD t (r .pair) 0
     has-pair = omega (arith, s .tiles (r .pair), at-same (r .pair) 2)
@@ -94,17 +94,17 @@ module _ (t : List ℕ) (m win : ℕ) (r : Reading) (l : length t ≡ 34) where
         (splits-complete (4 - m) 68 0 (less t (r .pair) 2) (s .codes) (less-long t (r .pair) 2 l) refl rest-splits)
         placed-has)
 
-  formed-has : m ≡ 0 → List·Memᴰ r (when (isSevenPairs t) (λ _. ofForm 1 ∷ []) ++ when (isOrphans t) (λ _. ofForm 2 ∷ [])) → List·Memᴰ r (readings t m win)
-  unfolding readings formed
-  formed-has z h = Memᴰ·append-right (concatMap (paired t m win) (table 34 0 (λ k. k))) (mem-when (eqb m 0) _ (eq-eqb m 0 z) h)
+  shaped-has : m ≡ 0 → List·Memᴰ r (when (isSevenPairs t) (λ _. ofShape 1 ∷ []) ++ when (isOrphans t) (λ _. ofShape 2 ∷ [])) → List·Memᴰ r (readings t m win)
+  unfolding readings shaped
+  shaped-has z h = Memᴰ·append-right (concatMap (paired t m win) (tabulate 34 0 (λ k. k))) (mem-when (eqb m 0) _ (eq-eqb m 0 z) h)
 
   pub readings-has : IsReading t m win r → List·Memᴰ r (readings t m win)
   unfolding readings
   readings-has (regular s) = Memᴰ·append-left _ (mem-concat (paired t m win) (mem-range 34 0 (r .pair) (omega arith) (s .pair)) (paired-has s))
-  readings-has (pairs s) = formed-has (s .closed) (Memᴰ·append-left _ (mem-when (isSevenPairs t) _ (s .kinds) (List·Memᴰ·head (s .reading))))
+  readings-has (pairs s) = shaped-has (s .closed) (Memᴰ·append-left _ (mem-when (isSevenPairs t) _ (s .kinds) (List·Memᴰ·head (s .reading))))
   readings-has (orphans s) =
-      formed-has (s .closed)
-      (Memᴰ·append-right (when (isSevenPairs t) (λ _. ofForm 1 ∷ [])) (mem-when (isOrphans t) _ (s .kinds) (List·Memᴰ·head (s .reading))))
+      shaped-has (s .closed)
+      (Memᴰ·append-right (when (isSevenPairs t) (λ _. ofShape 1 ∷ [])) (mem-when (isOrphans t) _ (s .kinds) (List·Memᴰ·head (s .reading))))
 
 -- ---- the list ascends
 lex-append : (x y u v : List ℕ) → Lex x y → Lex (x ++ u) (y ++ v)
@@ -124,14 +124,14 @@ lex-irreflexive (a ∷ x) (inr h) = lex-irreflexive x (h .1)
 
 -- a regular reading with the pair k, and with the groups gs
 abbrev OfPair : ℕ → Reading → Type 0
-OfPair k r = (r .form ≡ 0) × (r .pair ≡ k)
+OfPair k r = (r .shape ≡ 0) × (r .pair ≡ k)
 
 abbrev OfGroups : ℕ → List ℕ → Reading → Type 0
 OfGroups k gs r = (p : ℕ) × (r ≡ regularOf k gs p)
 
 -- readings of form f come before those of a later form
-later-form : (f : ℕ) {xs ys : List Reading} → Each (λ r. r .form ≡ f) xs → Each (λ r. f < r .form) ys → Each (λ x. Each (Before x) ys) xs
-later-form f p q = each-imp (λ x e. each-imp (λ y h. inl (rw e h)) q) p
+later-shape : (f : ℕ) {xs ys : List Reading} → Each (λ r. r .shape ≡ f) xs → Each (λ r. f < r .shape) ys → Each (λ x. Each (Before x) ys) xs
+later-shape f p q = each-imp (λ x e. each-imp (λ y h. inl (rw e h)) q) p
 
 module _ (n win k : ℕ) where
   placedAt-of : (gs : List ℕ) (p : ℕ) → Each (λ r. r ≡ regularOf k gs p) (placedAt win k gs p)
@@ -168,18 +168,18 @@ module _ (t : List ℕ) (m win : ℕ) (l : length t ≡ 34) where
       rw (e .1, f .1) (inr (refl, inr (refl, lex-append (x ++ replicate m 68) (y ++ replicate m 68) (e .0 ∷ []) (f .0 ∷ []) (lex-append x y (replicate m 68) (replicate m 68) h)))))
       (splits-ordered (4 - m) 68 0 (less t k 2) (less-long t k 2 l)))
 
-  regulars-ordered : Pairwise Before (concatMap (paired t m win) (table 34 0 (λ k. k)))
+  regulars-ordered : Pairwise Before (concatMap (paired t m win) (tabulate 34 0 (λ k. k)))
   regulars-ordered =
       pairwise-concat (paired t m win) OfPair paired-of paired-ordered
       (λ j k a b h e f. inr (e .0 ∙ sym (f .0), inl (rw (e .1, f .1) h)))
       (range-ascends 34 0)
 
   pub readings-ascend : Pairwise Before (readings t m win)
-  unfolding readings formed
+  unfolding readings shaped
   readings-ascend =
       pairwise-append regulars-ordered
       (pairwise-when (eqb m 0) _ (λ z.
-      pairwise-append (pairwise-when (isSevenPairs t) _ (λ e. pairwise-one (ofForm 1))) (pairwise-when (isOrphans t) _ (λ e. pairwise-one (ofForm 2)))
-      (later-form 1 (each-when (isSevenPairs t) _ (λ e. also refl none)) (each-when (isOrphans t) _ (λ e. also (omega arith) none)))))
-      (later-form 0 (each-concat (paired t m win) (each-all (λ k. each-imp (λ r e. e .0) (paired-of k)) (table 34 0 (λ k. k))))
+      pairwise-append (pairwise-when (isSevenPairs t) _ (λ e. pairwise-one (ofShape 1))) (pairwise-when (isOrphans t) _ (λ e. pairwise-one (ofShape 2)))
+      (later-shape 1 (each-when (isSevenPairs t) _ (λ e. also refl none)) (each-when (isOrphans t) _ (λ e. also (omega arith) none)))))
+      (later-shape 0 (each-concat (paired t m win) (each-all (λ k. each-imp (λ r e. e .0) (paired-of k)) (tabulate 34 0 (λ k. k))))
       (each-when (eqb m 0) _ (λ z. each-append (each-when (isSevenPairs t) _ (λ e. also (omega arith) none)) (each-when (isOrphans t) _ (λ e. also (omega arith) none)))))

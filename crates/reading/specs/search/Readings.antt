@@ -5,10 +5,10 @@ use mathlib.Core.List.{List, [], _∷_, _++_, map}
 use Prim.Native.Nat.{ℕ, zero, suc, _+_, _-_, _%_}
 use lib.Dec.{leb, eqb}
 use lib.ListN.{getD, set, replicate}
-use Rattle.tiles.specs.Below.{every, table}
+use Rattle.tiles.specs.Below.{every, tabulate}
 use Rattle.tiles.specs.Groups.{isRun, isGroup}
 use Rattle.reading.specs.declared.Reading.{Reading}
-use Rattle.reading.specs.Reading.{holds, isSevenPairs, isOrphans, ofForm}
+use Rattle.reading.specs.Reading.{holds, isSevenPairs, isOrphans, ofShape}
 
 -- the list, where the test holds. It is a function so that antt computes it only there
 abbrev pub when {ℓ} : {A : Type ℓ} → Bool → (Unit {0} → List A) → List A
@@ -53,7 +53,7 @@ splits (suc g) n c t = step (splits g) n c t
 
 -- the regular reading of a pair, groups and a place
 abbrev pub regularOf : ℕ → List ℕ → ℕ → Reading
-regularOf pair groups place = record { form = 0; pair = pair; groups = groups; place = place }
+regularOf pair groups place = record { shape = 0; pair = pair; groups = groups; place = place }
 
 -- the reading with a place, where that holds the winning kind
 unfoldable pub placedAt : ℕ → ℕ → List ℕ → ℕ → List Reading
@@ -61,7 +61,7 @@ placedAt win pair groups place = when (holds pair groups place win) (λ _. regul
 
 -- the readings of a pair and groups: each place among the pair and the first n groups
 unfoldable pub placed : ℕ → ℕ → ℕ → List ℕ → List Reading
-placed n win pair groups = concatMap (placedAt win pair groups) (table (suc n) 0 (λ p. p))
+placed n win pair groups = concatMap (placedAt win pair groups) (tabulate (suc n) 0 (λ p. p))
 
 -- the readings with the pair k: each splitting of the other tiles
 unfoldable pub paired : List ℕ → ℕ → ℕ → ℕ → List Reading
@@ -69,9 +69,9 @@ paired t m win k =
     when (leb 2 (getD t k 0)) (λ _. concatMap (λ (gs : List ℕ). placed (4 - m) win k (gs ++ replicate m 68)) (splits (4 - m) 68 0 (less t k 2)))
 
 -- the readings of the other forms: "m = 0"
-unfoldable pub formed : List ℕ → ℕ → List Reading
-formed t m = when (eqb m 0) (λ _. when (isSevenPairs t) (λ _. ofForm 1 ∷ []) ++ when (isOrphans t) (λ _. ofForm 2 ∷ []))
+unfoldable pub shaped : List ℕ → ℕ → List Reading
+shaped t m = when (eqb m 0) (λ _. when (isSevenPairs t) (λ _. ofShape 1 ∷ []) ++ when (isOrphans t) (λ _. ofShape 2 ∷ []))
 
 -- the readings of the tally t with m melds, won by the kind win
 unfoldable pub readings : List ℕ → ℕ → ℕ → List Reading
-readings t m win = concatMap (paired t m win) (table 34 0 (λ k. k)) ++ formed t m
+readings t m win = concatMap (paired t m win) (tabulate 34 0 (λ k. k)) ++ shaped t m

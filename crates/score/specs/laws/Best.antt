@@ -5,14 +5,14 @@ use mathlib.Core.Bool.{Bool, true, false}
 use mathlib.Core.List.{List·Memᴰ as Member}
 use lib.ListN.{length}
 use Rattle.tiles.specs.laws.Tally.{length-tally}
-use Rattle.fields.specs.declared.Hand.{Hand}
-use Rattle.fields.specs.Hand.{isRon, inConcealed, concealedTally}
+use Rattle.hand.specs.declared.Hand.{Hand}
+use Rattle.hand.specs.Hand.{isRon, inConcealed, concealedTally}
 use Rattle.reading.specs.search.Readings.{readings}
 use Rattle.reading.specs.search.Claims.{readings-sound, readings-complete, readings-ordered}
 use Rattle.best.specs.declared.Best.{Best}
 use Rattle.best.specs.search.Best.{bestOf}
 use Rattle.best.specs.laws.First.{Kept, kept-all, kept-same}
-use Rattle.score.specs.Named.{tableOf, seatsOf, IsReadingOf, refusedWith, acceptedAs}
+use Rattle.score.specs.Named.{settingOf, seatsOf, IsReadingOf, refusedWith, acceptedAs}
 use Rattle.score.specs.search.Settled.{settledBy, settledOf}
 
 module _ (h : Hand) (dealer wind : ℕ) where
@@ -21,13 +21,13 @@ module _ (h : Hand) (dealer wind : ℕ) where
   long = length-tally (inConcealed h)
 
   abbrev kept : Best
-  kept = bestOf (tableOf h dealer wind) (concealedTally h) (h .fields .m) (h .fields .winning)
+  kept = bestOf (settingOf h dealer wind) (concealedTally h) (h .fields .m) (h .fields .winning)
 
   -- the search held each reading of the hand against the others
-  pub over-readings : Kept (tableOf h dealer wind) (IsReadingOf h) kept
+  pub over-readings : Kept (settingOf h dealer wind) (IsReadingOf h) kept
   unfolding bestOf
   over-readings =
-      let t = tableOf h dealer wind in
+      let t = settingOf h dealer wind in
       let c = concealedTally h in
       let m = h .fields .m in
       let w = h .fields .winning in

@@ -8,19 +8,12 @@ use borrow.Author.Tests.{ltb-true, ltb-false, le-ltb, ne-eqb}
 use lib.Dec.{ltb, eqb}
 use lib.ListN.{length, getD, take, replicate, length-append, length-map, getD-replicate, List·getD-append, List·getD-map}
 use lib.Seq.{getD-take, getD-append-add, length-take-le, ext-getD}
-use Rattle.tiles.specs.Below.{table}
+use Rattle.tiles.specs.Below.{tabulate}
+use Rattle.tiles.specs.laws.Tabulate.{getD-tabulate}
 use Rattle.reading.specs.Reading.{Ascends}
 use Rattle.reading.specs.laws.Groups.{group-in}
 use Rattle.groups.specs.Melds.{meldCode}
 use Rattle.best.specs.Best.{joined}
-
--- four places
-at-four : (f : ℕ → ℕ) (i : ℕ) → i < 4 → getD (table 4 0 f) i 0 ≡ f i
-at-four f zero h = refl
-at-four f (suc zero) h = refl
-at-four f (suc (suc zero)) h = refl
-at-four f (suc (suc (suc zero))) h = refl
-at-four f (suc (suc (suc (suc i)))) h = absurd (omega arith)
 
 -- a group is no filler
 no-filler : (c : ℕ) (l : List ℕ) → Ascends c l → (i : ℕ) → i < length l → eqb (getD l i 0) 68 ≡ false
@@ -33,7 +26,7 @@ module _ (m : ℕ) (codes melds : List ℕ) (few : m ≤ 4) (size : length codes
   own = codes ++ replicate m 68
 
   abbrev places : List ℕ
-  places = table 4 0 (λ i. cond (ltb i (4 - m)) 68 (meldCode (getD melds (i - (4 - m)) 0)))
+  places = tabulate 4 0 (λ i. cond (ltb i (4 - m)) 68 (meldCode (getD melds (i - (4 - m)) 0)))
 
   abbrev after : List ℕ
   after = map meldCode (take m melds)
@@ -49,7 +42,7 @@ module _ (m : ℕ) (codes melds : List ℕ) (few : m ≤ 4) (size : length codes
   at-meld : (j : ℕ) → j < m → cond (eqb (getD own (length codes + j) 0) 68) (getD places (length codes + j) 0) (getD own (length codes + j) 0) ≡ getD (codes ++ after) (length codes + j) 0
   at-meld j h =
       let f : 4 - m + j - (4 - m) ≡ j = omega arith in
-      rw (getD-append-add codes (replicate m 68) j 0, getD-append-add codes after j 0, getD-replicate {A = ℕ} m j 68 0 h, at-four (λ i. cond (ltb i (4 - m)) 68 (meldCode (getD melds (i - (4 - m)) 0))) (length codes + j) (omega (arith, size, few, h)), size, le-ltb (4 - m + j) (4 - m) (omega arith), f)
+      rw (getD-append-add codes (replicate m 68) j 0, getD-append-add codes after j 0, getD-replicate {A = ℕ} m j 68 0 h, getD-tabulate 0 4 (λ i. cond (ltb i (4 - m)) 68 (meldCode (getD melds (i - (4 - m)) 0))) (length codes + j) (omega (arith, size, few, h)), size, le-ltb (4 - m + j) (4 - m) (omega arith), f)
       (sym (List·getD-map meldCode (take m melds) j 0 ∙ ap meldCode (getD-take m melds j 0 h)))
 
   at-place : (i : ℕ) → i < 4 → cond (eqb (getD own i 0) 68) (getD places i 0) (getD own i 0) ≡ getD (codes ++ after) i 0
@@ -68,4 +61,4 @@ module _ (m : ℕ) (codes melds : List ℕ) (few : m ≤ 4) (size : length codes
   pub groups-then-melds : joined own places ≡ codes ++ after
   unfolding joined
   groups-then-melds =
-      ext-getD 0 _ (codes ++ after) long (λ i h. at-four (λ k. cond (eqb (getD own k 0) 68) (getD places k 0) (getD own k 0)) i h ∙ at-place i h)
+      ext-getD 0 _ (codes ++ after) long (λ i h. getD-tabulate 0 4 (λ k. cond (eqb (getD own k 0) 68) (getD places k 0) (getD own k 0)) i h ∙ at-place i h)

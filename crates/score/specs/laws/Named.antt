@@ -5,17 +5,17 @@ use mathlib.Core.Bool.{false≢true}
 use mathlib.Core.Logic.{_⊎_, inl, inr, ⊎-elim, _↔_}
 use mathlib.Core.List.{List}
 use native.Mathlib.Omega.{arith}
-use Rattle.fields.specs.declared.Hand.{Hand}
-use Rattle.fields.specs.Hand.{isRon}
-use Rattle.hand.specs.Record.{handOf, readOf}
-use Rattle.hand.specs.Claims.{IsSound, sound}
+use Rattle.hand.specs.declared.Hand.{Hand}
+use Rattle.hand.specs.Hand.{isRon}
+use Rattle.hand_record.specs.Record.{handOf, readOf}
+use Rattle.hand_record.specs.Claims.{IsSound, sound}
 use Rattle.reading.specs.declared.Reading.{Reading}
 use Rattle.reading.specs.Order.{Lex}
 use Rattle.value.specs.declared.Value.{Value}
 use Rattle.best.specs.Best.{worth, figures}
 use Rattle.best.specs.laws.Over.{over-same}
 use Rattle.score.specs.declared.Scored.{Scored}
-use Rattle.score.specs.Named.{tableOf, seatsOf, IsReadingOf, acceptedAs, ReadsWithYaku, IsReported, gainIn, scoredAs, Named, reported, six, seven}
+use Rattle.score.specs.Named.{settingOf, seatsOf, IsReadingOf, acceptedAs, ReadsWithYaku, IsReported, gainIn, scoredAs, Named, reported, six, seven}
 use Rattle.score.specs.search.Settled.{settledOf}
 use Rattle.score.specs.Score.{scoreOf}
 use Rattle.score.specs.laws.Settled.{score-read}
@@ -40,7 +40,7 @@ module _ (h : Hand) (dealer wind : ℕ) where
       (reported (y .0) (record { yaku = (y .1, y .2); first = λ q w. y .4 q (w .0) (w .1) })))
 
   pub only-one : {x y : Scored} → Named h dealer wind x → Named h dealer wind y → x ≡ y
-  only-one (reported r a) (reported q b) = ap (scoredAs h dealer wind) (over-same (tableOf h dealer wind) r q (a .first q (b .yaku)) (b .first r (a .yaku)))
+  only-one (reported r a) (reported q b) = ap (scoredAs h dealer wind) (over-same (settingOf h dealer wind) r q (a .first q (b .yaku)) (b .first r (a .yaku)))
   only-one (reported r a) (six n) = absurd (n r (a .yaku .0))
   only-one (reported r a) (seven q i n) = absurd (n r (a .yaku))
   only-one (six n) (reported r a) = absurd (n r (a .yaku .0))
@@ -52,7 +52,7 @@ module _ (h : Hand) (dealer wind : ℕ) where
 
   pub most : (r q : Reading) → IsReported h dealer wind r → ReadsWithYaku h dealer wind q → gainIn h dealer wind q ≤ gainIn h dealer wind r
   most r q a w =
-      gain-le (worth (tableOf h dealer wind) q) (worth (tableOf h dealer wind) r) (⊎-elim (λ l. inl l) (λ k. inr (k .0)) (a .first q w))
+      gain-le (worth (settingOf h dealer wind) q) (worth (settingOf h dealer wind) r) (⊎-elim (λ l. inl l) (λ k. inr (k .0)) (a .first q w))
 
   -- ---- of any answer that is named
 

@@ -7,25 +7,25 @@ use native.Mathlib.Omega.{arith}
 use borrow.Author.Tests.{ltb-false, le-ltb}
 use lib.Dec.{ltb, leb}
 use Rattle.tiles.specs.laws.Below.{cond-le}
-use Rattle.fields.specs.declared.Fields.{Fields}
-use Rattle.fields.specs.declared.Hand.{Hand}
-use Rattle.fields.specs.Hand.{isRon, concealedTally}
-use Rattle.hand.specs.declared.Answer.{Answer}
-use Rattle.hand.specs.declared.Answer.the-variants.{Sound, Refused}
-use Rattle.hand.specs.declared.HandRead.{HandRead}
-use Rattle.hand.specs.Record.{numberOf, handOf, readOf}
-use Rattle.hand.specs.laws.Bounds.{answer-is, hand-is, refused-number}
+use Rattle.hand.specs.declared.Fields.{Fields}
+use Rattle.hand.specs.declared.Hand.{Hand}
+use Rattle.hand.specs.Hand.{isRon, concealedTally}
+use Rattle.hand_record.specs.declared.Answer.{Answer}
+use Rattle.hand_record.specs.declared.Answer.the-variants.{Sound, Refused}
+use Rattle.hand_record.specs.declared.HandRead.{HandRead}
+use Rattle.hand_record.specs.Record.{refusalIn, handOf, readOf}
+use Rattle.hand_record.specs.laws.Bounds.{answer-is, hand-is, refused-number}
 use Rattle.reading.specs.declared.Reading.{Reading}
 use Rattle.reading.specs.search.Readings.{readings}
 use Rattle.reading.specs.search.Judged.{judged}
 use Rattle.points.specs.Points.{plain, limit, ordinary, basic}
 use Rattle.value.specs.Value.{valueOf}
-use Rattle.best.specs.declared.Table.{Table}
+use Rattle.best.specs.declared.Setting.{Setting}
 use Rattle.best.specs.declared.Best.{Best}
 use Rattle.best.specs.Best.{worth, withYaku}
 use Rattle.best.specs.search.Best.{beats, noneOf, judgeOf, bestOf}
 use Rattle.score.specs.declared.Scored.{Scored}
-use Rattle.score.specs.Named.{tableOf, seatsOf, refusedWith, acceptedAs}
+use Rattle.score.specs.Named.{settingOf, seatsOf, refusedWith, acceptedAs}
 use Rattle.score.specs.search.Settled.{settledBy, settledOf}
 use Rattle.score.specs.Score.{scoredBy, scoreOf}
 
@@ -48,11 +48,11 @@ pub basic-le : (y : Bool) (h f : ℕ) → basic y h f ≤ 8000
 unfolding basic
 basic-le y h f = cond-le y _ _ 8000 (omega arith) (omega (arith, ordinary-le h f))
 
-worth-le : (t : Table) (r : Reading) → worth t r .basic .0 ≤ 8000
+worth-le : (t : Setting) (r : Reading) → worth t r .basic .0 ≤ 8000
 unfolding worth valueOf
 worth-le t r = basic-le _ _ _
 
-judge-le : (t : Table) (b : Best) (r : Reading) → b .value .basic .0 ≤ 8000 → judgeOf t b r .value .basic .0 ≤ 8000
+judge-le : (t : Setting) (b : Best) (r : Reading) → b .value .basic .0 ≤ 8000 → judgeOf t b r .value .basic .0 ≤ 8000
 unfolding judgeOf
 judge-le t b r h = go (withYaku t r && (not (b .valued) || beats (worth t r) (b .value)))
   where
@@ -60,26 +60,26 @@ judge-le t b r h = go (withYaku t r && (not (b .valued) || beats (worth t r) (b 
     go true = worth-le t r
     go false = h
 
-judged-le : (t : Table) (b : Best) (rs : List Reading) → b .value .basic .0 ≤ 8000 → judged (judgeOf t) b rs .value .basic .0 ≤ 8000
+judged-le : (t : Setting) (b : Best) (rs : List Reading) → b .value .basic .0 ≤ 8000 → judged (judgeOf t) b rs .value .basic .0 ≤ 8000
 unfolding judged
 judged-le t b [] h = h
 judged-le t b (r ∷ rs) h = judged-le t (judgeOf t b r) rs (judge-le t b r h)
 
-pub best-le : (t : Table) (c : List ℕ) (m win : ℕ) → bestOf t c m win .value .basic .0 ≤ 8000
+pub best-le : (t : Setting) (c : List ℕ) (m win : ℕ) → bestOf t c m win .value .basic .0 ≤ 8000
 unfolding bestOf noneOf
 best-le t c m win = judged-le t noneOf (readings c m win) (omega arith)
 
-pub basic-kept : (b : Best) (t : Table) (c : List ℕ) (m win : ℕ) → b ≡ bestOf t c m win → b .value .basic .0 ≤ 8000
+pub basic-kept : (b : Best) (t : Setting) (c : List ℕ) (m win : ℕ) → b ≡ bestOf t c m win → b .value .basic .0 ≤ 8000
 basic-kept b t c m win e = rw e (best-le t c m win)
 
 -- ---- a sound hand, by what the search kept
 
-module _ (h : Hand) (dealer wind : ℕ) (t : Table) (c : List ℕ) (b : Best) (et : t ≡ tableOf h dealer wind) (ec : c ≡ concealedTally h) (eb : b ≡ bestOf t c (h .fields .m) (h .fields .winning)) where
+module _ (h : Hand) (dealer wind : ℕ) (t : Setting) (c : List ℕ) (b : Best) (et : t ≡ settingOf h dealer wind) (ec : c ≡ concealedTally h) (eb : b ≡ bestOf t c (h .fields .m) (h .fields .winning)) where
   settled-by : settledBy b (seatsOf h dealer) (isRon (h .fields)) ≡ settledOf h dealer wind
   unfolding settledOf
   settled-by =
       ap (λ (x : Best). settledBy x (seatsOf h dealer) (isRon (h .fields)))
-      (eb ∙ ap (λ (x : Table). bestOf x c (h .fields .m) (h .fields .winning)) et ∙ ap (λ (x : List ℕ). bestOf (tableOf h dealer wind) x (h .fields .m) (h .fields .winning)) ec)
+      (eb ∙ ap (λ (x : Setting). bestOf x c (h .fields .m) (h .fields .winning)) et ∙ ap (λ (x : List ℕ). bestOf (settingOf h dealer wind) x (h .fields .m) (h .fields .winning)) ec)
 
   pub settled-accepted : b .seen ≡ true → b .valued ≡ true → acceptedAs (b .value) (seatsOf h dealer) (isRon (h .fields)) ≡ settledOf h dealer wind
   unfolding settledBy
@@ -104,9 +104,9 @@ module _ (s : List ℕ) (dealer wind : ℕ) (r : HandRead) (q : ltb 3 dealer || 
   unfolding scoreOf
   by-answer a told = rw q (ap (λ (x : Answer). scoredBy x (handOf (readOf s)) dealer wind) (sym (answer-is s r e told)))
 
-  pub scored-refused : (n w : ℕ) (x : Scored) → r .answer ≡ Refused n → w ≡ numberOf (r .answer) → x ≡ refusedWith w → x ≡ scoreOf s dealer wind
+  pub scored-refused : (n w : ℕ) (x : Scored) → r .answer ≡ Refused n → w ≡ refusalIn (r .answer) → x ≡ refusedWith w → x ≡ scoreOf s dealer wind
   unfolding scoredBy
-  scored-refused n w x told why ex = ex ∙ ap refusedWith (why ∙ ap numberOf told) ∙ by-answer (Refused n) told
+  scored-refused n w x told why ex = ex ∙ ap refusedWith (why ∙ ap refusalIn told) ∙ by-answer (Refused n) told
 
   pub scored-sound : (f : Fields) (x : Scored) → r .answer ≡ Sound f → x ≡ settledOf (record { fields = f; melds = r .melds; concealed = r .concealed }) dealer wind → x ≡ scoreOf s dealer wind
   unfolding scoredBy
@@ -115,21 +115,21 @@ module _ (s : List ℕ) (dealer wind : ℕ) (r : HandRead) (q : ltb 3 dealer || 
 -- ---- a record, by what Read answers
 
 module _ (s : List ℕ) (dealer wind : ℕ) (d : dealer ≤ 3) (w : wind ≤ 1) where
-  at-table : ltb 3 dealer || ltb 1 wind ≡ false
-  at-table = rw (le-ltb 3 dealer d, le-ltb 1 wind w)
+  seats-right : ltb 3 dealer || ltb 1 wind ≡ false
+  seats-right = rw (le-ltb 3 dealer d, le-ltb 1 wind w)
 
-  pub score-read : numberOf (readOf s .answer) ≡ 0 → scoreOf s dealer wind ≡ settledOf (handOf (readOf s)) dealer wind
+  pub score-read : refusalIn (readOf s .answer) ≡ 0 → scoreOf s dealer wind ≡ settledOf (handOf (readOf s)) dealer wind
   unfolding scoreOf scoredBy
-  score-read e = rw at-table (go (readOf s .answer) refl)
+  score-read e = rw seats-right (go (readOf s .answer) refl)
     where
       go : (a : Answer) → readOf s .answer ≡ a → scoredBy a (handOf (readOf s)) dealer wind ≡ settledOf (handOf (readOf s)) dealer wind
-      go (Refused n) q = let z : n ≡ 0 = ap numberOf (sym q) ∙ e in absurd (omega (arith, refused-number s n q))
+      go (Refused n) q = let z : n ≡ 0 = ap refusalIn (sym q) ∙ e in absurd (omega (arith, refused-number s n q))
       go (Sound f) q = refl
 
-  pub score-unread : (n : ℕ) → numberOf (readOf s .answer) ≡ n → 0 < n → scoreOf s dealer wind ≡ refusedWith n
+  pub score-unread : (n : ℕ) → refusalIn (readOf s .answer) ≡ n → 0 < n → scoreOf s dealer wind ≡ refusedWith n
   unfolding scoreOf scoredBy
-  score-unread n e l = rw at-table (go (readOf s .answer) refl)
+  score-unread n e l = rw seats-right (go (readOf s .answer) refl)
     where
       go : (a : Answer) → readOf s .answer ≡ a → scoredBy a (handOf (readOf s)) dealer wind ≡ refusedWith n
-      go (Refused k) q = ap refusedWith (ap numberOf (sym q) ∙ e)
-      go (Sound f) q = let z : 0 ≡ n = ap numberOf (sym q) ∙ e in absurd (omega arith)
+      go (Refused k) q = ap refusedWith (ap refusalIn (sym q) ∙ e)
+      go (Sound f) q = let z : 0 ≡ n = ap refusalIn (sym q) ∙ e in absurd (omega arith)

@@ -1,13 +1,13 @@
 -- How the code finds what a sound hand scores: from what the search for the best reading kept. What it finds is stated by `named` and `only-one` of score/specs/Claims.
 use mathlib.Core.Bool.{Bool, cond}
 use Prim.Native.Nat.{ℕ}
-use Rattle.fields.specs.declared.Hand.{Hand}
-use Rattle.fields.specs.Hand.{isRon, concealedTally}
+use Rattle.hand.specs.declared.Hand.{Hand}
+use Rattle.hand.specs.Hand.{isRon, concealedTally}
 use Rattle.points.specs.declared.Seats.{Seats}
 use Rattle.best.specs.declared.Best.{Best}
 use Rattle.best.specs.search.Best.{bestOf}
 use Rattle.score.specs.declared.Scored.{Scored}
-use Rattle.score.specs.Named.{seatsOf, tableOf, refusedWith, acceptedAs}
+use Rattle.score.specs.Named.{seatsOf, settingOf, refusedWith, acceptedAs}
 
 -- "6, no reading; 7, readings but none with a yaku"
 unfoldable pub settledBy : Best → Seats → Bool → Scored
@@ -16,4 +16,4 @@ settledBy b s ron = cond (b .seen) (cond (b .valued) (acceptedAs (b .value) s ro
 -- what a sound hand scores
 unfoldable pub settledOf : Hand → ℕ → ℕ → Scored
 settledOf h dealer wind =
-    settledBy (bestOf (tableOf h dealer wind) (concealedTally h) (h .fields .m) (h .fields .winning)) (seatsOf h dealer) (isRon (h .fields))
+    settledBy (bestOf (settingOf h dealer wind) (concealedTally h) (h .fields .m) (h .fields .winning)) (seatsOf h dealer) (isRon (h .fields))

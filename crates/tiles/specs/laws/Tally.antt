@@ -9,9 +9,10 @@ use lib.Dec.{eqb, ltb}
 use lib.ListN.{getD, set, length, List·getD-eq-default}
 use lib.Seq.{getD-set-same, getD-set-other, ext-getD}
 use borrow.Author.Tests.{eqb-true, eqb-false, ltb-true, ltb-false}
-use Rattle.tiles.specs.Below.{table}
+use Rattle.tiles.specs.Below.{tabulate}
 use Rattle.tiles.specs.Groups.{at}
 use Rattle.tiles.specs.Tally.{tallyOf}
+use Rattle.tiles.specs.laws.Tabulate.{length-tabulate, getD-tabulate}
 
 -- n more tiles of kind k; what is no kind is not counted
 unfoldable pub more : List ℕ → ℕ → ℕ → List ℕ
@@ -22,22 +23,13 @@ unfoldable pub held : List ℕ → ℕ → ℕ
 held [] k = 0
 held (x ∷ l) k = at x 1 k + held l k
 
-length-table : (n i : ℕ) (f : ℕ → ℕ) → length (table n i f) ≡ n
-length-table zero i f = refl
-length-table (suc n) i f = ap suc (length-table n (suc i) f)
-
-getD-table : (n i : ℕ) (f : ℕ → ℕ) (k : ℕ) → k < n → getD (table n i f) k 0 ≡ f (i + k)
-getD-table zero i f k h = absurd (not-suc-le-zero h)
-getD-table (suc n) i f zero h = ap f (sym (add-zero i))
-getD-table (suc n) i f (suc k) h = getD-table n (suc i) f k (le-of-suc-le-suc h) ∙ ap f (suc-add i k ∙ sym (add-suc i k))
-
 pub length-tally : (f : ℕ → ℕ) → length (tallyOf f) ≡ 34
 unfolding tallyOf
-length-tally f = length-table 34 0 f
+length-tally f = length-tabulate 34 0 f
 
 pub getD-tally : (f : ℕ → ℕ) (k : ℕ) → k < 34 → getD (tallyOf f) k 0 ≡ f k
 unfolding tallyOf
-getD-tally f k h = getD-table 34 0 f k h ∙ ap f (native.Mathlib.Nat.zero-add k)
+getD-tally f k h = getD-tabulate 0 34 f k h
 
 -- a list of 34 numbers is the tally of what it holds
 pub tally-ext : (t : List ℕ) (f : ℕ → ℕ) → length t ≡ 34 → ((k : ℕ) → k < 34 → getD t k 0 ≡ f k) → t ≡ tallyOf f

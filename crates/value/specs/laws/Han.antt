@@ -6,13 +6,13 @@ use Prim.Native.Nat.{ℕ, _+_, _*_, _/_, _%_, _≤_, _<_}
 use borrow.Author.Tests.{eqb-true, leb-true}
 use lib.Dec.{eqb, leb}
 use lib.ListN.{getD}
-use Rattle.tiles.specs.Below.{table, every}
+use Rattle.tiles.specs.Below.{tabulate, every}
 use Rattle.tiles.specs.laws.Below.{every-at, and-true}
 use Rattle.value.specs.Han.{closedHan, openHan}
 
 -- 16 times the han of a closed hand, and those of an open one
 abbrev pub bothHan : List ℕ
-bothHan = table 37 0 (λ n. 16 * getD closedHan n 0 + getD openHan n 0)
+bothHan = tabulate 37 0 (λ n. 16 * getD closedHan n 0 + getD openHan n 0)
 
 -- the table that goes for a hand
 abbrev pub hanFor : Bool → List ℕ

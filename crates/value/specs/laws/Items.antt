@@ -47,4 +47,4 @@ module _ (w : Won) (p : Parts) where
 
   pub added-is-fu : (yakuman : Bool) → added (itemsOf w p yakuman) ≡ fuOf w p yakuman
   unfolding itemsOf fuOf sum
-  added-is-fu yakuman = by-case yakuman (eqb (p .form) 1)
+  added-is-fu yakuman = by-case yakuman (eqb (p .shape) 1)

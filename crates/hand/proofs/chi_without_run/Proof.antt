@@ -1,0 +1,11 @@
+-- `hand::chi_without_run` meets its contract: each call gives its part. Assumes nothing.
+use borrow.Author.Needs.{needs}
+use Rattle.hand.proofs.chi_without_run.Statement.{statement}
+use Rattle.hand.proofs.chi_without_run.Tie as tie
+
+pub chi-without-run-spec : {M : Type 1} → statement M
+chi-without-run-spec =
+    tie.close
+    (tie.spec
+    (λ c. search needs) (λ c κs. search needs) (λ c. search needs) (λ c κs. search needs) (λ c. search needs)
+    (λ c κs. search needs) (λ c. search needs) (λ c κs. search needs) (λ c. cc))

@@ -1,0 +1,134 @@
+-- The hand record: its bits, Read and Write (01, Tiles and the hand record).
+use mathlib.Core.Bool.{Bool, _||_, cond, not}
+use mathlib.Core.List.{List, [], _∷_, _++_}
+use Prim.Native.Nat.{ℕ, _+_, _*_, _-_}
+use lib.Dec.{ltb, eqb}
+use lib.ListN.{length, getD, take, drop, replicate}
+use Rattle.bits.specs.Bits.{unpack, eights, bitsOf, bytesOf, fill}
+use Rattle.hand.specs.declared.Fields.{Fields}
+use Rattle.hand.specs.declared.Hand.{Hand}
+use Rattle.hand.specs.Refusals.{refusalOf, unwritable}
+use Rattle.hand_record.specs.declared.Answer.{Answer}
+use Rattle.hand_record.specs.declared.Answer.the-variants.{Sound, Refused}
+use Rattle.hand_record.specs.declared.HandRead.{HandRead}
+use Rattle.hand_record.specs.declared.Written.{Written}
+
+-- ---- the layout
+
+-- "how 1; winner 2; discarder 2; riichi 2; situation 3; dora indicator 6; winning tile 6; meld count m 3"
+abbrev pub head : List ℕ
+head = 1 ∷ 2 ∷ 2 ∷ 2 ∷ 3 ∷ 6 ∷ 6 ∷ 3 ∷ []
+
+-- "other concealed tiles of 6": n widths of 6
+abbrev pub sixes : ℕ → List ℕ
+sixes n = replicate n 6
+
+-- "13, 12, 11, 10, 8 bytes for m = 0 to 4"
+abbrev pub lengthOf : ℕ → ℕ
+lengthOf m = getD (13 ∷ 12 ∷ 11 ∷ 10 ∷ 8 ∷ []) m 0
+
+-- "zero bits to the byte": how many
+abbrev pub padOf : ℕ → ℕ
+padOf m = getD (1 ∷ 3 ∷ 5 ∷ 7 ∷ 1 ∷ []) m 0
+
+-- all fields of a record with m melds: "m melds of 8; 13 − 3m other concealed tiles of 6"
+unfoldable pub widths : ℕ → List ℕ
+widths m = head ++ (eights m ++ (sixes (13 - 3 * m) ++ (padOf m ∷ [])))
+
+-- ---- the parts of a record's bits
+
+-- "how; winner; discarder; riichi; situation; dora indicator; winning tile; meld count m", in this order
+abbrev pub headerOf : List ℕ → Fields
+headerOf l =
+    record { how = getD l 0 0; winner = getD l 1 0; discarder = getD l 2 0; riichi = getD l 3 0; situation = getD l 4 0; indicator = getD l 5 0; winning = getD l 6 0; m = getD l 7 0 }
+
+-- "how; winner; ..; meld count m" of a record's bits: its first 25
+unfoldable pub headOf : List ℕ → Fields
+headOf bits = headerOf (unpack head bits)
+
+-- "m melds of 8", after them
+unfoldable pub meldsOf : ℕ → List ℕ → List ℕ
+meldsOf m bits = unpack (eights m) (drop 25 bits)
+
+-- "13 − 3m other concealed tiles of 6", after the melds
+unfoldable pub tilesOf : ℕ → List ℕ → List ℕ
+tilesOf m bits = unpack (sixes (13 - 3 * m)) (drop (25 + 8 * m) bits)
+
+-- "zero bits to the byte", after the tiles: as a number, 0 where none is set
+unfoldable pub paddingOf : ℕ → List ℕ → ℕ
+paddingOf m bits = getD (unpack (padOf m ∷ []) (drop (25 + 8 * m + 6 * (13 - 3 * m)) bits)) 0 0
+
+-- the hand that the bits of a record with m melds are; an "unused place" is zero
+unfoldable pub handIn : ℕ → List ℕ → Hand
+handIn m bits = record { fields = headOf bits; melds = fill 4 (meldsOf m bits); concealed = fill 13 (tilesOf m bits) }
+
+-- ---- Read
+
+-- "It then returns an all-zero hand."
+abbrev pub refusedWith : ℕ → HandRead
+refusedWith n = record { answer = Refused n; melds = replicate 4 0; concealed = replicate 13 0 }
+
+-- "A record that meets none of these is sound": its hand
+abbrev pub soundAs : Hand → HandRead
+soundAs h = record { answer = Sound (h .fields); melds = h .melds; concealed = h .concealed }
+
+-- the number of an answer: "Read refuses .. 1 .. 5"; 0 where the record is sound
+abbrev pub refusalIn : Answer → ℕ
+refusalIn (Sound f) = 0
+refusalIn (Refused n) = n
+
+-- the fields of an answer: "all-zero" where it is refused
+abbrev pub fieldsOf : Answer → Fields
+fieldsOf (Sound f) = f
+fieldsOf (Refused n) = record { how = 0; winner = 0; discarder = 0; riichi = 0; situation = 0; indicator = 0; winning = 0; m = 0 }
+
+-- the hand that Read "returns"
+abbrev pub handOf : HandRead → Hand
+handOf r = record { fields = fieldsOf (r .answer); melds = r .melds; concealed = r .concealed }
+
+-- 1: "under 4 bytes, m over 4, or a length not m's"
+abbrev pub wrongLength : ℕ → ℕ → Bool
+wrongLength n m = ltb n 4 || ltb 4 m || not (eqb n (lengthOf m))
+
+-- "meld count m" as the record has it
+abbrev pub countIn : List ℕ → ℕ
+countIn s = headOf (bitsOf s) .m
+
+-- the hand, or the refusal j where there is one: "It then returns an all-zero hand"
+unfoldable pub answerBy : Hand → ℕ → HandRead
+answerBy h j = cond (ltb 0 j) (refusedWith j) (soundAs h)
+
+-- "2 .. 5" of a record of the right length, by its bits
+unfoldable pub judged : ℕ → List ℕ → HandRead
+judged m bits = answerBy (handIn m bits) (refusalOf (handIn m bits) (paddingOf m bits))
+
+-- "Read refuses, first match wins": 1, or what the bits say
+unfoldable pub readOf : List ℕ → HandRead
+readOf s = cond (wrongLength (length s) (countIn s)) (refusedWith 1) (judged (countIn s) (bitsOf s))
+
+-- ---- Write
+
+-- the fields in the record's order: "how; winner; discarder; .."
+abbrev pub headList : Fields → List ℕ
+headList f = f .how ∷ f .winner ∷ f .discarder ∷ f .riichi ∷ f .situation ∷ f .indicator ∷ f .winning ∷ f .m ∷ []
+
+-- and all values of a record: the m melds, the 13 − 3m tiles, "zero bits to the byte"
+unfoldable pub valuesOf : Hand → List ℕ
+valuesOf h = headList (h .fields) ++ (take (h .fields .m) (h .melds) ++ (take (13 - 3 * h .fields .m) (h .concealed) ++ (0 ∷ [])))
+
+-- "Write takes a hand": its record, each value at its width, as bytes
+unfoldable pub recordOf : Hand → List ℕ
+recordOf h = bytesOf (lengthOf (h .fields .m)) (widths (h .fields .m)) (valuesOf h)
+
+-- "Refusals: 2, 3, 4, 5 as above, then 13: buffer shorter than the record"
+unfoldable pub writeRefusal : Hand → List ℕ → ℕ
+writeRefusal h buf = cond (ltb 0 (unwritable h)) (unwritable h) (cond (ltb (length buf) (lengthOf (h .fields .m))) 13 0)
+
+-- "It returns the length, 0 if refused"
+unfoldable pub writtenOf : Hand → List ℕ → Written
+writtenOf h buf =
+    cond (ltb 0 (writeRefusal h buf)) (record { refusal = writeRefusal h buf; len = 0 }) (record { refusal = 0; len = lengthOf (h .fields .m) })
+
+-- "bytes past the record stay"; "a refused write changes no byte of the buffer"
+unfoldable pub bufferOf : Hand → List ℕ → List ℕ
+bufferOf h buf = cond (ltb 0 (writeRefusal h buf)) buf (recordOf h ++ drop (lengthOf (h .fields .m)) buf)

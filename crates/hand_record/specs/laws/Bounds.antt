@@ -1,0 +1,67 @@
+-- The fields of a hand that was read are within their ranges. Assumes nothing.
+use Prim.Native.Nat.{ℕ, zero, suc, _≤_, _<_}
+use native.Mathlib.Omega.{arith}
+use mathlib.Core.Path.{_≡_, ap, sym, _∙_, subst}
+use mathlib.Core.Bool.{Bool, false, _||_}
+use mathlib.Core.List.{List}
+use borrow.Author.Tests.{ltb-false}
+use lib.Dec.{ltb}
+use Rattle.tiles.specs.laws.Below.{or-both}
+use Rattle.bits.specs.Bits.{bitsOf}
+use Rattle.hand.specs.declared.Fields.{Fields}
+use Rattle.hand.specs.declared.Hand.{Hand}
+use Rattle.hand_record.specs.declared.Answer.{Answer}
+use Rattle.hand_record.specs.declared.Answer.the-variants.{Sound, Refused}
+use Rattle.hand_record.specs.declared.HandRead.{HandRead}
+use Rattle.hand_record.specs.Record.{refusalIn, fieldsOf, handOf, countIn, handIn, readOf}
+use Rattle.hand_record.specs.laws.Clean.{kinds-of, Accepted, accepted-of}
+use Rattle.hand_record.specs.laws.Round.{as-read, accepted-back}
+use Rattle.hand_record.specs.laws.Claims.{is-read}
+
+pub record Bounds (h : Hand) : Type 0 where
+  pub few : h .fields .m ≤ 4
+  pub winner : h .fields .winner ≤ 3
+  pub discarder : h .fields .discarder ≤ 3
+  pub winning : h .fields .winning ≤ 33
+  pub indicator : h .fields .indicator ≤ 33
+
+-- what a hand that Write accepts has
+pub bounds-of : (h : Hand) → Accepted h → Bounds h
+bounds-of h y =
+    let f = h .fields in
+    let p = four (ltb 4 (f .m)) (ltb 1 (f .how)) (ltb 3 (f .winner)) (ltb 3 (f .discarder)) (ltb 3 (f .riichi)) (ltb 7 (f .situation)) (y .large) in
+    let k = kinds-of h 0 (y .clean .fields) in
+    record { few = ltb-false 4 (f .m) (p .0); winner = ltb-false 3 (f .winner) (p .1); discarder = ltb-false 3 (f .discarder) (p .2); winning = k .winning; indicator = k .indicator }
+  where
+    four : (a b c d u v : Bool) → a || b || c || d || u || v ≡ false → (a ≡ false) × (c ≡ false) × (d ≡ false)
+    four a b c d u v q =
+        let q3 = or-both (a || b || c) d (or-both (a || b || c || d) u (or-both (a || b || c || d || u) v q .0) .0) in
+        let q2 = or-both (a || b) c (q3 .0) in
+        (or-both a b (q2 .0) .0, q2 .1, q3 .1)
+
+-- what is read as sound
+pub read-bounds : (s : List ℕ) → refusalIn (readOf s .answer) ≡ 0 → Bounds (handOf (readOf s))
+read-bounds s e =
+    let y = is-read s e in
+    let h : Hand = handIn (countIn s) (bitsOf s) in
+    subst (λ (x : Hand). Bounds x) (sym (ap handOf (as-read s h y))) (bounds-of h (accepted-of h (accepted-back s h y)))
+
+-- what a reader's answer says of the record: r is what Read gave
+module _ (s : List ℕ) (r : HandRead) (e : r ≡ readOf s) where
+  pub answer-is : {a : Answer} → r .answer ≡ a → readOf s .answer ≡ a
+  answer-is told = ap (λ (x : HandRead). x .answer) (sym e) ∙ told
+
+  pub hand-is : (f : Fields) → r .answer ≡ Sound f → record { fields = f; melds = r .melds; concealed = r .concealed } ≡ handOf (readOf s)
+  hand-is f told = ap (λ (x : Answer). record { fields = fieldsOf x; melds = r .melds; concealed = r .concealed }) (sym told) ∙ ap handOf e
+
+  pub hand-bounds : (f : Fields) → r .answer ≡ Sound f → Bounds (record { fields = f; melds = r .melds; concealed = r .concealed })
+  hand-bounds f told = subst (λ (x : Hand). Bounds x) (sym (hand-is f told)) (read-bounds s (ap refusalIn (answer-is told)))
+
+-- a refusal has a number
+pub refused-number : (s : List ℕ) (n : ℕ) → readOf s .answer ≡ Refused n → 0 < n
+refused-number s zero e =
+    let x : Hand = handIn (countIn s) (bitsOf s) in
+    let a : readOf s .answer ≡ Sound (x .fields) = ap (λ (r : HandRead). r .answer) (as-read s x (is-read s (ap refusalIn e))) in
+    let z : _≡_ {A = ℕ} 0 1 = cc in
+    absurd (omega arith)
+refused-number s (suc n) e = omega arith

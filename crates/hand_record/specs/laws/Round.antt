@@ -1,0 +1,290 @@
+-- A sound record read and written back gives the same bytes; an accepted hand written and read gives the same hand. Assumes nothing.
+use Prim.Native.Nat.{ℕ, _+_, _*_, _-_, _<_, _≤_}
+use mathlib.Core.Path.{_≡_, refl, sym, ap, _∙_, subst}
+use mathlib.Core.Bool.{Bool, true, false, _||_, cond}
+use mathlib.Core.List.{List, [], _∷_, _++_}
+use native.Mathlib.Omega.{arith}
+use borrow.Author.Tests.{ltb-true, ltb-false, le-ltb}
+use lib.Dec.{ltb}
+use lib.ListN.{length, getD, take, drop, length-replicate, length-take, List·getD-eq-default}
+use lib.Seq.{length-take-le, drop-drop, getD-take}
+use lib.Pow.{pow-pos}
+use Rattle.tiles.specs.laws.Below.{or-both}
+use Rattle.bits.specs.Bits.{pack, unpack, sum, eights, bitsOf, fill, Below}
+use Rattle.bits.specs.laws.Pack.{FitIn, fieldsOf, unpack-fit, unpack-append, below-pack, below-take, length-unpack, sum-replicate, bytes-fields, fields-bytes, length-bitsOf, fit-cons, fit-nil, fit-all, fit-run, fit-append, app-inj}
+use Rattle.hand.specs.declared.Fields.{Fields}
+use Rattle.hand.specs.declared.Hand.{Hand}
+use Rattle.hand.specs.Refusals.{tooLarge, unusedNotZero, refusalOf, unwritable}
+use Rattle.hand_record.specs.declared.HandRead.{HandRead}
+use Rattle.hand_record.specs.declared.Answer.the-variants.{Sound, Refused}
+use Rattle.hand_record.specs.Record.{head, headerOf, headList, sixes, lengthOf, padOf, headOf, meldsOf, tilesOf, paddingOf, handIn, refusedWith, soundAs, wrongLength, countIn, answerBy, judged, readOf, widths, valuesOf, recordOf}
+use Rattle.hand_record.specs.laws.Clean.{clean-of, of-clean, kinds-of, Accepted, accepted-of}
+use Rattle.hand_record.specs.laws.Fill.{take-fill, fill-past, fill-take, unused-of, zeros-of}
+use Rattle.hand_record.specs.laws.Read.{whole, Form, form-of, form-right}
+use Rattle.hand_record.specs.laws.Write.{sum-widths, length-widths, few-melds}
+
+-- ---- the fields of a record's bits, part by part
+
+unpack-widths : (m : ℕ) (b : List ℕ) → unpack (widths m) b ≡ unpack head b ++ (meldsOf m b ++ (tilesOf m b ++ (paddingOf m b ∷ [])))
+unfolding widths meldsOf tilesOf paddingOf
+unpack-widths m bits =
+    let k : ℕ = 13 - 3 * m in
+    let b1 : List ℕ = drop 25 bits in
+    let b2 : List ℕ = drop (25 + 8 * m) bits in
+    let e2 : drop (sum (eights m)) b1 ≡ b2 = rw sum-replicate (drop-drop (8 * m) 25 bits) in
+    let e3 : drop (sum (sixes k)) b2 ≡ drop (25 + 8 * m + 6 * k) bits = rw sum-replicate (drop-drop (6 * k) (25 + 8 * m) bits) in
+    let p1 = unpack-append head (eights m ++ (sixes k ++ (padOf m ∷ []))) bits in
+    let p2 : unpack (eights m ++ (sixes k ++ (padOf m ∷ []))) b1 ≡ unpack (eights m) b1 ++ unpack (sixes k ++ (padOf m ∷ [])) b2 =
+    rw e2 at (unpack-append (eights m) (sixes k ++ (padOf m ∷ [])) b1) in
+    let p3 : unpack (sixes k ++ (padOf m ∷ [])) b2 ≡ unpack (sixes k) b2 ++ unpack (padOf m ∷ []) (drop (25 + 8 * m + 6 * k) bits) =
+    rw e3 at (unpack-append (sixes k) (padOf m ∷ []) b2) in
+    p1 ∙ ap (λ (l : List ℕ). unpack head bits ++ l) (p2 ∙ ap (λ (l : List ℕ). unpack (eights m) b1 ++ l) p3)
+
+melds-length : (m : ℕ) (b : List ℕ) → length (meldsOf m b) ≡ m
+unfolding meldsOf
+melds-length m b = length-unpack (eights m) (drop 25 b) ∙ length-replicate m 8
+
+tiles-length : (m : ℕ) (b : List ℕ) → length (tilesOf m b) ≡ 13 - 3 * m
+unfolding tilesOf
+tiles-length m b = length-unpack (sixes (13 - 3 * m)) (drop (25 + 8 * m) b) ∙ length-replicate (13 - 3 * m) 6
+
+head-list : (b : List ℕ) → headList (headOf b) ≡ unpack head b
+unfolding headOf
+head-list b = refl
+
+head-back : (f : Fields) (b : List ℕ) → unpack head b ≡ headList f → headOf b ≡ f
+unfolding headOf
+head-back f b e = ap headerOf e
+
+-- ---- what a sound answer says
+
+pub record ReadAs (s : List ℕ) (h : Hand) : Type 0 where
+  pub form : Form (length s) (countIn s)
+  pub is-hand : h ≡ handIn (countIn s) (bitsOf s)
+  pub unrefused : refusalOf h (paddingOf (countIn s) (bitsOf s)) ≡ 0
+
+never : (n : ℕ) (h : Hand) → refusedWith n ≡ soundAs h → ⊥
+never n h e =
+    let a : Refused n ≡ Sound (h .fields) = ap (λ (r : HandRead). r .answer) e in
+    let z : _≡_ {A = ℕ} 0 1 = cc in
+    omega arith
+
+cond-sound : (b : Bool) (n : ℕ) (x : HandRead) (h : Hand) → cond b (refusedWith n) x ≡ soundAs h → (b ≡ false) × (x ≡ soundAs h)
+cond-sound true n x h e = absurd (never n h e)
+cond-sound false n x h e = (refl, e)
+
+hand-eq : (x h : Hand) → x .fields ≡ h .fields → x .melds ≡ h .melds → x .concealed ≡ h .concealed → x ≡ h
+hand-eq x h ef em ec =
+    ap (λ (f : Fields). record { fields = f; melds = x .melds; concealed = x .concealed }) ef
+    ∙ ap (λ (l : List ℕ). record { fields = h .fields; melds = l; concealed = x .concealed }) em
+    ∙ ap (λ (l : List ℕ). record { fields = h .fields; melds = h .melds; concealed = l }) ec
+
+sound-inj : (x h : Hand) → soundAs x ≡ soundAs h → x ≡ h
+sound-inj x h e =
+    let a : Sound (x .fields) ≡ Sound (h .fields) = ap (λ (r : HandRead). r .answer) e in
+    let ef : x .fields ≡ h .fields = cc in
+    hand-eq x h ef (ap (λ (r : HandRead). r .melds) e) (ap (λ (r : HandRead). r .concealed) e)
+
+pub read-as : (s : List ℕ) (h : Hand) → readOf s ≡ soundAs h → ReadAs s h
+unfolding readOf judged answerBy
+read-as s h e =
+    let b : List ℕ = bitsOf s in
+    let m : ℕ = countIn s in
+    let x : Hand = handIn m b in
+    let j : ℕ = refusalOf x (paddingOf m b) in
+    let p = cond-sound (wrongLength (length s) m) 1 (answerBy x j) h e in
+    let q = cond-sound (ltb 0 j) j (soundAs x) h (p .1) in
+    let i : h ≡ x = sym (sound-inj x h (q .1)) in
+    let z : j ≡ 0 = omega (arith, ltb-false 0 j (q .0)) in
+    record { form = form-of (length s) m (p .0); is-hand = i; unrefused = rw i z }
+
+pub as-read : (s : List ℕ) (h : Hand) → ReadAs s h → readOf s ≡ soundAs h
+unfolding readOf judged answerBy
+as-read s h y =
+    let z : refusalOf (handIn (countIn s) (bitsOf s)) (paddingOf (countIn s) (bitsOf s)) ≡ 0 = rw (y .is-hand) at (y .unrefused) in
+    rw (form-right (length s) (countIn s) (y .form), z) (ap soundAs (sym (y .is-hand)))
+
+-- the parts of the hand that was read
+module _ (s : List ℕ) (h : Hand) (y : ReadAs s h) where
+  count-is : h .fields .m ≡ countIn s
+  unfolding handIn
+  count-is = ap (λ (x : Hand). x .fields .m) (y .is-hand)
+
+  fields-are : headList (h .fields) ≡ unpack head (bitsOf s)
+  unfolding handIn
+  fields-are = ap (λ (x : Hand). headList (x .fields)) (y .is-hand) ∙ head-list (bitsOf s)
+
+  melds-are : h .melds ≡ fill 4 (meldsOf (h .fields .m) (bitsOf s))
+  unfolding handIn
+  melds-are = ap (λ (x : Hand). x .melds) (y .is-hand) ∙ ap (λ (m : ℕ). fill 4 (meldsOf m (bitsOf s))) (sym count-is)
+
+  tiles-are : h .concealed ≡ fill 13 (tilesOf (h .fields .m) (bitsOf s))
+  unfolding handIn
+  tiles-are = ap (λ (x : Hand). x .concealed) (y .is-hand) ∙ ap (λ (m : ℕ). fill 13 (tilesOf m (bitsOf s))) (sym count-is)
+
+  pub form-is : Form (length s) (h .fields .m)
+  form-is = rw count-is (y .form)
+
+  unrefused-is : refusalOf h (paddingOf (h .fields .m) (bitsOf s)) ≡ 0
+  unrefused-is = ap (λ (m : ℕ). refusalOf h (paddingOf m (bitsOf s))) count-is ∙ y .unrefused
+
+  no-padding : paddingOf (h .fields .m) (bitsOf s) ≡ 0
+  no-padding = kinds-of h _ (clean-of h _ unrefused-is .fields) .padding
+
+  -- the values that are written are the record's own
+  values-are : valuesOf h ≡ fieldsOf (widths (h .fields .m)) s
+  unfolding valuesOf
+  values-are =
+      let m : ℕ = h .fields .m in
+      let b : List ℕ = bitsOf s in
+      let em : take m (h .melds) ≡ meldsOf m b = ap (take m) melds-are ∙ take-fill 4 m (meldsOf m b) (melds-length m b) in
+      let et : take (13 - 3 * m) (h .concealed) ≡ tilesOf m b = ap (take (13 - 3 * m)) tiles-are ∙ take-fill 13 (13 - 3 * m) (tilesOf m b) (tiles-length m b) in
+      ap (λ (l : List ℕ). l ++ (take m (h .melds) ++ (take (13 - 3 * m) (h .concealed) ++ (0 ∷ [])))) fields-are
+      ∙ ap (λ (l : List ℕ). unpack head b ++ (l ++ (take (13 - 3 * m) (h .concealed) ++ (0 ∷ [])))) em
+      ∙ ap (λ (l : List ℕ). unpack head b ++ (meldsOf m b ++ (l ++ (0 ∷ [])))) et
+      ∙ ap (λ (k : ℕ). unpack head b ++ (meldsOf m b ++ (tilesOf m b ++ (k ∷ [])))) (sym no-padding)
+      ∙ sym (unpack-widths m b)
+
+  pub same-bytes : Below 256 s → recordOf h ≡ s
+  unfolding recordOf
+  same-bytes bs =
+      let m : ℕ = h .fields .m in
+      let n : lengthOf m ≡ length s = sym (form-is .right) in
+      rw (values-are, n) (bytes-fields (widths m) s bs (sum-widths m (form-is .few) ∙ ap (λ (k : ℕ). 8 * k) n))
+
+  -- and the hand is accepted for writing
+  pub accepted-back : unwritable h ≡ 0
+  unfolding unwritable
+  accepted-back =
+      let z : refusalOf h 0 ≡ 0 = rw no-padding at unrefused-is in
+      rw (not-large, not-unused) z
+    where
+      not-large : tooLarge (h .fields) ≡ false
+      not-large =
+          let b : List ℕ = bitsOf s in
+          let l = length-bitsOf s in
+          let f = form-is in
+          let g : FitIn head (headList (h .fields)) = subst (λ (x : List ℕ). FitIn head x) (sym fields-are) (unpack-fit head b (below-pack (eights (length s)) s) (omega (arith, f .four))) in
+          rw (
+            le-ltb 4 (h .fields .m) (f .few),
+            le-ltb 1 (h .fields .how) (omega (arith, g 0)),
+            le-ltb 3 (h .fields .winner) (omega (arith, g 1)),
+            le-ltb 3 (h .fields .discarder) (omega (arith, g 2)),
+            le-ltb 3 (h .fields .riichi) (omega (arith, g 3)),
+            le-ltb 7 (h .fields .situation) (omega (arith, g 4)),
+          )
+
+      not-unused : unusedNotZero h ≡ false
+      not-unused = unused-of h
+          (λ i g. rw melds-are (fill-past 4 (meldsOf (h .fields .m) (bitsOf s)) i (omega (arith, melds-length (h .fields .m) (bitsOf s)))))
+          (λ i g. rw tiles-are (fill-past 13 (tilesOf (h .fields .m) (bitsOf s)) i (omega (arith, tiles-length (h .fields .m) (bitsOf s)))))
+
+-- ---- the other way: what is written fits its bits
+
+-- the first k tiles fit six bits
+tiles-below : (k : ℕ) (l : List ℕ) → ((i : ℕ) → i < k → getD l i 0 ≤ 33) → Below 64 (take k l)
+tiles-below k l h i = go (ltb i k) refl
+  where
+    go : (b : Bool) → ltb i k ≡ b → getD (take k l) i 0 < 64
+    go true e = rw (getD-take k l i 0 (ltb-true i k e)) (omega (arith, h i (ltb-true i k e)))
+    go false e = rw (List·getD-eq-default (take k l) 0 {n = i} (omega (arith, ltb-false i k e, length-take k l))) (omega arith)
+
+fit-head : (h : Hand) → Accepted h → FitIn head (headList (h .fields))
+fit-head h y =
+    let f = h .fields in
+    let p = six (ltb 4 (f .m)) (ltb 1 (f .how)) (ltb 3 (f .winner)) (ltb 3 (f .discarder)) (ltb 3 (f .riichi)) (ltb 7 (f .situation)) (y .large) in
+    let k = kinds-of h 0 (y .clean .fields) in
+    fit-all head (headList f)
+    (omega (
+      arith,
+      ltb-false 4 (f .m) (p .0),
+      ltb-false 1 (f .how) (p .1),
+      ltb-false 3 (f .winner) (p .2),
+      ltb-false 3 (f .discarder) (p .3),
+      ltb-false 3 (f .riichi) (p .4),
+      ltb-false 7 (f .situation) (p .5),
+      k .indicator,
+      k .winning,
+    ))
+  where
+    six : (a b c d u v : Bool) → a || b || c || d || u || v ≡ false → (a ≡ false) × (b ≡ false) × (c ≡ false) × (d ≡ false) × (u ≡ false) × (v ≡ false)
+    six a b c d u v q =
+        let q5 = or-both (a || b || c || d || u) v q in
+        let q4 = or-both (a || b || c || d) u (q5 .0) in
+        let q3 = or-both (a || b || c) d (q4 .0) in
+        let q2 = or-both (a || b) c (q3 .0) in
+        let q1 = or-both a b (q2 .0) in
+        (q1 .0, q1 .1, q2 .1, q3 .1, q4 .1, q5 .1)
+
+module _ (h : Hand) (e : unwritable h ≡ 0) (lm : length (h .melds) ≡ 4) (lc : length (h .concealed) ≡ 13) (bm : Below 256 (h .melds)) where
+  y : Accepted h
+  y = accepted-of h e
+
+  few : h .fields .m ≤ 4
+  few = few-melds h e
+
+  values-fit : FitIn (widths (h .fields .m)) (valuesOf h)
+  unfolding widths valuesOf
+  values-fit =
+      let m : ℕ = h .fields .m in
+      let k : ℕ = 13 - 3 * m in
+      let em : length (take m (h .melds)) ≡ m = length-take-le m (h .melds) (omega (arith, few)) in
+      let et : length (take k (h .concealed)) ≡ k = length-take-le k (h .concealed) (omega arith) in
+      let t = tiles-below k (h .concealed) (kinds-of h 0 (y .clean .fields) .tiles) in
+      let w3 : List ℕ = sixes k ++ (padOf m ∷ []) in
+      let v3 : List ℕ = take k (h .concealed) ++ (0 ∷ []) in
+      fit-append head (headList (h .fields)) (eights m ++ w3) (take m (h .melds) ++ v3) refl (fit-head h y)
+      (fit-append (eights m) (take m (h .melds)) w3 v3 (length-replicate m 8 ∙ sym em) (fit-run m 8 (take m (h .melds)) (omega arith) (below-take 256 m (h .melds) bm))
+      (fit-append (sixes k) (take k (h .concealed)) (padOf m ∷ []) (0 ∷ []) (length-replicate k 6 ∙ sym et) (fit-run k 6 (take k (h .concealed)) (omega arith) t)
+      (fit-cons (padOf m) 0 [] [] (pow-pos (padOf m)) fit-nil)))
+
+  same-fields : fieldsOf (widths (h .fields .m)) (recordOf h) ≡ valuesOf h
+  unfolding recordOf
+  same-fields =
+      fields-bytes (widths (h .fields .m)) (valuesOf h) (lengthOf (h .fields .m))
+      (length-widths h few (omega arith) (omega arith)) values-fit (sum-widths (h .fields .m) few)
+
+  pub length-record : length (recordOf h) ≡ lengthOf (h .fields .m)
+  unfolding recordOf
+  length-record = length-unpack (eights (lengthOf (h .fields .m))) (pack (widths (h .fields .m)) (valuesOf h)) ∙ length-replicate (lengthOf (h .fields .m)) 8
+
+  -- the parts of what is written
+  parts-back : (b : List ℕ) → b ≡ bitsOf (recordOf h)
+      → (unpack head b ≡ headList (h .fields)) × (meldsOf (h .fields .m) b ≡ take (h .fields .m) (h .melds))
+      × (tilesOf (h .fields .m) b ≡ take (13 - 3 * h .fields .m) (h .concealed)) × (paddingOf (h .fields .m) b ≡ 0)
+  unfolding valuesOf
+  parts-back b eb =
+      let m : ℕ = h .fields .m in
+      let k : ℕ = 13 - 3 * m in
+      let q : unpack head b ++ (meldsOf m b ++ (tilesOf m b ++ (paddingOf m b ∷ []))) ≡ headList (h .fields) ++ (take m (h .melds) ++ (take k (h .concealed) ++ (0 ∷ []))) =
+      sym (unpack-widths m b) ∙ ap (unpack (widths m)) eb ∙ same-fields in
+      let q1 = app-inj (unpack head b) (headList (h .fields)) _ _ refl q in
+      let q2 = app-inj (meldsOf m b) (take m (h .melds)) _ _ (melds-length m b ∙ sym (length-take-le m (h .melds) (omega (arith, few)))) (q1 .1) in
+      let q3 = app-inj (tilesOf m b) (take k (h .concealed)) _ _ (tiles-length m b ∙ sym (length-take-le k (h .concealed) (omega arith))) (q2 .1) in
+      (q1 .0, q2 .0, q3 .0, ap (λ (l : List ℕ). getD l 0 0) (q3 .1))
+
+  hand-back : h ≡ handIn (h .fields .m) (bitsOf (recordOf h))
+  unfolding handIn
+  hand-back =
+      let m : ℕ = h .fields .m in
+      let b : List ℕ = bitsOf (recordOf h) in
+      let p = parts-back b refl in
+      let z = zeros-of h (y .unused) in
+      sym (hand-eq (handIn m b) h (head-back (h .fields) b (p .0))
+      (ap (fill 4) (p .1) ∙ fill-take 4 m (h .melds) lm few (z .0))
+      (ap (fill 13) (p .2) ∙ fill-take 13 (13 - 3 * m) (h .concealed) lc (omega arith) (z .1)))
+
+  pub same-hand : readOf (recordOf h) ≡ soundAs h
+  same-hand =
+      let m : ℕ = h .fields .m in
+      let b : List ℕ = bitsOf (recordOf h) in
+      let p = parts-back b refl in
+      let ec : countIn (recordOf h) ≡ m = ap (λ (f : Fields). f .m) (head-back (h .fields) b (p .0)) in
+      let w = whole m few in
+      let l = length-record in
+      let fo : Form (length (recordOf h)) m = record { four = omega (arith, w); few = few; right = l } in
+      as-read (recordOf h) h (record {
+        form = rw ec fo;
+        is-hand = hand-back ∙ ap (λ (n : ℕ). handIn n b) (sym ec);
+        unrefused = ap (λ (n : ℕ). refusalOf h (paddingOf n b)) ec ∙ ap (refusalOf h) (p .3) ∙ of-clean h 0 (y .clean);
+      })

@@ -1,0 +1,211 @@
+// The hand record: Read and Write (01, Tiles and the hand record). Both take all input.
+ghost use mathlib.Core.Path.{_≡_};
+ghost use Prim.Native.Nat.{_+_, _*_, _≤_};
+ghost use lib.ListN.{length, drop};
+ghost use Rattle.bits.specs.Bits.{pack, unpack, Below, bitsOf, fill};
+ghost use Rattle.hand_record.specs.Record.{headOf, meldsOf, sixes, refusedWith, judged, readOf, refusalIn, widths, valuesOf, writtenOf, bufferOf};
+use hand::Fields;
+use hand::Hand;
+
+const HEAD: [u8; 8] = [1, 2, 2, 2, 3, 6, 6, 3];
+
+const LENGTHS: [usize; 5] = [13, 12, 11, 10, 8];
+
+const PADS: [usize; 5] = [1, 3, 5, 7, 1];
+
+// The fields that read, or the number of the refusal.
+pub enum Answer {
+    Sound(Fields),
+    Refused(u8),
+}
+
+// What Read gives: the arrays stand beside the answer, all zero where it is refused.
+pub struct HandRead {
+    pub answer: Answer,
+    pub melds: [u8; 4],
+    pub concealed: [u8; 13],
+}
+
+// What Write gives: 0 and the record's length, or the refusal and 0.
+#[repr(C)]
+pub struct Written {
+    pub refusal: u8,
+    pub len: usize,
+}
+
+// The bits of at most 13 bytes, with zeros after them.
+fn spread(s: &[u8]) -> [u8; 104]
+    requires { ⌜ length (now s) ≤ 13 ⌝ }
+    ensures { λ r. ⌜ r ≡ fill 104 (bitsOf (now (s .entry))) ⌝ }
+{
+    let eights = [8u8; 13];
+    let mut b = [0u8; 104];
+    let n = s.len();
+    bits::pack_into(&eights[..n], s, &mut b, 0);
+    b
+}
+
+fn header(b: &[u8]) -> Fields
+    requires { ⌜ (25 ≤ length (now b)) × Below 2 (now b) ⌝ }
+    ensures { λ r. ⌜ r ≡ headOf (now (b .entry)) ⌝ }
+{
+    let ws = HEAD;
+    let mut h = [0u8; 8];
+    bits::unpack_into(&ws, b, 0, &mut h);
+    Fields {
+        how: h[0],
+        winner: h[1],
+        discarder: h[2],
+        riichi: h[3],
+        situation: h[4],
+        indicator: h[5],
+        winning: h[6],
+        m: h[7],
+    }
+}
+
+// The m melds, with zeros after them.
+fn melds_in(b: &[u8], m: usize) -> [u8; 4]
+    requires { ⌜ (m ≤ 4) × (25 + 8 * m ≤ length (now b)) × Below 2 (now b) ⌝ }
+    ensures { λ r. ⌜ r ≡ fill 4 (meldsOf m (now (b .entry))) ⌝ }
+{
+    let ws = [8u8; 4];
+    let mut out = [0u8; 4];
+    bits::unpack_into(&ws[..m], b, 25, &mut out);
+    out
+}
+
+// The n tiles from `at` on, with zeros after them.
+fn tiles_in(b: &[u8], at: usize, n: usize) -> [u8; 13]
+    requires { ⌜ (n ≤ 13) × (at + 6 * n ≤ length (now b)) × Below 2 (now b) ⌝ }
+    ensures { λ r. ⌜ r ≡ fill 13 (unpack (sixes n) (drop at (now (b .entry)))) ⌝ }
+{
+    let ws = [6u8; 13];
+    let mut out = [0u8; 13];
+    bits::unpack_into(&ws[..n], b, at, &mut out);
+    out
+}
+
+fn refused(n: u8) -> HandRead
+    ensures { λ r. ⌜ r ≡ refusedWith n ⌝ }
+{
+    HandRead {
+        answer: Answer::Refused(n),
+        melds: [0u8; 4],
+        concealed: [0u8; 13],
+    }
+}
+
+// The hand of m melds and the header f that bits are, or why it is refused.
+fn hand_in(b: &[u8], f: Fields, m: usize) -> HandRead
+    requires { ⌜ (m ≤ 4) × (104 ≤ length (now b)) × Below 2 (now b) × (f ≡ headOf (now b)) ⌝ }
+    ensures { λ r. ⌜ r ≡ judged m (now (b .entry)) ⌝ }
+{
+    let k = 13 - 3 * m;
+    let at = 25 + 8 * m;
+    let melds = melds_in(b, m);
+    let concealed = tiles_in(b, at, k);
+    let padding = bits::gather(b, at + 6 * k, PADS[m]);
+    let h = Hand {
+        fields: f,
+        melds,
+        concealed,
+    };
+    let j = hand::refusal(h, padding);
+    if 0 < j {
+        return refused(j);
+    }
+    HandRead {
+        answer: Answer::Sound(f),
+        melds,
+        concealed,
+    }
+}
+
+// Read.
+pub fn read(s: &[u8]) -> HandRead
+    ensures { λ r. ⌜ r ≡ readOf (now (s .entry)) ⌝ }
+{
+    let n = s.len();
+    if n < 4 {
+        return refused(1);
+    }
+    if 13 < n {
+        return refused(1);
+    }
+    let b = spread(s);
+    let f = header(&b);
+    let m = f.m as usize;
+    if 4 < m {
+        return refused(1);
+    }
+    if n != LENGTHS[m] {
+        return refused(1);
+    }
+    hand_in(&b, f, m)
+}
+
+// The number of an answer, 0 for a sound record.
+pub fn refusal(a: Answer) -> u8
+    ensures { λ r. ⌜ r ≡ refusalIn a ⌝ }
+{
+    match a {
+        Answer::Sound(_) => 0,
+        Answer::Refused(n) => n,
+    }
+}
+
+// The bits of a hand, with zeros after them.
+fn pack_hand(h: Hand) -> [u8; 104]
+    requires { ⌜ h .fields .m ≤ 4 ⌝ }
+    ensures { λ r. ⌜ r ≡ fill 104 (pack (widths (h .fields .m)) (valuesOf h)) ⌝ }
+{
+    let f = h.fields;
+    let m = f.m as usize;
+    let melds = h.melds;
+    let concealed = h.concealed;
+    let mut b = [0u8; 104];
+    let hw = HEAD;
+    let hv = [
+        f.how,
+        f.winner,
+        f.discarder,
+        f.riichi,
+        f.situation,
+        f.indicator,
+        f.winning,
+        f.m,
+    ];
+    let ew = [8u8; 4];
+    let sw = [6u8; 13];
+    let k = 13 - 3 * m;
+    let at = 25 + 8 * m;
+    bits::pack_into(&hw, &hv, &mut b, 0);
+    bits::pack_into(&ew[..m], &melds[..m], &mut b, 25);
+    bits::pack_into(&sw[..k], &concealed[..k], &mut b, at);
+    bits::put(&mut b, at + 6 * k, PADS[m], 0);
+    b
+}
+
+// Write.
+pub fn write(h: Hand, buf: &mut [u8]) -> Written
+    ensures { λ r. ⌜ r ≡ writtenOf h (now (buf .entry)) ⌝ }
+    ensures { λ _. ⌜ now (buf .exit) ≡ bufferOf h (now (buf .entry)) ⌝ }
+{
+    let j = hand::unwritable(h);
+    if 0 < j {
+        return Written { refusal: j, len: 0 };
+    }
+    let m = h.fields.m as usize;
+    let n = LENGTHS[m];
+    if buf.len() < n {
+        return Written {
+            refusal: 13,
+            len: 0,
+        };
+    }
+    let b = pack_hand(h);
+    let ew = [8u8; 13];
+    bits::unpack_into(&ew[..n], &b, 0, buf);
+    Written { refusal: 0, len: n }
+}
