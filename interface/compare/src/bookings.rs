@@ -1,7 +1,7 @@
 //! One booking in three games at once: the archive's, the other scorer's and the ledger.
 
-use scorer::game::book;
-use scorer::{Booking, Game, Ledger};
+use other_scorer::game::book;
+use other_scorer::{Booking, Game, Ledger};
 
 use crate::report::{hex, Report};
 use crate::{ffi, same};

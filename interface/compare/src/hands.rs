@@ -1,11 +1,11 @@
 //! Random records and hands through Read, Write and Score.
 
-use scorer::codec::{pack, unpack};
-use scorer::damage::damaged;
-use scorer::deal::themed;
-use scorer::entry::make;
-use scorer::rng::Rng;
-use scorer::score;
+use other_scorer::codec::{pack, unpack};
+use other_scorer::damage::damaged;
+use other_scorer::deal::themed;
+use other_scorer::entry::make;
+use other_scorer::rng::Rng;
+use other_scorer::score;
 
 use crate::report::{hex, Report};
 use crate::{ffi, same};
@@ -20,7 +20,7 @@ fn bytes<const N: usize>(rng: &mut Rng) -> [u8; N] {
 }
 
 /// A record, dealer and wind, and what they score: mostly the generator's, else bytes or damage.
-fn input(rng: &mut Rng, index: usize) -> (Vec<u8>, u8, u8, scorer::Scored) {
+fn input(rng: &mut Rng, index: usize) -> (Vec<u8>, u8, u8, other_scorer::Scored) {
     let record = match rng.below(10) {
         0 => {
             let length = rng.below(21);

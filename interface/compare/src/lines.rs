@@ -1,6 +1,6 @@
 //! A line of tally in buffers of its length, one less and others.
 
-use scorer::rng::Rng;
+use other_scorer::rng::Rng;
 
 use crate::ffi;
 use crate::report::Report;

@@ -1,11 +1,11 @@
 //! Random logs through Next entry, the bookings and the lines of tally.
 
-use scorer::damage::noise;
-use scorer::example::{example, End};
-use scorer::game::book;
-use scorer::log::{booking, next, tally_lines, Next, LONGEST};
-use scorer::rng::Rng;
-use scorer::{Booking, Game};
+use other_scorer::damage::noise;
+use other_scorer::example::{example, End};
+use other_scorer::game::book;
+use other_scorer::log::{booking, next, tally_lines, Next, LONGEST};
+use other_scorer::rng::Rng;
+use other_scorer::{Booking, Game};
 
 use crate::bookings::{letter, Games};
 use crate::report::{hex, Report};

@@ -10,15 +10,15 @@ mod report;
 mod same;
 
 // The generators of random bookings and games that the other scorer's own tests use.
-#[path = "../../../scorer/tests/chance/mod.rs"]
+#[path = "../../../other_scorer/tests/chance/mod.rs"]
 mod chance;
-#[path = "../../../scorer/tests/chance/games.rs"]
+#[path = "../../../other_scorer/tests/chance/games.rs"]
 mod games;
 
 use std::{env, process::ExitCode, time::Instant};
 
 use report::Report;
-use scorer::rng::Rng;
+use other_scorer::rng::Rng;
 
 /// Runs the comparison; whether nothing differs.
 fn run(count: usize, seed: u64, logs: usize) -> bool {

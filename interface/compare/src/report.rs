@@ -52,5 +52,5 @@ impl Report {
 
 /// Bytes as hexadecimal digits.
 pub fn hex(bytes: &[u8]) -> String {
-    scorer::notation::hex::to_hex(bytes)
+    other_scorer::notation::hex::to_hex(bytes)
 }

@@ -1,14 +1,14 @@
 //! The other scorer's answers in the archive's form.
 
-use scorer::log::Next;
-use scorer::record::Meld;
+use other_scorer::log::Next;
+use other_scorer::record::Meld;
 
 use crate::ffi;
 
 /// A hand of the other scorer from the archive's form: a meld is 64 times its kind plus its tile.
-pub fn to_other(hand: &ffi::Hand) -> scorer::Hand {
+pub fn to_other(hand: &ffi::Hand) -> other_scorer::Hand {
     let fields = hand.fields;
-    scorer::Hand {
+    other_scorer::Hand {
         how: fields.how,
         winner: fields.winner,
         discarder: fields.discarder,
@@ -23,7 +23,7 @@ pub fn to_other(hand: &ffi::Hand) -> scorer::Hand {
 }
 
 /// A hand in the archive's form.
-pub fn hand(hand: &scorer::Hand) -> ffi::Hand {
+pub fn hand(hand: &other_scorer::Hand) -> ffi::Hand {
     let fields = ffi::Fields {
         how: hand.how,
         winner: hand.winner,
@@ -40,7 +40,7 @@ pub fn hand(hand: &scorer::Hand) -> ffi::Hand {
 
 /// What Read should give (01, Read).
 pub fn read(record: &[u8]) -> ffi::ReadHand {
-    match scorer::read(record) {
+    match other_scorer::read(record) {
         Ok(sound) => ffi::ReadHand { refusal: 0, hand: hand(&sound) },
         Err(refusal) => ffi::ReadHand { refusal, hand: ffi::Hand::default() },
     }
@@ -48,14 +48,14 @@ pub fn read(record: &[u8]) -> ffi::ReadHand {
 
 /// What Write should give, with the buffer then (01, Write).
 pub fn write(hand: &ffi::Hand, buffer: &mut [u8]) -> ffi::Written {
-    match scorer::write(&to_other(hand), buffer) {
+    match other_scorer::write(&to_other(hand), buffer) {
         Ok(len) => ffi::Written { refusal: 0, len },
         Err(refusal) => ffi::Written { refusal, len: 0 },
     }
 }
 
 /// What Score should give (01, Score).
-pub fn scored(scored: &scorer::Scored) -> ffi::Scored {
+pub fn scored(scored: &other_scorer::Scored) -> ffi::Scored {
     let mut yaku = [0; 37];
     for (n, held) in yaku.iter_mut().enumerate() {
         *held = (scored.yaku >> n & 1) as u8;
@@ -70,7 +70,7 @@ pub fn scored(scored: &scorer::Scored) -> ffi::Scored {
 }
 
 /// A game in the archive's form.
-pub fn game(game: &scorer::Game) -> ffi::Game {
+pub fn game(game: &other_scorer::Game) -> ffi::Game {
     ffi::Game {
         scores: game.scores,
         sticks: game.sticks,
@@ -83,8 +83,8 @@ pub fn game(game: &scorer::Game) -> ffi::Game {
 }
 
 /// The archive's game as a ledger (01, Ledger).
-pub fn ledger(game: &ffi::Game) -> scorer::Ledger {
-    scorer::Ledger {
+pub fn ledger(game: &ffi::Game) -> other_scorer::Ledger {
+    other_scorer::Ledger {
         scores: game.scores.map(i64::from),
         sticks: game.sticks as i64,
         declared: (0..4).filter(|&seat| game.declared[seat as usize] != 0).collect(),
@@ -97,7 +97,7 @@ pub fn ledger(game: &ffi::Game) -> scorer::Ledger {
 
 /// What Next entry should give (01, Next entry).
 pub fn entry(log: &[u8], at: usize) -> ffi::NextEntry {
-    match scorer::log::next(log, at) {
+    match other_scorer::log::next(log, at) {
         Next::Entry { kind, argument, part } => {
             ffi::NextEntry { refusal: 0, end: 0, kind, argument, length: part.len() }
         }

@@ -1,10 +1,10 @@
 //! Reading and writing records (01, Tiles and the hand record).
 
-use scorer::deal::{drawn, near, themed};
-use scorer::codec::pack;
-use scorer::record::*;
-use scorer::rng::Rng;
-use scorer::{read, write, Hand, Meld};
+use other_scorer::deal::{drawn, near, themed};
+use other_scorer::codec::pack;
+use other_scorer::record::*;
+use other_scorer::rng::Rng;
+use other_scorer::{read, write, Hand, Meld};
 
 /// A sound hand with one open kan.
 fn sample() -> Hand {
@@ -87,7 +87,7 @@ fn write_refuses() {
 fn read_refuses_any_damage_or_gives_a_sound_hand() {
     let mut rng = Rng::new(11);
     for _ in 0..50_000 {
-        let record = scorer::damage::noise(&mut rng);
+        let record = other_scorer::damage::noise(&mut rng);
         match read(&record) {
             Ok(hand) => assert_eq!(pack(&hand), record),
             Err(number) => assert!((1..=5).contains(&number)),

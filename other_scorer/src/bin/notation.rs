@@ -3,11 +3,11 @@
 
 use std::{env, process::ExitCode};
 
-use scorer::codec::{pack, read, unpack};
-use scorer::notation::hex::{from_hex, is_hex, to_hex};
-use scorer::notation::report::{refusal, report};
-use scorer::notation::{parse, print};
-use scorer::score;
+use other_scorer::codec::{pack, read, unpack};
+use other_scorer::notation::hex::{from_hex, is_hex, to_hex};
+use other_scorer::notation::report::{refusal, report};
+use other_scorer::notation::{parse, print};
+use other_scorer::score;
 
 /// The words for scoring.
 #[derive(Default)]

@@ -4,9 +4,9 @@ mod chance;
 #[path = "chance/games.rs"]
 mod games;
 
-use scorer::game::book;
-use scorer::rng::Rng;
-use scorer::{Booking, Game, Ledger};
+use other_scorer::game::book;
+use other_scorer::rng::Rng;
+use other_scorer::{Booking, Game, Ledger};
 
 /// A ledger with the fields of a game.
 fn ledger(game: &Game) -> Ledger {

@@ -1,7 +1,7 @@
 //! Properties of every score (01, Score).
 
-use scorer::entry::make;
-use scorer::rng::Rng;
+use other_scorer::entry::make;
+use other_scorer::rng::Rng;
 
 #[test]
 fn changes_sum_to_zero_and_refusals_are_all_zero() {

@@ -2,12 +2,12 @@
 
 mod chance;
 
-use scorer::codec::pack;
-use scorer::game::{book, FLOOR};
-use scorer::notation::parse;
-use scorer::points::{basic, ron, tsumo, YAKUMAN};
-use scorer::rng::Rng;
-use scorer::{Booking, Game};
+use other_scorer::codec::pack;
+use other_scorer::game::{book, FLOOR};
+use other_scorer::notation::parse;
+use other_scorer::points::{basic, ron, tsumo, YAKUMAN};
+use other_scorer::rng::Rng;
+use other_scorer::{Booking, Game};
 
 /// The dealer's thirteen orphans by ron from seat 1, without riichi: seat 1 pays 48,000.
 fn yakuman() -> Booking {

@@ -1,12 +1,12 @@
 //! Walking a log and the lines of program tally (01, Log).
 
-use scorer::booking::Booking;
-use scorer::codec::pack;
-use scorer::deal::themed;
-use scorer::example::{example, survey::survey, End};
-use scorer::log::{bookings, next, tally_lines, Next, LONGEST, WIN};
-use scorer::rng::Rng;
-use scorer::Ledger;
+use other_scorer::booking::Booking;
+use other_scorer::codec::pack;
+use other_scorer::deal::themed;
+use other_scorer::example::{example, survey::survey, End};
+use other_scorer::log::{bookings, next, tally_lines, Next, LONGEST, WIN};
+use other_scorer::rng::Rng;
+use other_scorer::Ledger;
 
 #[test]
 fn the_papers_example() {

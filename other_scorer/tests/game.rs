@@ -1,9 +1,9 @@
 //! The four bookings: refusals in their order, points, deal, wind and mark (01, The game).
 
-use scorer::codec::pack;
-use scorer::game::{book, chombo, draw, riichi, win, FLOOR};
-use scorer::notation::parse;
-use scorer::{Booking, Game};
+use other_scorer::codec::pack;
+use other_scorer::game::{book, chombo, draw, riichi, win, FLOOR};
+use other_scorer::notation::parse;
+use other_scorer::{Booking, Game};
 
 /// A record from notation.
 fn record(words: &[&str]) -> Vec<u8> {

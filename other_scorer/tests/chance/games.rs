@@ -1,8 +1,8 @@
 //! Random games for the tests.
 
-use scorer::game::FLOOR;
-use scorer::rng::Rng;
-use scorer::Game;
+use other_scorer::game::FLOOR;
+use other_scorer::rng::Rng;
+use other_scorer::Game;
 
 /// A score from the floor up, often at one of a few values.
 fn score(rng: &mut Rng) -> i64 {

@@ -1,9 +1,9 @@
 //! Lines 1 to 12 of document 01's table of hands.
 
-use scorer::notation::hand;
-use scorer::codec::pack;
-use scorer::record::{CHI, RON, TSUMO};
-use scorer::{points, score, Scored};
+use other_scorer::notation::hand;
+use other_scorer::codec::pack;
+use other_scorer::record::{CHI, RON, TSUMO};
+use other_scorer::{points, score, Scored};
 
 const NORTH: u8 = 30;
 

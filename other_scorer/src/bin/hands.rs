@@ -2,9 +2,9 @@
 
 use std::{env, fs, process::ExitCode};
 
-use scorer::entry::make;
-use scorer::rng::Rng;
-use scorer::survey::Survey;
+use other_scorer::entry::make;
+use other_scorer::rng::Rng;
+use other_scorer::survey::Survey;
 
 /// Makes the entries, writes the file, prints the coverage.
 fn run(seed: u64, count: usize, out: &str) -> std::io::Result<bool> {

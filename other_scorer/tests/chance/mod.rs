@@ -1,13 +1,13 @@
 //! Random bookings for the tests.
 
-use scorer::codec::pack;
-use scorer::damage::{damaged, noise};
-use scorer::deal::{near, themed};
-use scorer::fault::{self, FAULTS};
-use scorer::record::RON;
-use scorer::rng::Rng;
-use scorer::sound::refusal;
-use scorer::{Booking, Game};
+use other_scorer::codec::pack;
+use other_scorer::damage::{damaged, noise};
+use other_scorer::deal::{near, themed};
+use other_scorer::fault::{self, FAULTS};
+use other_scorer::record::RON;
+use other_scorer::rng::Rng;
+use other_scorer::sound::refusal;
+use other_scorer::{Booking, Game};
 
 /// A record: mostly a win of this seat that fits the declarations, else anything.
 fn record(rng: &mut Rng, game: &Game, winner: u8) -> Vec<u8> {

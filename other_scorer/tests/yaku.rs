@@ -1,9 +1,9 @@
 //! Each yaku on a hand written out (01, Yaku; Fu and points).
 
-use scorer::notation::hand;
-use scorer::codec::pack;
-use scorer::record::*;
-use scorer::{score, Hand, Scored};
+use other_scorer::notation::hand;
+use other_scorer::codec::pack;
+use other_scorer::record::*;
+use other_scorer::{score, Hand, Scored};
 
 /// Seat 1's ron from seat 3 on a hand, indicator 9s unless changed (dora 1s).
 fn ron(concealed: &str, winning: &str, melds: &[(u8, &str)]) -> Hand {

@@ -1,8 +1,8 @@
 //! Readings against a plain search over all choices, and their order (01, Readings).
 
-use scorer::deal::{near, themed};
-use scorer::reading::{readings, Group, Reading};
-use scorer::rng::Rng;
+use other_scorer::deal::{near, themed};
+use other_scorer::reading::{readings, Group, Reading};
+use other_scorer::rng::Rng;
 
 /// A group's code: a run its lowest kind, a triplet 34 + kind (01, Readings).
 fn code(group: &Group) -> u8 {

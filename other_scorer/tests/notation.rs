@@ -2,13 +2,13 @@
 
 use std::process::{Command, Output};
 
-use scorer::codec::{pack, read};
-use scorer::deal::{drawn, near, themed};
-use scorer::fault;
-use scorer::notation::hex::{from_hex, to_hex};
-use scorer::notation::{parse, print, tiles};
-use scorer::rng::Rng;
-use scorer::{score, Hand, Scored};
+use other_scorer::codec::{pack, read};
+use other_scorer::deal::{drawn, near, themed};
+use other_scorer::fault;
+use other_scorer::notation::hex::{from_hex, to_hex};
+use other_scorer::notation::{parse, print, tiles};
+use other_scorer::rng::Rng;
+use other_scorer::{score, Hand, Scored};
 
 /// A hand from one line of notation.
 fn hand(line: &str) -> Result<Hand, String> {
@@ -45,7 +45,7 @@ fn round_trips_of_hands_refused_with_4_or_5() {
     for turn in 0..3000 {
         let record = fault::record(&mut rng, 12 + turn % 13);
         assert!(matches!(read(&record), Err(4 | 5)));
-        let (refused, _) = scorer::codec::unpack(&record).expect("fields");
+        let (refused, _) = other_scorer::codec::unpack(&record).expect("fields");
         assert_eq!(hand(&print(&refused)), Ok(refused));
     }
 }

@@ -3,9 +3,9 @@
 
 use std::{env, fs, path::Path, process::ExitCode};
 
-use scorer::example::survey::survey;
-use scorer::example::{example, End};
-use scorer::log::tally_lines;
+use other_scorer::example::survey::survey;
+use other_scorer::example::{example, End};
+use other_scorer::log::tally_lines;
 
 /// Writes both files and prints the coverage; false if it is short.
 fn run(seed: u64, out: &Path, end: End) -> std::io::Result<bool> {
