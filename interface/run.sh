@@ -1,7 +1,7 @@
 #!/usr/bin/env bash
-# Tests the archive that firmware links: run.sh [COUNT [SEED]]
-# Runs test.c, then compares COUNT random hands, and logs, with the other scorer.
-# The archive is HANDSET_LIB/libhandset.a; without it, it is made with rt. Ends with `interface: all agree` or exits 1.
+# Tests the archive that firmware links, and the tester's tool: run.sh [COUNT [SEED]]
+# Runs test.c and the tool's tests, then compares COUNT random hands, and logs, with the other scorer.
+# The archive is HANDSET_LIB/libhandset.a; without it, build.sh sees to it. Ends with `interface: all agree` or exits 1.
 set -euo pipefail
 trap 'echo "interface: failed" >&2; exit 1' ERR
 
@@ -10,20 +10,20 @@ seed=${2:-1}
 here=$(cd -- "$(dirname -- "${BASH_SOURCE[0]}")" && pwd)
 root=$(dirname -- "$here")
 
-if [[ -z ${HANDSET_LIB:-} || ! -f $HANDSET_LIB/libhandset.a ]]; then
-    (cd -- "$root" && rt staticlib handset)
-    HANDSET_LIB=$root/target/staticlib
+if [[ -n ${HANDSET_LIB:-} ]]; then
+    HANDSET_LIB=$(cd -- "$HANDSET_LIB" && pwd)
+    export HANDSET_LIB
 fi
-HANDSET_LIB=$(cd -- "$HANDSET_LIB" && pwd)
-export HANDSET_LIB
-echo "archive: $HANDSET_LIB/libhandset.a"
+bash "$here/build.sh"
+archive=${HANDSET_LIB:-$root/target/staticlib}/libhandset.a
+echo "archive: $archive"
 
 made=$(mktemp -d)
 trap 'rm -rf -- "$made"' EXIT
-gcc -std=c99 -Wall -Wextra -Werror -I "$root/include" "$here/test.c" "$HANDSET_LIB/libhandset.a" -o "$made/test"
+gcc -std=c99 -Wall -Wextra -Werror -I "$root/include" "$here/test.c" "$archive" -o "$made/test"
 "$made/test"
 
-cd -- "$here/compare"
-cargo build --release --quiet
-./target/release/compare "$count" "$seed"
+cd -- "$here"
+cargo test --release --quiet
+target/release/compare "$count" "$seed"
 echo "interface: all agree"

@@ -8,15 +8,31 @@ pub fn length(m: u8) -> usize {
     (103 - 10 * m as usize).div_ceil(8)
 }
 
+/// The ways to meet refusal 1 in words, by the number that `length_fault` gives (01, Read).
+pub const LENGTH_FAULTS: [&str; 3] = ["under 4 bytes", "m over 4", "a length not m's"];
+
+/// The meld count of a record of at least 4 bytes (01, Tiles and the hand record).
+pub fn meld_count(record: &[u8]) -> u8 {
+    (record[2] & 0b11) << 1 | record[3] >> 7
+}
+
+/// How a record meets refusal 1, none if it does not (01, Read).
+pub fn length_fault(record: &[u8]) -> Option<usize> {
+    if record.len() < 4 {
+        return Some(0);
+    }
+    match meld_count(record) {
+        5.. => Some(1),
+        m => (record.len() != length(m)).then_some(2),
+    }
+}
+
 /// The fields of a record, and whether a padding bit is set; only refusal 1 is met here (01, Read).
 pub fn unpack(record: &[u8]) -> Result<(Hand, bool), u8> {
-    if record.len() < 4 {
+    if length_fault(record).is_some() {
         return Err(1);
     }
-    let m = (record[2] & 0b11) << 1 | record[3] >> 7;
-    if m > 4 || record.len() != length(m) {
-        return Err(1);
-    }
+    let m = meld_count(record);
     let mut left = [0; 16];
     left[..record.len()].copy_from_slice(record);
     let mut left = u128::from_be_bytes(left);

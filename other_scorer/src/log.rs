@@ -1,7 +1,7 @@
 //! Walking a log, and the lines of program tally (01, Log).
 
 use crate::booking::Booking;
-use crate::codec::length;
+use crate::codec::{length, meld_count};
 use crate::game::{book, Game};
 
 pub const RIICHI: u8 = 0;
@@ -20,17 +20,21 @@ pub enum Next<'a> {
     Bad(u8),
 }
 
-/// The length of the entry that a non-empty stretch starts with; none if it is bad (01, Next entry).
-fn size(rest: &[u8]) -> Option<usize> {
-    match (rest[0] >> 4, rest[0] & 15) {
-        (RIICHI | DRAW | CHOMBO, _) => Some(1),
-        (WIN, 0) => {
-            let start = rest.get(1..5)?;
-            let m = (start[2] & 0b11) << 1 | start[3] >> 7;
-            (m <= 4).then(|| 1 + length(m))
-        }
-        _ => None,
-    }
+/// The ways to meet refusal 14 in words, by the number that `size` gives (01, Next entry).
+pub const ENTRY_FAULTS: [&str; 4] = ["kind over 3", "win argument not 0", "m over 4", "bytes missing"];
+
+/// The length of the entry that a non-empty stretch starts with; the error is how it is bad (01, Next entry).
+pub fn size(rest: &[u8]) -> Result<usize, usize> {
+    let size = match (rest[0] >> 4, rest[0] & 15) {
+        (RIICHI | DRAW | CHOMBO, _) => 1,
+        (WIN, 0) => match meld_count(rest.get(1..5).ok_or(3usize)?) {
+            5.. => return Err(2),
+            m => 1 + length(m),
+        },
+        (WIN, _) => return Err(1),
+        _ => return Err(0),
+    };
+    if size <= rest.len() { Ok(size) } else { Err(3) }
 }
 
 /// The entry at an offset, that very part of the log, from its header on (01, Next entry).
@@ -39,9 +43,9 @@ pub fn next(log: &[u8], offset: usize) -> Next<'_> {
     if rest.is_empty() {
         return Next::End;
     }
-    match size(rest).and_then(|size| rest.get(..size)) {
-        Some(part) => Next::Entry { kind: rest[0] >> 4, argument: rest[0] & 15, part },
-        None => Next::Bad(14),
+    match size(rest) {
+        Ok(size) => Next::Entry { kind: rest[0] >> 4, argument: rest[0] & 15, part: &rest[..size] },
+        Err(_) => Next::Bad(14),
     }
 }
 
@@ -72,7 +76,7 @@ pub fn bookings(log: &[u8]) -> (Vec<Booking>, u8) {
 }
 
 /// The letter of a booking (01, Log).
-fn letter(booking: &Booking) -> char {
+pub fn letter(booking: &Booking) -> char {
     match booking {
         Booking::Riichi(_) => 'R',
         Booking::Win(_) => 'W',

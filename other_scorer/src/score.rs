@@ -26,6 +26,9 @@ pub struct Value {
     pub fu: u8,
     pub yaku: u64,
     pub changes: [i32; 4],
+    /// The han of each yaku at its number, 0 for a yakuman, and the items of fu.
+    pub han: [u8; 37],
+    pub items: fu::Items,
 }
 
 /// A reading and its value; no value where it has no yaku.
@@ -41,14 +44,17 @@ fn changes(win: &Win, a: u32) -> [i32; 4] {
     }
 }
 
-/// A value from han, fu, yaku set and A (01, Fu and points).
-fn value(win: &Win, h: u8, fu: u8, yaku: u64, a: u32) -> Value {
+/// A value from the yaku with their han, the items of fu, h and A (01, Fu and points).
+fn value(win: &Win, list: &[yaku::Yaku], items: fu::Items, h: u8, a: u32) -> Value {
     let changes = changes(win, a);
-    Value { gain: changes[win.hand.winner as usize], h, fu, yaku, changes }
+    let mut han = [0; 37];
+    list.iter().for_each(|&(n, of)| han[n as usize] = of);
+    let yaku = list.iter().fold(0, |set, (n, _)| set | 1 << n);
+    Value { gain: changes[win.hand.winner as usize], h, fu: items.total(), yaku, changes, han, items }
 }
 
-/// The yakuman, the yaku with their han, and the fu of one reading (01, Yaku; Fu and points).
-fn parts(win: &Win, reading: &Reading) -> (Vec<u8>, Vec<yaku::Yaku>, u8) {
+/// The yakuman, the yaku with their han, and the items of fu of one reading (01, Yaku; Fu and points).
+fn parts(win: &Win, reading: &Reading) -> (Vec<u8>, Vec<yaku::Yaku>, fu::Items) {
     let mut yakuman = yakuman::of_winning(win);
     let mut yaku = yaku::of_winning(win);
     let fu = match reading {
@@ -68,7 +74,7 @@ fn parts(win: &Win, reading: &Reading) -> (Vec<u8>, Vec<yaku::Yaku>, u8) {
         }
         Reading::ThirteenOrphans => {
             yakuman.push(36);
-            0
+            fu::Items::default()
         }
     };
     (yakuman, yaku, fu)
@@ -76,17 +82,16 @@ fn parts(win: &Win, reading: &Reading) -> (Vec<u8>, Vec<yaku::Yaku>, u8) {
 
 /// The value of one reading; with a yakuman only yakuman count (01, Yaku; Fu and points).
 pub fn appraise(win: &Win, reading: &Reading) -> Option<Value> {
-    let (yakuman, yaku, fu) = parts(win, reading);
+    let (yakuman, yaku, items) = parts(win, reading);
     if !yakuman.is_empty() {
-        let set = yakuman.iter().fold(0, |set, n| set | 1 << n);
-        return Some(value(win, 0, 0, set, points::YAKUMAN));
+        let list: Vec<yaku::Yaku> = yakuman.into_iter().map(|n| (n, 0)).collect();
+        return Some(value(win, &list, fu::Items::default(), 0, points::YAKUMAN));
     }
     if yaku.is_empty() {
         return None;
     }
-    let set = yaku.iter().fold(0, |set, (n, _)| set | 1 << n);
     let h = yaku.iter().map(|(_, han)| han).sum::<u8>() + win.dora();
-    Some(value(win, h, fu, set, points::basic(h, fu)))
+    Some(value(win, &yaku, items, h, points::basic(h, items.total())))
 }
 
 /// All readings of a sound hand in order, each with its value (01, Readings).

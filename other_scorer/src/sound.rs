@@ -3,6 +3,34 @@
 use crate::record::{Hand, CHANKAN, CHI, FIRST_TURN, RINSHAN, RON, TSUMO};
 use crate::tiles::starts_run;
 
+/// The ways to meet refusal 2 in words: those of `field_faults`, then a padding bit (01, Read).
+pub const FIELD_FAULTS: [&str; 10] = [
+    "indicator over 33",
+    "winning tile over 33",
+    "tile of a meld over 33",
+    "concealed tile over 33",
+    "riichi 3",
+    "situation over 4",
+    "a chi with no run from that tile",
+    "tsumo with discarder not 0",
+    "ron with discarder equal to winner",
+    "a padding bit set",
+];
+
+/// The ways to meet refusal 5 in words, those of `situation_faults` (01, Read).
+pub const SITUATION_FAULTS: [&str; 10] = [
+    "riichi without a closed hand",
+    "double riichi with a meld",
+    "rinshan on ron",
+    "rinshan with riichi",
+    "rinshan without a kan",
+    "chankan on tsumo",
+    "chankan with the winning tile's kind more than once",
+    "first turn with ron",
+    "first turn with a meld",
+    "first turn with riichi",
+];
+
 /// Each way to meet refusal 2 that Read and Write share (01, Read).
 pub fn field_faults(hand: &Hand) -> [bool; 9] {
     let melds = hand.melds();

@@ -1,18 +1,16 @@
-//! Hand notation: round trips, document 01's table, bad words, and the program.
-
-use std::process::{Command, Output};
+//! Hand notation: round trips, document 01's table, bad words.
 
 use other_scorer::codec::{pack, read};
 use other_scorer::deal::{drawn, near, themed};
 use other_scorer::fault;
 use other_scorer::notation::hex::{from_hex, to_hex};
-use other_scorer::notation::{parse, print, tiles};
+use other_scorer::notation::{parse, print, text, tiles, Fault};
 use other_scorer::rng::Rng;
 use other_scorer::{score, Hand, Scored};
 
 /// A hand from one line of notation.
-fn hand(line: &str) -> Result<Hand, String> {
-    parse(&line.split(' ').collect::<Vec<_>>())
+fn hand(line: &str) -> Result<Hand, Fault> {
+    parse(&line.split_whitespace().collect::<Vec<_>>())
 }
 
 /// The score of a line with dealer 0, East (01, Table of hands).
@@ -29,10 +27,10 @@ fn round_trips_of_sound_hands() {
             1 => near(&mut rng),
             _ => drawn(&mut rng),
         };
-        let text = print(&sound);
+        let text = print(&sound).expect("notation");
         assert_eq!(hand(&text), Ok(sound), "{text}");
         let mut words: Vec<&str> = text.split(' ').collect();
-        words.sort_by_key(|word| word.starts_with(['c', 'p', 'k', 'a']));
+        words.sort_by_key(|word| ["chi=", "pon=", "kan=", "ankan="].iter().any(|meld| word.starts_with(meld)));
         assert_eq!(parse(&words), Ok(sound), "{text}");
         let record = pack(&sound);
         assert_eq!(from_hex(&to_hex(&record)), Ok(record));
@@ -46,7 +44,7 @@ fn round_trips_of_hands_refused_with_4_or_5() {
         let record = fault::record(&mut rng, 12 + turn % 13);
         assert!(matches!(read(&record), Err(4 | 5)));
         let (refused, _) = other_scorer::codec::unpack(&record).expect("fields");
-        assert_eq!(hand(&print(&refused)), Ok(refused));
+        assert_eq!(print(&refused).map(|text| hand(&text)), Some(Ok(refused)));
     }
 }
 
@@ -56,7 +54,7 @@ fn tiles_come_in_any_order() {
     assert!(sorted.is_ok());
     for line in [
         "234567m345p67s22s+8s seat=1 ron=3",
-        "7s354p2s6s2s765432m+8s ron=3 seat=1 dora=4z",
+        "7s354p2s6s2s765432m+8s ron=3 seat=1 indicator=4z",
         "234567m 345p 67s 22s +8s seat=1 ron=3",
     ] {
         assert_eq!(hand(line), sorted);
@@ -91,80 +89,75 @@ fn table_of_hands() {
 
 #[test]
 fn all_words() {
-    let full = "7s+7s chi=123m pon=555p kan=1111z ankan=2222s seat=2 tsumo rinshan dora=6z";
-    assert_eq!(print(&hand(full).expect("notation")), full);
+    let full = "7s+7s chi=123m pon=555p kan=EEEE ankan=2222s seat=2 tsumo rinshan indicator=F";
+    assert_eq!(print(&hand(full).expect("notation")).as_deref(), Some(full));
     for words in ["riichi", "double", "riichi last", "first", "chankan", "last"] {
-        let line = format!("234567m345p2267s+8s seat=3 tsumo {words} dora=9m");
-        assert_eq!(print(&hand(&line).expect("notation")), line);
+        let line = format!("234567m345p2267s+8s seat=3 tsumo {words} indicator=9m");
+        assert_eq!(print(&hand(&line).expect("notation")), Some(line));
     }
-    assert_eq!(tiles("19m 19p 19s 1234567z").map(|list| list.len()), Ok(13));
+    let orphans = tiles("19m19p19s1234567z").expect("tiles");
+    assert_eq!((text(&orphans).as_str(), tiles("19m19p19sESWNPFC")), ("19m19p19sESWNPFC", Ok(orphans)));
+}
+
+#[test]
+fn notation_leaves_to_read_what_a_record_can_hold() {
+    let same = hand("234567m345p2267s+8s seat=1 ron=1").expect("notation");
+    assert_eq!(read(&pack(&same)), Err(2));
+    assert_eq!(print(&same).map(|text| hand(&text)), Some(Ok(same)));
+    let mut descending = same;
+    descending.concealed.swap(0, 1);
+    assert_eq!(print(&descending), None);
+    assert_eq!(print(&Hand { riichi: 3, ..same }), None);
 }
 
 #[test]
 fn bad_notation() {
     let good = "234567m345p2267s+8s seat=1 ron=3";
-    for (from, to) in [
-        ("+8s", ""),
-        ("+8s", "+88s"),
-        ("+8s", "+8"),
-        ("+8s", "+"),
-        ("+8s", "+8s+8s"),
-        ("345p", "34p"),
-        ("345p", "3456p"),
-        ("345p", "345x"),
-        ("345p", "305p"),
-        ("345p", "345pp"),
-        ("345p", "348z"),
-        ("seat=1 ", ""),
-        ("seat=1", "seat=4"),
-        ("seat=1", "seat="),
-        ("seat=1", "seat=1 seat=1"),
-        ("ron=3", ""),
-        ("ron=3", "ron=1"),
-        ("ron=3", "ron=4"),
-        ("ron=3", "ron=3 tsumo"),
-        ("ron=3", "ron=3 riichi double"),
-        ("ron=3", "ron=3 last first"),
-        ("ron=3", "ron=3 dora=44z"),
-        ("ron=3", "ron=3 dora=4z dora=4z"),
-        ("ron=3", "ron=3 ura=4z"),
-        ("ron=3", "ron=3 ippatsu"),
-        ("345p", "chi=345p"),
-        ("345p", " chi=891m"),
-        ("345p", " chi=123z"),
-        ("345p", " chi=135p"),
-        ("345p", " chi=3456p"),
-        ("345p", " pon=33p"),
-        ("345p", " pon=334p"),
-        ("345p", " kan=333p"),
-        ("345p", " ankan="),
+    for (from, to, word, why) in [
+        ("+8s", "", 3, "no winning tile: +"),
+        ("+8s", "+88s", 0, "one tile is needed, 2 given"),
+        ("+8s", "+8", 0, "the last digits of \"8\" have no suit"),
+        ("+8s", "+", 0, "no winning tile after +"),
+        ("+8s", "+8s+8s", 0, "sign 3 of \"8s+8s\", +"),
+        ("+8s", "+8s 5m", 1, "the winning tile is the last one"),
+        ("+8s", "+8s +5m", 1, "a second +"),
+        ("345p", "34p", 0, "12 tiles before +, with 0 melds 13 are needed"),
+        ("345p", "3456p", 0, "14 tiles before +"),
+        ("345p", "345x", 0, "sign 11 of \"234567m345x2267s\", x"),
+        ("345p", "305p", 0, "sign 9 of"),
+        ("345p", "345pp", 0, "sign 12 of \"234567m345pp2267s\", p: no digit before it"),
+        ("345p", "345P", 0, "sign 11 of \"234567m345P2267s\", P: the digits before it have no suit"),
+        ("345p", "348z", 0, "8z is no tile"),
+        ("seat=1 ", "", 2, "no winner"),
+        ("seat=1", "seat", 1, "the number is missing"),
+        ("seat=1", "seat=4", 1, "a seat is 0, 1, 2 or 3"),
+        ("seat=1", "seat=", 1, "a seat is 0, 1, 2 or 3"),
+        ("seat=1", "seat=1 seat=1", 2, "an earlier word has said this already"),
+        (" ron=3", "", 2, "neither tsumo nor the discarder"),
+        ("ron=3", "ron", 2, "whose discard is missing"),
+        ("ron=3", "ron=4", 2, "a seat is"),
+        ("ron=3", "ron=3 tsumo", 3, "an earlier word"),
+        ("ron=3", "ron=3 riichi double", 4, "an earlier word"),
+        ("ron=3", "ron=3 last first", 4, "an earlier word"),
+        ("ron=3", "ron=3 indicator=44z", 3, "one tile is needed"),
+        ("ron=3", "ron=3 indicator=4z indicator=4z", 4, "an earlier word"),
+        ("ron=3", "ron=3 dora=4z", 3, "the tile turned up is indicator="),
+        ("ron=3", "ron=3 ura=4z", 3, "ura= is no option"),
+        ("ron=3", "ron=3 ippatsu", 3, "neither an option nor tiles"),
+        ("345p", " chi=345p", 1, "sign 10 of \"345p2267s+8s\", +"),
+        ("345p", " chi=891m ", 1, "three neighbours"),
+        ("345p", " chi=123z ", 1, "three neighbours"),
+        ("345p", " chi=135p ", 1, "three neighbours"),
+        ("345p", " chi=3456p ", 1, "three neighbours"),
+        ("345p", " pon=33p ", 1, "three equal tiles"),
+        ("345p", " pon=334p ", 1, "three equal tiles"),
+        ("345p", " kan=333p ", 1, "four equal tiles"),
+        ("345p", " ankan= ", 1, "four equal tiles"),
     ] {
         let bad = good.replacen(from, to, 1);
-        assert!(hand(&bad).is_err(), "{bad}");
+        let fault = hand(&bad).expect_err(&bad);
+        assert!(fault.word == word && fault.why.contains(why), "{bad}: {fault:?}");
     }
     let melds = "8s+8s chi=123m chi=123m chi=123m chi=123m chi=123m seat=1 tsumo";
-    assert!(hand(melds).is_err());
-}
-
-/// Runs the program.
-fn program(line: &str) -> Output {
-    let words = line.split(' ').filter(|word| !word.is_empty());
-    Command::new(env!("CARGO_BIN_EXE_notation")).args(words).output().expect("the program")
-}
-
-#[test]
-fn the_program() {
-    let there = program("234567m345p67s22s+8s seat=1 ron=3");
-    let hex = String::from_utf8(there.stdout).expect("text");
-    assert!(there.status.success() && there.stderr.is_empty());
-    let back = program(&format!("{} score dealer=0 wind=0", hex.trim()));
-    let lines = "234567m345p2267s+8s seat=1 ron=3 dora=4z\nrefusal 0: accepted\nh 2\nfu 30\n\
-        yaku: 2 all simples; 4 pinfu\nchanges: seat 0 0, seat 1 +2000, seat 2 0, seat 3 -2000\n";
-    assert_eq!(String::from_utf8(back.stdout).expect("text"), lines);
-    for bad in ["", "12", "123", "zz", "8s+8s", "score", "234567m345p67s22s+8s seat=1 ron=3 wind=0"] {
-        let output = program(bad);
-        assert_eq!(output.status.code(), Some(1), "{bad}");
-        let message = String::from_utf8(output.stderr).expect("text");
-        assert!(output.stdout.is_empty() && message.lines().count() == 1 && message.ends_with('\n'));
-    }
+    assert_eq!(hand(melds).map_err(|fault| fault.word), Err(5));
 }

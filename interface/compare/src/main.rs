@@ -1,13 +1,10 @@
 //! Compares the linked archive with the other scorer: `compare COUNT SEED [LOGS]`.
 //! COUNT hands, LOGS logs (a thousandth of COUNT, at least 64, where not given). Exit 1 if anything differs.
 
-mod bookings;
-mod ffi;
 mod hands;
 mod lines;
 mod logs;
 mod report;
-mod same;
 
 // The generators of random bookings and games that the other scorer's own tests use.
 #[path = "../../../other_scorer/tests/chance/mod.rs"]

@@ -4,7 +4,7 @@ use crate::booking::Booking;
 use crate::codec::read;
 use crate::cover::Cover;
 use crate::game::{book, is_ready, Game};
-use crate::log::bookings;
+use crate::log::{bookings, letter};
 use crate::record::RON;
 use crate::score::score;
 
@@ -38,16 +38,6 @@ fn expected() -> Cover {
     cover.expect("sticks left at the end", &["yes"]);
     cover.expect("score under 0", &["yes"]);
     cover
-}
-
-/// The letter of a booking (01, Log).
-fn letter(booking: &Booking) -> &'static str {
-    match booking {
-        Booking::Riichi(_) => "R",
-        Booking::Win(_) => "W",
-        Booking::Draw(_) => "D",
-        Booking::Chombo(_) => "C",
-    }
 }
 
 /// Where the sticks of a game come from.
@@ -103,7 +93,7 @@ fn note_chombo(cover: &mut Cover, before: &Game, seat: u8) {
 }
 
 /// Counts what an accepted booking does to the deal.
-fn note_deal(cover: &mut Cover, before: &Game, after: &Game, letter: &str) {
+fn note_deal(cover: &mut Cover, before: &Game, after: &Game, letter: char) {
     let south_3 = (before.dealer, before.wind) == (3, 1);
     let stays = (before.dealer, before.wind) == (after.dealer, after.wind);
     let ends = south_3 && after.over && after.hands < 200;

@@ -3,19 +3,18 @@
 pub mod hex;
 pub mod parse;
 pub mod print;
-pub mod report;
 pub mod tiles;
 
-pub use parse::parse;
+pub use parse::{parse, Fault};
 pub use print::print;
-pub use tiles::tiles;
+pub use tiles::{text, tiles};
 
 use crate::record::{Hand, Meld};
 
 /// A hand from all its concealed tiles, the winning tile among them, and its melds by kind and text.
 pub fn hand(concealed: &str, winning: &str, melds: &[(u8, &str)]) -> Hand {
     let winning = tiles(winning).expect("a tile")[0];
-    let mut rest = tiles(concealed).expect("tiles");
+    let mut rest = tiles(&concealed.replace(' ', "")).expect("tiles");
     let at = rest.iter().position(|&tile| tile == winning).expect("the winning tile");
     rest.remove(at);
     rest.sort();

@@ -1,7 +1,9 @@
 //! From a hand to notation.
 
+use super::parse::parse;
 use super::tiles::text;
 use crate::record::*;
+use crate::sound::field_faults;
 
 /// The word of a meld.
 fn meld(meld: &Meld) -> String {
@@ -14,8 +16,8 @@ fn meld(meld: &Meld) -> String {
     format!("{name}={}", text(&meld.tiles()))
 }
 
-/// The notation of a hand that Read accepts or refuses with 4 or 5 (01, Read).
-pub fn print(hand: &Hand) -> String {
+/// The words of a hand whose fields are in range.
+fn words(hand: &Hand) -> String {
     let mut words = vec![format!("{}+{}", text(hand.concealed()), text(&[hand.winning]))];
     words.extend(hand.melds().iter().map(meld));
     words.push(format!("seat={}", hand.winner));
@@ -25,7 +27,17 @@ pub fn print(hand: &Hand) -> String {
     });
     words.push(["", "riichi", "double"][hand.riichi as usize].into());
     words.push(["", "rinshan", "chankan", "last", "first"][hand.situation as usize].into());
-    words.push(format!("dora={}", text(&[hand.indicator])));
+    words.push(format!("indicator={}", text(&[hand.indicator])));
     words.retain(|word| !word.is_empty());
     words.join(" ")
+}
+
+/// The notation of a hand, none if notation cannot say it: fields that meet refusal 2 (but for ron from the winner) or 3.
+pub fn print(hand: &Hand) -> Option<String> {
+    if field_faults(hand)[..8].contains(&true) {
+        return None;
+    }
+    let text = words(hand);
+    let back = parse(&text.split(' ').collect::<Vec<_>>());
+    (back.as_ref() == Ok(hand)).then_some(text)
 }

@@ -1,44 +1,54 @@
-//! Tiles as text: digits, then m, p, s, or z for honours 1 to 7 (01, Tiles and the hand record).
+//! Tiles as text: digits, then m, p or s, or z for honours 1 to 7; or a letter for an honour (01, Tiles and the hand record).
 
-const LETTERS: [char; 4] = ['m', 'p', 's', 'z'];
+use crate::tiles::{is_honour, EAST};
 
-/// The kinds named by a text such as "123m 99p 7z"; the error says what is wrong.
+const SUITS: [char; 4] = ['m', 'p', 's', 'z'];
+
+/// East South West North, white hatsu chun.
+const HONOURS: [char; 7] = ['E', 'S', 'W', 'N', 'P', 'F', 'C'];
+
+/// The kinds named by a text such as "123m99pEE"; the error says which sign is wrong.
 pub fn tiles(text: &str) -> Result<Vec<u8>, String> {
     let mut kinds = Vec::new();
     let mut digits: Vec<char> = Vec::new();
-    for sign in text.chars().filter(|sign| *sign != ' ') {
+    for (at, sign) in text.chars().enumerate() {
+        let place = format!("sign {} of \"{text}\"", at + 1);
         if ('1'..='9').contains(&sign) {
             digits.push(sign);
-            continue;
-        }
-        let Some(suit) = LETTERS.iter().position(|letter| *letter == sign) else {
-            return Err(format!("{text}: {sign:?} is neither a digit 1 to 9 nor m, p, s or z"));
-        };
-        if digits.is_empty() {
-            return Err(format!("{text}: no digit before {sign}"));
-        }
-        for digit in digits.drain(..) {
-            if sign == 'z' && digit > '7' {
-                return Err(format!("{text}: {digit}z is no tile, honours are 1z to 7z"));
+        } else if let Some(suit) = SUITS.iter().position(|&letter| letter == sign) {
+            if digits.is_empty() {
+                return Err(format!("{place}, {sign}: no digit before it"));
             }
-            kinds.push(9 * suit as u8 + (digit as u8 - b'1'));
+            if let (3, Some(digit)) = (suit, digits.iter().find(|&&digit| digit > '7')) {
+                return Err(format!("{place}, {sign}: {digit}z is no tile, honours are 1z to 7z"));
+            }
+            kinds.extend(digits.drain(..).map(|digit| 9 * suit as u8 + (digit as u8 - b'1')));
+        } else if let Some(honour) = HONOURS.iter().position(|&letter| letter == sign) {
+            if !digits.is_empty() {
+                return Err(format!("{place}, {sign}: the digits before it have no suit m, p, s or z"));
+            }
+            kinds.push(EAST + honour as u8);
+        } else {
+            return Err(format!("{place}, {sign}: a digit 1 to 9, a suit m p s z or an honour E S W N P F C is needed"));
         }
     }
-    if digits.is_empty() {
-        Ok(kinds)
-    } else {
-        Err(format!("{text}: no suit letter m, p, s or z after the last digits"))
+    match digits.is_empty() {
+        true => Ok(kinds),
+        false => Err(format!("the last digits of \"{text}\" have no suit m, p, s or z")),
     }
 }
 
-/// The text of kinds 0 to 33, a suit letter after each stretch of one suit.
+/// The text of kinds 0 to 33: a suit letter after each stretch of one suit, a letter for each honour.
 pub fn text(kinds: &[u8]) -> String {
     let mut text = String::new();
     for (at, &kind) in kinds.iter().enumerate() {
+        if is_honour(kind) {
+            text.push(HONOURS[(kind - EAST) as usize]);
+            continue;
+        }
         text.push((b'1' + kind % 9) as char);
-        let suit = kind / 9;
-        if kinds.get(at + 1).is_none_or(|next| next / 9 != suit) {
-            text.push(LETTERS[suit as usize]);
+        if kinds.get(at + 1).is_none_or(|next| next / 9 != kind / 9) {
+            text.push(SUITS[(kind / 9) as usize]);
         }
     }
     text

@@ -3,17 +3,9 @@
 use super::Survey;
 use crate::cover::Cover;
 use crate::entry::Entry;
-use crate::codec::unpack;
-use crate::sound::{field_faults, five_of_a_kind, is_descending, situation_faults};
+use crate::codec::{length_fault, unpack, LENGTH_FAULTS};
+use crate::sound::{field_faults, five_of_a_kind, is_descending, situation_faults, FIELD_FAULTS, SITUATION_FAULTS};
 
-const FIELDS: [&str; 10] = [
-    "indicator", "winning", "meld", "concealed", "riichi", "situation", "chi", "tsumo-discarder",
-    "ron-discarder", "padding",
-];
-const SITUATIONS: [&str; 10] = [
-    "riichi-open", "double-meld", "rinshan-ron", "rinshan-riichi", "rinshan-no-kan",
-    "chankan-tsumo", "chankan-held", "first-ron", "first-meld", "first-riichi",
-];
 const ORDER: [&str; 6] = ["2-not-3", "2-not-4", "2-not-5", "3-not-4", "3-not-5", "4-not-5"];
 
 /// Counts a fault that is the only one.
@@ -29,10 +21,10 @@ impl Survey {
     pub(super) fn expect_refusals(&mut self) {
         let cover = &mut self.cover;
         cover.expect_numbers("refusal", 0, 8);
-        cover.expect("refusal 1 by", &["under-4", "m-over-4", "length"]);
-        cover.expect("refusal 2 by one fault", &FIELDS);
+        cover.expect("refusal 1 by", &LENGTH_FAULTS);
+        cover.expect("refusal 2 by one fault", &FIELD_FAULTS);
         cover.expect("refusal 4 by", &["held", "indicator"]);
-        cover.expect("refusal 5 by one fault", &SITUATIONS);
+        cover.expect("refusal 5 by one fault", &SITUATION_FAULTS);
         cover.expect("two refusals met, first counts", &ORDER);
         cover.expect("refusal 8 by", &["dealer", "wind", "with-1-to-5-met"]);
         cover.expect_numbers("record length", 0, 16);
@@ -48,7 +40,10 @@ impl Survey {
         cover.add("dealer (4 is above 3)", entry.dealer.min(4));
         cover.add("wind (2 is above 1)", entry.wind.min(2));
         match entry.scored.refusal {
-            1 => cover.add("refusal 1 by", length_fault(&entry.record)),
+            1 => {
+                let fault = length_fault(&entry.record).expect("refusal 1");
+                cover.add("refusal 1 by", LENGTH_FAULTS[fault]);
+            }
             2..=5 => note_faults(cover, entry),
             8 => {
                 cover.add_if(entry.dealer > 3, "refusal 8 by", "dealer");
@@ -61,15 +56,6 @@ impl Survey {
     }
 }
 
-/// Why a record meets refusal 1 (01, Read).
-fn length_fault(record: &[u8]) -> &'static str {
-    match record {
-        [_, _, c, d, ..] if (c & 3) << 1 | d >> 7 > 4 => "m-over-4",
-        [_, _, _, _, ..] => "length",
-        _ => "under-4",
-    }
-}
-
 /// Counts the faults of a record that meets refusal 2 to 5 (01, Read).
 fn note_faults(cover: &mut Cover, entry: &Entry) {
     let Ok((hand, padding)) = unpack(&entry.record) else { return };
@@ -77,12 +63,12 @@ fn note_faults(cover: &mut Cover, entry: &Entry) {
     let situations = situation_faults(&hand);
     let held = hand.held();
     match entry.scored.refusal {
-        2 => alone(cover, "refusal 2 by one fault", &FIELDS, &fields),
+        2 => alone(cover, "refusal 2 by one fault", &FIELD_FAULTS, &fields),
         4 => {
             let five = held.iter().any(|a| held.iter().filter(|&b| a == b).count() > 4);
             cover.add("refusal 4 by", if five { "held" } else { "indicator" });
         }
-        5 => alone(cover, "refusal 5 by one fault", &SITUATIONS, &situations),
+        5 => alone(cover, "refusal 5 by one fault", &SITUATION_FAULTS, &situations),
         _ => {}
     }
     let later = [(3, is_descending(&hand)), (4, five_of_a_kind(&hand)), (5, situations.contains(&true))];

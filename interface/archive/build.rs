@@ -1,4 +1,4 @@
-//! Links libhandset.a from the folder HANDSET_LIB; without it from ../../target/staticlib.
+//! Links libhandset.a from the folder HANDSET_LIB; without it from target/staticlib.
 
 use std::{env, path::PathBuf};
 

@@ -1,5 +1,12 @@
-//! The archive's calls (include/herbassolh.h) behind safe functions.
+//! The archive's calls (include/herbassolh.h) behind safe functions; nothing else declares them.
 //! Each bool is a u8 here, so that a byte other than 0 or 1 is seen as a difference.
+
+pub mod differences;
+pub mod games;
+pub mod same;
+
+pub use differences::Differences;
+pub use games::Games;
 
 #[repr(C)]
 #[derive(Clone, Copy, Debug, Default, PartialEq, Eq)]
@@ -68,12 +75,29 @@ pub struct NextEntry {
     pub length: usize,
 }
 
+/// A buffer of so many bytes holds every record (HB_RECORD_MAX).
+pub const RECORD_MAX: usize = 13;
+
+/// A buffer of so many bytes holds every line of tally (HB_LINE_MAX).
+pub const LINE_MAX: usize = 83;
+
 impl Hand {
+    /// A hand from its 25 bytes as they lie in memory.
+    pub fn of(bytes: [u8; 25]) -> Hand {
+        let [how, winner, discarder, riichi, situation, indicator, winning, m, rest @ ..] = bytes;
+        let [a, b, c, d, concealed @ ..] = rest;
+        let fields = Fields { how, winner, discarder, riichi, situation, indicator, winning, m };
+        Hand { fields, melds: [a, b, c, d], concealed }
+    }
+
     /// The 25 bytes of a hand as they lie in memory.
-    pub fn bytes(&self) -> Vec<u8> {
+    pub fn bytes(&self) -> [u8; 25] {
         let Fields { how, winner, discarder, riichi, situation, indicator, winning, m } = self.fields;
-        let fields = [how, winner, discarder, riichi, situation, indicator, winning, m];
-        [&fields[..], &self.melds, &self.concealed].concat()
+        let [a, b, c, d] = self.melds;
+        let mut bytes = [0; 25];
+        bytes[..12].copy_from_slice(&[how, winner, discarder, riichi, situation, indicator, winning, m, a, b, c, d]);
+        bytes[12..].copy_from_slice(&self.concealed);
+        bytes
     }
 }
 
