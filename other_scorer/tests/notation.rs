@@ -114,7 +114,7 @@ fn notation_leaves_to_read_what_a_record_can_hold() {
 fn bad_notation() {
     let good = "234567m345p2267s+8s seat=1 ron=3";
     for (from, to, word, why) in [
-        ("+8s", "", 3, "no winning tile: +"),
+        ("+8s", "", 3, "no winning tile: put +"),
         ("+8s", "+88s", 0, "one tile is needed, 2 given"),
         ("+8s", "+8", 0, "the last digits of \"8\" have no suit"),
         ("+8s", "+", 0, "no winning tile after +"),
@@ -128,12 +128,12 @@ fn bad_notation() {
         ("345p", "345pp", 0, "sign 12 of \"234567m345pp2267s\", p: no digit before it"),
         ("345p", "345P", 0, "sign 11 of \"234567m345P2267s\", P: the digits before it have no suit"),
         ("345p", "348z", 0, "8z is no tile"),
-        ("seat=1 ", "", 2, "no winner"),
+        ("seat=1 ", "", 2, "the winner is missing"),
         ("seat=1", "seat", 1, "the number is missing"),
         ("seat=1", "seat=4", 1, "a seat is 0, 1, 2 or 3"),
         ("seat=1", "seat=", 1, "a seat is 0, 1, 2 or 3"),
         ("seat=1", "seat=1 seat=1", 2, "an earlier word has said this already"),
-        (" ron=3", "", 2, "neither tsumo nor the discarder"),
+        (" ron=3", "", 2, "tsumo or ron=, such as ron=3, is missing"),
         ("ron=3", "ron", 2, "whose discard is missing"),
         ("ron=3", "ron=4", 2, "a seat is"),
         ("ron=3", "ron=3 tsumo", 3, "an earlier word"),

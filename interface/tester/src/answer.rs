@@ -60,9 +60,10 @@ impl Answer {
 
     /// What was asked, and whether it was accepted.
     pub fn head(&self, page: &mut Page) {
-        let notation = self.notation().or(self.hand().map(fields)).unwrap_or("no fields".into());
+        let notation = self.notation().or(self.hand().map(fields)).unwrap_or("none".into());
         page.row("hand", notation);
-        let own = self.hand().map(|hand| format!("; the winner is {}", seat_wind(hand.winner, self.dealer)));
+        let winner = self.hand().filter(|_| self.dealer < 4).map(|hand| hand.winner);
+        let own = winner.map(|winner| format!("; the winner is {}", seat_wind(winner, self.dealer)));
         let round = if self.wind < 2 { wind(self.wind).to_string() } else { self.wind.to_string() };
         page.row("table", format!("dealer={} wind={round}{}", self.dealer, own.unwrap_or_default()));
         page.row("record", format!("{}, {}", to_hex(&self.record), count(self.record.len(), "byte")));

@@ -39,8 +39,8 @@ pair, four groups, wait, tsumo, rounding), changes of seats 0 to 3, differences.
 pub const READINGS: &str = "\
 tester readings HAND [dealer=N] [wind=E|S] [--plain]
 
-HAND as for `tester hand`. Lists every reading in document 01's order: pair, groups, the part that the winning tile
-completes, yaku, h, fu and gain; > marks the reported one, and each other has the reason why it loses.
+HAND as for `tester hand`. Lists every reading in document 01's order: pair, groups, place (what the winning tile
+completes: 0 the pair, then the groups from 1), yaku, h, fu and gain. > marks the reported one; each other says why it loses.
 
 For scripts: the lines of `hand` up to why, then reading N SHAPE PAIR GROUPS PLACE YAKU H FU GAIN reported|loses.
 ";

@@ -14,11 +14,11 @@ use crate::words::{Bad, Words};
 
 /// The dealer and round wind, seat 0 and East where they are not given.
 pub fn table(words: &mut Words) -> Result<(u8, u8), Bad> {
-    let dealer = words.take_number("dealer", "0 to 3")?;
+    let dealer = words.take_number("dealer", "0 to 3 (up to 255 to see it refused)")?;
     let wind = words.take("wind", |value| match value.to_ascii_uppercase().as_str() {
         "E" => Ok(0),
         "S" => Ok(1),
-        number => number.parse().map_err(|_| "E, S, 0 or 1 is needed".to_string()),
+        number => number.parse().map_err(|_| "E, S, 0 or 1 is needed (a number up to 255 to see it refused)".to_string()),
     })?;
     Ok((dealer.unwrap_or(0), wind.unwrap_or(0)))
 }
@@ -70,6 +70,7 @@ pub fn log(core: &mut Core, words: &Words, raw: bool) -> Result<Log, Bad> {
             io::stdin().read_to_end(&mut content).map_err(|error| words.bad(0, error))?;
             ("standard input", content)
         }
+        [file, _, ..] if Path::new(file).exists() => return Err(words.bad(1, "one file is enough")),
         [file] if Path::new(file).exists() => (file, fs::read(file).map_err(|error| words.bad(0, error))?),
         _ => {
             let wrong = "no file of this name, nor hexadecimal digits";

@@ -38,7 +38,7 @@ const COMMANDS: [(&str, Command, &str); 5] = [
 
 /// Runs the command that the first word names.
 fn run(core: &mut Core, mut words: Words) -> Result<String, Bad> {
-    let wants_help = words.take_flag("--help") | words.take_flag("-h");
+    let wants_help = words.take_flag("--help") | words.take_flag("-h") | words.take_flag("help");
     let Some(name) = words.take_first() else {
         return match wants_help {
             true => Ok(help::TOOL.into()),

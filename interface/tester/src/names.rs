@@ -48,14 +48,14 @@ pub fn yaku(number: usize) -> &'static str {
     YAKU[number - 1]
 }
 
-/// A wind by its letter, 0 for East.
+/// A wind 0 to 3 by its letter, 0 for East.
 pub fn wind(number: u8) -> char {
-    ['E', 'S', 'W', 'N'][number as usize % 4]
+    ['E', 'S', 'W', 'N'][number as usize]
 }
 
-/// The wind of a seat for a dealer (01, Yaku).
+/// The wind of a seat for a dealer, both 0 to 3 (01, Yaku).
 pub fn seat_wind(seat: u8, dealer: u8) -> char {
-    wind((seat + 4 - dealer % 4) % 4)
+    wind((seat + 4 - dealer) % 4)
 }
 
 /// Points with a comma at each thousand.

@@ -24,7 +24,7 @@ pub fn run(core: &mut Core, mut words: Words) -> Result<String, Bad> {
     page.row("readings *", answer.readings.len().to_string());
     if !answer.readings.is_empty() {
         page.line("");
-        let heads = ["", "pair", "groups", "won on", "yaku", "h", "fu", "gain", ""].map(String::from).to_vec();
+        let heads = ["", "pair", "groups", "place", "yaku", "h", "fu", "gain", ""].map(String::from).to_vec();
         let rows = (1..).zip(&answer.readings).map(|(n, valued)| row(n, valued, &answer));
         let all: Vec<Vec<String>> = [heads].into_iter().chain(rows).collect();
         table(&all, &[5, 6, 7]).iter().for_each(|line| page.line(line));
@@ -41,11 +41,11 @@ fn numbers(value: &Value) -> Vec<usize> {
     (1..37).filter(|n| value.yaku >> n & 1 == 1).collect()
 }
 
-/// The part that the winning tile completes: the pair or a group.
-fn won_on(reading: &Reading) -> String {
+/// The place that the winning tile completes, 0 the pair, then the groups from 1 (01, Readings).
+fn place(reading: &Reading) -> String {
     match reading {
-        Reading::Regular { place: 0, .. } => "pair".into(),
-        Reading::Regular { place, .. } => parts(reading).1[place - 1].clone(),
+        Reading::Regular { place: 0, .. } => "0 pair".into(),
+        Reading::Regular { place, .. } => format!("{place} {}", parts(reading).1[place - 1]),
         _ => String::new(),
     }
 }
@@ -62,9 +62,9 @@ fn verdict(at: usize, answer: &Answer) -> String {
     } else if value.gain < reported.gain {
         format!("{} less than {n}", points((reported.gain - value.gain) as i64))
     } else if value.h < reported.h {
-        format!("gain of {n}, but h {} under {}", value.h, reported.h)
+        format!("same gain as {n}, h {} under {}", value.h, reported.h)
     } else if value.fu < reported.fu {
-        format!("gain and h of {n}, but fu {} under {}", value.fu, reported.fu)
+        format!("same gain and h as {n}, fu {} under {}", value.fu, reported.fu)
     } else {
         format!("equal to {n}, which comes first")
     }
@@ -82,7 +82,7 @@ fn row(n: usize, (reading, value): &Valued, answer: &Answer) -> Vec<String> {
         }
         None => ["-"; 4].map(String::from),
     };
-    let start = vec![format!("{mark}{n}"), pair, groups, won_on(reading)];
+    let start = vec![format!("{mark}{n}"), pair, groups, place(reading)];
     [start, figures.to_vec(), vec![verdict(n - 1, answer)]].concat()
 }
 

@@ -21,11 +21,11 @@ pub fn log(core: &mut Core, name: &str, text: &str) -> Result<Vec<u8>, Bad> {
 
 /// The bytes of a line; none for an empty one.
 fn entry(core: &mut Core, mut words: Words) -> Result<Vec<u8>, Bad> {
-    let first = words.texts().first().map(|word| word.to_string());
+    let first = words.texts().first().map(|word| word.to_ascii_lowercase());
     let kind = match first.as_deref() {
         None => return Ok(Vec::new()),
         Some(kind @ ("riichi" | "win" | "draw" | "chombo" | "bytes")) => kind,
-        Some(_) => return Err(words.bad(0, "a line begins with riichi, win, draw, chombo or bytes")),
+        Some(_) => return Err(words.bad(0, "a line begins with riichi, win, draw, chombo or bytes (--bytes if the file is no text)")),
     };
     words.take_first();
     let booking = match kind {

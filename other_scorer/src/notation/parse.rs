@@ -148,7 +148,7 @@ impl Draft {
     /// The hand, once all words are in; the error has the place of the word it is about, none if one is missing.
     fn hand(mut self) -> Result<Hand, (Option<usize>, String)> {
         let missing = |what: &str| (None, what.to_string());
-        let plus = self.plus.ok_or(missing("no winning tile: + before it, as in 234567m345p67s22s+8s"))?;
+        let plus = self.plus.ok_or(missing("no winning tile: put + before it, as in 234567m345p67s22s+8s"))?;
         let (_, winning) = self.winning.ok_or((Some(plus), "no winning tile after +".to_string()))?;
         let m = self.melds.len();
         let (given, needed) = (self.concealed.len(), 13 - 3 * m);
@@ -156,8 +156,8 @@ impl Draft {
             let melds = if m == 1 { "1 meld".to_string() } else { format!("{m} melds") };
             return Err((Some(plus), format!("{given} tiles before +, with {melds} {needed} are needed")));
         }
-        let (_, winner) = self.seat.ok_or(missing("no winner, such as seat=1"))?;
-        let (_, (how, discarder)) = self.win.ok_or(missing("neither tsumo nor the discarder, such as ron=3"))?;
+        let (_, winner) = self.seat.ok_or(missing("the winner is missing, such as seat=1"))?;
+        let (_, (how, discarder)) = self.win.ok_or(missing("tsumo or ron=, such as ron=3, is missing"))?;
         let or = |field: Given<u8>, usual| field.map_or(usual, |(_, value)| value);
         let mut hand = Hand {
             how,
