@@ -1,6 +1,8 @@
 //! The archive's calls (include/herbassolh.h) behind safe functions; nothing else declares them.
 //! Each bool is a u8 here, so that a byte other than 0 or 1 is seen as a difference.
 
+use std::fmt;
+
 pub mod differences;
 pub mod games;
 pub mod same;
@@ -43,13 +45,31 @@ pub struct Written {
     pub len: usize,
 }
 
+/// Yaku n at index n; shown as those that are held.
+#[repr(transparent)]
+#[derive(Clone, Copy, PartialEq, Eq)]
+pub struct Yaku(pub [u8; 37]);
+
+impl Yaku {
+    /// The numbers of the yaku held.
+    pub fn numbers(&self) -> Vec<usize> {
+        (0..self.0.len()).filter(|&n| self.0[n] != 0).collect()
+    }
+}
+
+impl fmt::Debug for Yaku {
+    fn fmt(&self, f: &mut fmt::Formatter) -> fmt::Result {
+        f.debug_map().entries(self.numbers().iter().map(|&n| (n, self.0[n]))).finish()
+    }
+}
+
 #[repr(C)]
 #[derive(Clone, Copy, Debug, PartialEq, Eq)]
 pub struct Scored {
     pub refusal: u8,
     pub h: u16,
     pub fu: u8,
-    pub yaku: [u8; 37],
+    pub yaku: Yaku,
     pub changes: [i32; 4],
 }
 

@@ -57,7 +57,7 @@ pub fn scored(scored: &other_scorer::Scored) -> archive::Scored {
         refusal: scored.refusal,
         h: scored.h as u16,
         fu: scored.fu,
-        yaku,
+        yaku: archive::Yaku(yaku),
         changes: scored.changes,
     }
 }

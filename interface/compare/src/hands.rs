@@ -109,9 +109,7 @@ fn compare(report: &mut Report, rng: &mut Rng, index: usize) {
 
     let wanted = same::scored(&scored);
     report.count("Score by refusal", wanted.refusal);
-    for n in (1..37u16).filter(|&n| wanted.yaku[n as usize] == 1) {
-        report.count("Score by yaku", n);
-    }
+    wanted.yaku.numbers().iter().for_each(|&n| report.count("Score by yaku", n as u16));
     let got = archive::score(&record, dealer, wind);
     report.same("Score", got, wanted, || format!("{} dealer {dealer} wind {wind}", hex(&record)));
 

@@ -3,7 +3,7 @@
 use archive::Scored;
 use other_scorer::codec::unpack;
 use other_scorer::notation::hex::to_hex;
-use other_scorer::notation::print;
+use other_scorer::notation::{print, text};
 use other_scorer::reading::Reading;
 use other_scorer::score::{best, valued, Valued};
 use other_scorer::Hand;
@@ -48,7 +48,7 @@ impl Answer {
         self.fields.as_ref().map(|(hand, _)| hand)
     }
 
-    /// The hand's notation, if notation can say it.
+    /// The notation that gives this very record, if there is one.
     fn notation(&self) -> Option<String> {
         self.fields.as_ref().filter(|(_, padding)| !padding).and_then(|(hand, _)| print(hand))
     }
@@ -60,8 +60,8 @@ impl Answer {
 
     /// What was asked, and whether it was accepted.
     pub fn head(&self, page: &mut Page) {
-        let notation = self.notation().or(self.hand().map(fields)).unwrap_or("none".into());
-        page.row("hand", notation);
+        let hand = self.hand().map(|hand| print(hand).unwrap_or_else(|| fields(hand)));
+        page.row("hand", hand.unwrap_or("none".into()));
         let winner = self.hand().filter(|_| self.dealer < 4).map(|hand| hand.winner);
         let own = winner.map(|winner| format!("; the winner is {}", seat_wind(winner, self.dealer)));
         let round = if self.wind < 2 { wind(self.wind).to_string() } else { self.wind.to_string() };
@@ -102,7 +102,6 @@ fn fields(hand: &Hand) -> String {
 
 /// The pair and the groups of a reading; both empty but for a regular one.
 pub fn parts(reading: &Reading) -> (String, Vec<String>) {
-    use other_scorer::notation::text;
     match reading {
         Reading::Regular { pair, groups, .. } => (text(&[*pair; 2]), groups.iter().map(|group| text(&group.tiles())).collect()),
         _ => Default::default(),

@@ -9,7 +9,7 @@ use crate::input;
 use crate::log::entries;
 use crate::names::count;
 use crate::page::{table, Page};
-use crate::refusals::{sentence, words as in_words};
+use crate::refusals::{refusal as in_words, sentence};
 use crate::walk::{walk, whole, Walk};
 use crate::words::{Bad, Words};
 

@@ -44,11 +44,6 @@ pub fn run(core: &mut Core, mut words: Words) -> Result<String, Bad> {
     Ok(page.finish())
 }
 
-/// The numbers of the yaku that the core gives.
-pub fn held(scored: &Scored) -> Vec<usize> {
-    (1..scored.yaku.len()).filter(|&n| scored.yaku[n] != 0).collect()
-}
-
 /// A reading with its melds, the part that the winning tile completes in brackets.
 fn in_words(hand: &Hand, reading: &Reading) -> String {
     let (pair, groups) = parts(reading);
@@ -63,7 +58,7 @@ fn in_words(hand: &Hand, reading: &Reading) -> String {
 /// The yaku by number and name with their han, the dora, and h.
 fn yaku_rows(page: &mut Page, answer: &Answer, hand: &Hand, value: &Value) {
     let mut label = "yaku *";
-    for n in held(&answer.scored) {
+    for n in answer.scored.yaku.numbers() {
         let han = if n < FIRST_YAKUMAN { value.han[n].to_string() } else { "yakuman".into() };
         page.figure(label, format!("{n:>2} {}", yaku(n)), han);
         label = "";
@@ -177,9 +172,9 @@ fn plain_score(page: &mut Page, answer: &Answer) {
     let value = answer.reported.and_then(|at| answer.readings[at].1);
     page.plain("h", [scored.h]);
     page.plain("fu", [scored.fu]);
-    page.plain("yaku", held(scored));
+    page.plain("yaku", scored.yaku.numbers());
     if let Some(value) = value {
-        page.plain("han", held(scored).iter().map(|&n| value.han[n]));
+        page.plain("han", scored.yaku.numbers().iter().map(|&n| value.han[n]));
         page.plain("fu-items", items(&value.items));
     }
     page.plain("changes", scored.changes);

@@ -67,7 +67,7 @@ fn main() -> ExitCode {
     if differences.count == 0 {
         return ExitCode::SUCCESS;
     }
-    eprintln!("!!! THE TWO SCORERS DIFFER, {} times", differences.count);
+    eprintln!("!!! THE TWO SCORERS DIFFER, {}", names::count(differences.count as usize, "time"));
     for difference in &differences.first {
         eprintln!("!!! {}", difference.replace('\n', "\n!!!"));
     }

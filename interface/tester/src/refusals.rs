@@ -10,36 +10,34 @@ use other_scorer::{Booking, Game, Hand};
 
 use crate::names::count;
 
-/// Refusals 0 to 14 by number (01, each at its place).
-const REFUSALS: [&str; 15] = [
-    "accepted",
-    "no record has this length",
-    "a field that no record may hold",
-    "the concealed tiles descend",
-    "over four of a kind",
-    "riichi or situation does not fit the hand",
-    "no reading",
-    "readings but none with a yaku",
-    "an argument out of range",
-    "the game is not open",
-    "declared already this hand",
-    "riichi field and declaration differ",
-    "a declared seat not ready",
-    "buffer shorter than the record",
-    "no entry of a log",
-];
-
-/// A refusal in words.
-pub fn words(refusal: u8) -> &'static str {
-    REFUSALS.get(refusal as usize).copied().unwrap_or("a refusal that document 01 does not have")
+/// A refusal in words (01, each at its place); docs/REFUSALS.md has the same.
+pub fn refusal(number: u8) -> &'static str {
+    match number {
+        0 => "accepted",
+        1 => "the length is wrong or m is over 4",
+        2 => "a field is out of range",
+        3 => "the concealed tiles descend somewhere",
+        4 => "over four of a kind",
+        5 => "riichi or situation does not fit the hand",
+        6 => "no reading",
+        7 => "readings but none with a yaku",
+        8 => "an argument is out of range",
+        9 => "the game is not open",
+        10 => "declared already this hand",
+        11 => "the riichi field and the declaration differ",
+        12 => "a declared seat is not ready",
+        13 => "the buffer is shorter than the record",
+        14 => "the log's entry is bad or cut",
+        _ => "no refusal of document 01",
+    }
 }
 
 /// The refusal with its number, its words and the conditions met.
-pub fn sentence(refusal: u8, met: &[String]) -> String {
-    match (refusal, met) {
-        (0, _) => words(0).into(),
-        (_, []) => format!("refusal {refusal}, {}", words(refusal)),
-        _ => format!("refusal {refusal}, {}: {}", words(refusal), met.join("; ")),
+pub fn sentence(number: u8, met: &[String]) -> String {
+    match (number, met) {
+        (0, _) => refusal(0).into(),
+        (_, []) => format!("refusal {number}, {}", refusal(number)),
+        _ => format!("refusal {number}, {}: {}", refusal(number), met.join("; ")),
     }
 }
 

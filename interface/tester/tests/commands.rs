@@ -119,8 +119,8 @@ fn the_worked_logs() {
     let lines = "1 W 0 30000 32000 30000 28000 0\n2 R 8 30000 32000 30000 28000 0\n3 C 0 33000 23000 33000 31000 0\n";
     assert_eq!(answer(&format!("tally {second} --plain")), lines);
     let out = answer(&format!("tally {second} --words"));
-    assert!(out.contains("refusal 8, an argument out of range: seat 4 over 3\n"), "{out}");
-    assert!(out.contains("stopped at byte 16, 40: refusal 14, no entry of a log: kind over 3\n"), "{out}");
+    assert!(out.contains("refusal 8, an argument is out of range: seat 4 over 3\n"), "{out}");
+    assert!(out.contains("stopped at byte 16, 40: refusal 14, the log's entry is bad or cut: kind over 3\n"), "{out}");
     assert!(out.contains("3 entries, 1 refused; 2 hands finished; E2 is on\n"), "{out}");
 }
 
@@ -133,11 +133,11 @@ fn refusals_of_bookings_say_which_condition_was_met() {
     let wanted = [
         "",
         "refusal 10, declared already this hand: seat 1",
-        "refusal 12, a declared seat not ready: seat 1",
-        "refusal 11, riichi field and declaration differ: seat 1 has declared, the record has no riichi",
-        "refusal 11, riichi field and declaration differ: the record has riichi, seat 2 has not declared",
-        "refusal 2, a field that no record may hold: indicator over 33",
-        "refusal 8, an argument out of range: seat 9 over 3",
+        "refusal 12, a declared seat is not ready: seat 1",
+        "refusal 11, the riichi field and the declaration differ: seat 1 has declared, the record has no riichi",
+        "refusal 11, the riichi field and the declaration differ: the record has riichi, seat 2 has not declared",
+        "refusal 2, a field is out of range: indicator over 33",
+        "refusal 8, an argument is out of range: seat 9 over 3",
     ];
     assert_eq!((ran.status, words), (0, wanted.to_vec()), "{}", ran.out);
     for (deals, why) in [("draw\n".repeat(8), "it is over"), ("draw 0\n".repeat(200), "200 hands are finished")] {
