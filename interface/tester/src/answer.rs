@@ -5,10 +5,10 @@ use other_scorer::codec::unpack;
 use other_scorer::notation::hex::to_hex;
 use other_scorer::notation::{print, text};
 use other_scorer::reading::Reading;
-use other_scorer::score::{best, valued, Valued};
+use other_scorer::score::{best, valued, Value, Valued};
 use other_scorer::Hand;
 
-use crate::core::Core;
+use crate::both::Core;
 use crate::input;
 use crate::names::{count, seat_wind, wind};
 use crate::page::Page;
@@ -24,7 +24,7 @@ pub struct Answer {
     fields: Option<(Hand, bool)>,
     /// Every reading with its value, and the place of the reported one; of a record with refusal 0, 6 or 7.
     pub readings: Vec<Valued>,
-    pub reported: Option<usize>,
+    pub best: Option<usize>,
 }
 
 impl Answer {
@@ -39,13 +39,19 @@ impl Answer {
             (0 | 6 | 7, Some((hand, _))) => valued(hand, dealer, wind),
             _ => Vec::new(),
         };
-        let reported = best(&readings);
-        Ok(Answer { record, dealer, wind, scored, fields, readings, reported })
+        let best = best(&readings);
+        Ok(Answer { record, dealer, wind, scored, fields, readings, best })
     }
 
     /// The hand of a record that Read accepts.
     pub fn hand(&self) -> Option<&Hand> {
         self.fields.as_ref().map(|(hand, _)| hand)
+    }
+
+    /// The reported reading and its value.
+    pub fn reported(&self) -> Option<(&Reading, &Value)> {
+        let (reading, value) = &self.readings[self.best?];
+        Some((reading, value.as_ref()?))
     }
 
     /// The notation that gives this very record, if there is one.
@@ -103,7 +109,9 @@ fn fields(hand: &Hand) -> String {
 /// The pair and the groups of a reading; both empty but for a regular one.
 pub fn parts(reading: &Reading) -> (String, Vec<String>) {
     match reading {
-        Reading::Regular { pair, groups, .. } => (text(&[*pair; 2]), groups.iter().map(|group| text(&group.tiles())).collect()),
+        Reading::Regular { pair, groups, .. } => {
+            (text(&[*pair; 2]), groups.iter().map(|group| text(&group.tiles())).collect())
+        }
         _ => Default::default(),
     }
 }

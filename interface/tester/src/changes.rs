@@ -31,6 +31,11 @@ pub fn every(bytes: &[u8]) -> impl Iterator<Item = Change> + '_ {
     bits.chain(cuts).chain(swaps)
 }
 
+/// How many changes `every` makes of so many bytes, at most.
+pub fn how_many(n: usize) -> usize {
+    8 * n + n + n * n.saturating_sub(1) / 2
+}
+
 /// So many random changes of a seed, each of one to four steps.
 pub fn random(bytes: &[u8], count: usize, seed: u64) -> impl Iterator<Item = Change> + '_ {
     let mut rng = Rng::new(seed);

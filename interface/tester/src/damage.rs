@@ -3,18 +3,21 @@
 use archive::Games;
 use other_scorer::notation::hex::to_hex;
 
-use crate::changes::{every, random, Change, EVERY, RANDOM};
-use crate::core::Core;
+use crate::both::Core;
+use crate::changes::{every, how_many, random, Change, EVERY, RANDOM};
 use crate::input;
 use crate::log::entries;
-use crate::names::count;
+use crate::names::{count, points};
 use crate::page::{table, Page};
-use crate::refusals::{refusal as in_words, sentence};
+use crate::refusals::{refusal as in_words, sentence, LAST};
 use crate::walk::{walk, whole, Walk};
 use crate::words::{Bad, Words};
 
 /// The number of refusals, 0 for accepted among them.
-const REFUSALS: usize = 15;
+const REFUSALS: usize = LAST as usize + 1;
+
+/// With more changes than this a word is said before they are tried.
+const MANY: usize = 100_000;
 
 /// What is damaged: a record at a table, or a log with its walk.
 enum Subject {
@@ -39,6 +42,10 @@ pub fn run(core: &mut Core, mut words: Words) -> Result<String, Bad> {
     };
     let subject = subject(core, words)?;
     let bytes = subject.bytes();
+    let total = number.unwrap_or_else(|| how_many(bytes.len()));
+    if total > MANY {
+        eprintln!("tester: up to {} changes to try; random=N tries N", points(total as i64));
+    }
     let changes: Box<dyn Iterator<Item = Change>> = match number {
         Some(number) => Box::new(random(bytes, number, seed.unwrap_or(1))),
         None => Box::new(every(bytes)),
@@ -49,7 +56,10 @@ pub fn run(core: &mut Core, mut words: Words) -> Result<String, Bad> {
         let count = counts.iter_mut().find(|count| count.kind == change.kind).expect("a counted kind");
         count.tried += 1;
         for refusal in subject.refusals(core, &change) {
-            count.refusals[refusal as usize % REFUSALS] += 1;
+            // A number that document 01 does not have is a difference, and shown as one.
+            if let Some(met) = count.refusals.get_mut(refusal as usize) {
+                *met += 1;
+            }
         }
     }
     Ok(if plain { plain_page(core, &counts) } else { page(core, &subject, &counts) })
@@ -84,7 +94,7 @@ impl Subject {
         }
     }
 
-    /// The refusals of a damaged copy: Score's; or those of the log's entries from the first changed one on, and the walk's.
+    /// The refusals of a damaged copy: Score's; or those of a log's entries from the first changed one on, and 14.
     fn refusals(&self, core: &mut Core, change: &Change) -> Vec<u8> {
         match self {
             Subject::Hand { dealer, wind, .. } => {
@@ -123,7 +133,8 @@ fn page(core: &mut Core, subject: &Subject, counts: &[Count]) -> String {
     let mut page = Page::default();
     page.line(subject.head(core));
     page.line("");
-    let met: Vec<usize> = (0..REFUSALS).filter(|&refusal| counts.iter().any(|count| count.refusals[refusal] > 0)).collect();
+    let is_met = |refusal: &usize| counts.iter().any(|count| count.refusals[*refusal] > 0);
+    let met: Vec<usize> = (0..REFUSALS).filter(is_met).collect();
     let mut heads = vec!["change".to_string(), "tried".to_string()];
     heads.extend(met.iter().map(|refusal| if *refusal == 0 { "accepted".into() } else { refusal.to_string() }));
     let rows = counts.iter().map(|count| {
@@ -137,7 +148,9 @@ fn page(core: &mut Core, subject: &Subject, counts: &[Count]) -> String {
     if let Subject::Log { .. } = subject {
         page.line("refusals of the entries from the first changed one on; 14 ends a walk");
     }
-    met.iter().filter(|&&refusal| refusal > 0).for_each(|&refusal| page.line(format!("{refusal:>2} {}", in_words(refusal as u8))));
+    for refusal in met.into_iter().filter(|&refusal| refusal > 0) {
+        page.line(format!("{refusal:>2} {}", in_words(refusal as u8)));
+    }
     page.line(core.verdict());
     page.finish()
 }

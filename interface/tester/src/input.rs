@@ -8,17 +8,18 @@ use other_scorer::codec::pack;
 use other_scorer::notation::hex::{from_hex, is_hex};
 use other_scorer::notation::parse;
 
-use crate::core::Core;
+use crate::both::Core;
 use crate::text;
 use crate::words::{Bad, Words};
 
 /// The dealer and round wind, seat 0 and East where they are not given.
 pub fn table(words: &mut Words) -> Result<(u8, u8), Bad> {
     let dealer = words.take_number("dealer", "0 to 3 (up to 255 to see it refused)")?;
+    let needed = "E, S, 0 or 1 is needed (a number up to 255 to see it refused)";
     let wind = words.take("wind", |value| match value.to_ascii_uppercase().as_str() {
         "E" => Ok(0),
         "S" => Ok(1),
-        number => number.parse().map_err(|_| "E, S, 0 or 1 is needed (a number up to 255 to see it refused)".to_string()),
+        number => number.parse().map_err(|_| needed.to_string()),
     })?;
     Ok((dealer.unwrap_or(0), wind.unwrap_or(0)))
 }
@@ -27,7 +28,8 @@ pub fn table(words: &mut Words) -> Result<(u8, u8), Bad> {
 pub fn bytes(words: &Words) -> Option<Result<Vec<u8>, Bad>> {
     let texts = words.texts();
     let all = !texts.is_empty() && texts.iter().all(|word| is_hex(word));
-    all.then(|| from_hex(&texts.concat()).map_err(|_| words.bad(texts.len() - 1, "two hexadecimal digits make a byte, one is left over")))
+    let left_over = || words.bad(texts.len() - 1, "two hexadecimal digits make a byte, one is left over");
+    all.then(|| from_hex(&texts.concat()).map_err(|_| left_over()))
 }
 
 /// The record of notation or of hexadecimal digits.
@@ -93,7 +95,7 @@ enum Form<'a> {
     Bytes,
 }
 
-/// Text holds no control signs but tabs and line ends; it is hexadecimal if it is all digits. No log with a win is text.
+/// Text holds no control signs but tabs and line ends; every log with a win has another, its header 10.
 fn form(content: &[u8]) -> Form<'_> {
     let is_control = |sign: char| sign.is_control() && !"\t\r\n".contains(sign);
     let Some(text) = std::str::from_utf8(content).ok().filter(|text| !text.contains(is_control)) else {

@@ -4,7 +4,7 @@ use std::fs;
 
 use other_scorer::notation::hex::to_hex;
 
-use crate::core::Core;
+use crate::both::Core;
 use crate::input;
 use crate::names::count;
 use crate::page::{table, Page};

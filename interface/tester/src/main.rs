@@ -2,15 +2,17 @@
 //! with the other scorer. Exit status 0: answered, refusals too; 1: the two differ; 2: bad input, told in one line.
 
 mod answer;
+mod both;
 mod changes;
-mod core;
 mod damage;
+mod fu;
 mod hand;
 mod help;
 mod input;
 mod log;
 mod names;
 mod page;
+mod payments;
 mod readings;
 mod refusals;
 mod tally;
@@ -21,7 +23,7 @@ mod words;
 use std::io::{self, Write};
 use std::process::ExitCode;
 
-use core::Core;
+use both::Core;
 use words::{Bad, Words};
 
 /// A command: what it asks of the core, and the text it prints.
@@ -48,7 +50,10 @@ fn run(core: &mut Core, mut words: Words) -> Result<String, Bad> {
     match COMMANDS.iter().find(|(command, ..)| *command == name) {
         Some((.., help)) if wants_help => Ok(help.to_string()),
         Some((_, command, _)) => command(core, words),
-        None => Err(Bad::new(format!("word 1, \"{name}\": no command; there are hand, readings, log, tally and damage"))),
+        None => {
+            let why = "no command; there are hand, readings, log, tally and damage";
+            Err(Bad::new(format!("word 1, \"{name}\": {why}")))
+        }
     }
 }
 

@@ -4,7 +4,7 @@ use other_scorer::reading::Reading;
 use other_scorer::score::{Valued, Value};
 
 use crate::answer::{parts, shape, Answer};
-use crate::core::Core;
+use crate::both::Core;
 use crate::names::{points, yaku};
 use crate::page::{table, Page};
 use crate::words::{Bad, Words};
@@ -53,9 +53,7 @@ fn place(reading: &Reading) -> String {
 /// Why a reading is reported, or loses to the reported one (01, Readings).
 fn verdict(at: usize, answer: &Answer) -> String {
     let Some(value) = &answer.readings[at].1 else { return "no yaku".into() };
-    let Some((best, reported)) = answer.reported.and_then(|best| Some((best, answer.readings[best].1?))) else {
-        return String::new();
-    };
+    let (Some(best), Some((_, reported))) = (answer.best, answer.reported()) else { return String::new() };
     let n = best + 1;
     if at == best {
         "REPORTED".into()
@@ -74,7 +72,7 @@ fn verdict(at: usize, answer: &Answer) -> String {
 fn row(n: usize, (reading, value): &Valued, answer: &Answer) -> Vec<String> {
     let (pair, groups) = parts(reading);
     let groups = if pair.is_empty() { shape(reading).to_string() } else { groups.join(" ") };
-    let mark = if answer.reported == Some(n - 1) { "> " } else { "  " };
+    let mark = if answer.best == Some(n - 1) { "> " } else { "  " };
     let figures = match value {
         Some(value) => {
             let yaku: Vec<String> = numbers(value).iter().map(usize::to_string).collect();
@@ -105,7 +103,7 @@ fn plain_row(page: &mut Page, n: usize, (reading, value): &Valued, answer: &Answ
     };
     let yaku = value.as_ref().map_or(Vec::new(), numbers);
     let yaku: Vec<String> = yaku.iter().map(usize::to_string).collect();
-    let figure = |figure: fn(&Value) -> i32| or_none(value.as_ref().map_or(String::new(), |value| figure(value).to_string()));
+    let figure = |of: fn(&Value) -> i32| value.as_ref().map_or("-".into(), |value| of(value).to_string());
     page.plain(
         "reading",
         [
@@ -118,7 +116,7 @@ fn plain_row(page: &mut Page, n: usize, (reading, value): &Valued, answer: &Answ
             figure(|value| value.h as i32),
             figure(|value| value.fu as i32),
             figure(|value| value.gain),
-            if answer.reported == Some(n - 1) { "reported".into() } else { "loses".into() },
+            if answer.best == Some(n - 1) { "reported".into() } else { "loses".into() },
         ],
     );
 }

@@ -10,6 +10,9 @@ use other_scorer::{Booking, Game, Hand};
 
 use crate::names::count;
 
+/// The highest refusal.
+pub const LAST: u8 = 14;
+
 /// A refusal in words (01, each at its place); docs/REFUSALS.md has the same.
 pub fn refusal(number: u8) -> &'static str {
     match number {
@@ -63,7 +66,7 @@ fn over_four(hand: &Hand) -> Vec<String> {
 pub fn of_record(refusal: u8, record: &[u8], dealer: u8, wind: u8) -> Vec<String> {
     if refusal == 8 {
         let words = [format!("dealer {dealer} over 3"), format!("wind {wind} over 1")];
-        return words.into_iter().zip([dealer > 3, wind > 1]).filter(|(_, holds)| *holds).map(|(word, _)| word).collect();
+        return holding(&words.each_ref().map(String::as_str), &[dealer > 3, wind > 1]);
     }
     let Ok((hand, padding)) = unpack(record) else {
         return match length_fault(record) {

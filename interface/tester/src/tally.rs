@@ -4,7 +4,7 @@ use other_scorer::log::{tally_lines, LONGEST};
 use other_scorer::notation::hex::to_hex;
 use other_scorer::Game;
 
-use crate::core::Core;
+use crate::both::Core;
 use crate::input;
 use crate::log::entries;
 use crate::names::{count, points, wind};
@@ -42,7 +42,8 @@ pub fn run(core: &mut Core, mut words: Words) -> Result<String, Bad> {
     let game = walk.steps.last().map_or(Game::fresh(), |step| step.after.other);
     let refused = walk.steps.iter().filter(|step| step.refusal != 0).count();
     let state = if game.over { "the game is over".to_string() } else { format!("{} is on", deal(&game)) };
-    page.line(format!("{}, {refused} refused; {} finished; {state}", entries(&walk), count(game.hands as usize, "hand")));
+    let hands = count(game.hands as usize, "hand");
+    page.line(format!("{}, {refused} refused; {hands} finished; {state}", entries(&walk)));
     page.line(core.verdict());
     Ok(page.finish())
 }

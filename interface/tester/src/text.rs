@@ -6,7 +6,7 @@ use other_scorer::notation::hex::to_hex;
 use other_scorer::notation::print;
 use other_scorer::Booking;
 
-use crate::core::Core;
+use crate::both::Core;
 use crate::input;
 use crate::words::{Bad, Words};
 
@@ -25,7 +25,10 @@ fn entry(core: &mut Core, mut words: Words) -> Result<Vec<u8>, Bad> {
     let kind = match first.as_deref() {
         None => return Ok(Vec::new()),
         Some(kind @ ("riichi" | "win" | "draw" | "chombo" | "bytes")) => kind,
-        Some(_) => return Err(words.bad(0, "a line begins with riichi, win, draw, chombo or bytes (--bytes if the file is no text)")),
+        Some(_) => {
+            let why = "a line begins with riichi, win, draw, chombo or bytes (--bytes if the file is no text)";
+            return Err(words.bad(0, why));
+        }
     };
     words.take_first();
     let booking = match kind {

@@ -5,7 +5,7 @@ use other_scorer::log::{booking, letter};
 use other_scorer::notation::hex::to_hex;
 use other_scorer::Booking;
 
-use crate::core::Core;
+use crate::both::Core;
 
 /// An entry: where it stands, its booking, the games before it, its refusal and the games after it.
 pub struct Step {
@@ -47,7 +47,8 @@ pub fn walk(core: &mut Core, log: &[u8], from: usize, games: Games) -> Walk {
         }
         let part = log.get(at..at.saturating_add(entry.length)).filter(|part| !part.is_empty());
         let Some(part) = part else {
-            core.differences.same("the part of an entry", Some(entry.length), None, || format!("{} at {at}", to_hex(log)));
+            let input = || format!("{} at {at}", to_hex(log));
+            core.differences.same("the part of an entry", Some(entry.length), None, input);
             return Walk { steps, stopped: Some(at) };
         };
         let booking = booking(entry.kind, entry.argument, part);

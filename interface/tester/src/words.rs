@@ -66,7 +66,8 @@ impl Words {
     /// Takes a word KEY=VALUE and understands its value.
     pub fn take<T>(&mut self, key: &str, understand: impl Fn(&str) -> Result<T, String>) -> Result<Option<T>, Bad> {
         let mut found = None;
-        while let Some(at) = self.list.iter().position(|(_, text)| text.split_once('=').is_some_and(|(k, _)| k == key)) {
+        let has_key = |(_, text): &(usize, String)| text.split_once('=').is_some_and(|(name, _)| name == key);
+        while let Some(at) = self.list.iter().position(has_key) {
             let value = &self.list[at].1[key.len() + 1..];
             match (understand(value), found) {
                 (Ok(_), Some(_)) => return Err(self.bad(at, "an earlier word has said this already")),
