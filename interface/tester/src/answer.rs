@@ -70,7 +70,7 @@ impl Answer {
         page.row("hand", hand.unwrap_or("none".into()));
         let winner = self.hand().filter(|_| self.dealer < 4).map(|hand| hand.winner);
         let own = winner.map(|winner| format!("; the winner is {}", seat_wind(winner, self.dealer)));
-        let round = if self.wind < 2 { wind(self.wind).to_string() } else { self.wind.to_string() };
+        let round = if self.wind < 2 { wind(self.wind) } else { self.wind.to_string() };
         page.row("table", format!("dealer={} wind={round}{}", self.dealer, own.unwrap_or_default()));
         page.row("record", format!("{}, {}", to_hex(&self.record), count(self.record.len(), "byte")));
         page.row("answer", refusals::sentence(self.scored.refusal, &self.met()));

@@ -1,5 +1,8 @@
 //! Yaku, winds and points in words.
 
+use other_scorer::notation::text;
+use other_scorer::tiles::EAST;
+
 /// Yaku 1 to 36 (01, Yaku).
 const YAKU: [&str; 36] = [
     "tsumo",
@@ -49,12 +52,12 @@ pub fn yaku(number: usize) -> &'static str {
 }
 
 /// A wind 0 to 3 by its letter, 0 for East.
-pub fn wind(number: u8) -> char {
-    ['E', 'S', 'W', 'N'][number as usize]
+pub fn wind(number: u8) -> String {
+    text(&[EAST + number])
 }
 
 /// The wind of a seat for a dealer, both 0 to 3 (01, Yaku).
-pub fn seat_wind(seat: u8, dealer: u8) -> char {
+pub fn seat_wind(seat: u8, dealer: u8) -> String {
     wind((seat + 4 - dealer) % 4)
 }
 

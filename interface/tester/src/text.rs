@@ -13,7 +13,8 @@ use crate::words::{Bad, Words};
 /// The bytes of a log's text; `name` is the file's, for messages.
 pub fn log(core: &mut Core, name: &str, text: &str) -> Result<Vec<u8>, Bad> {
     let mut bytes = Vec::new();
-    for (number, line) in (1..).zip(text.lines()) {
+    // Some editors put a mark at the start of a text.
+    for (number, line) in (1..).zip(text.trim_start_matches('\u{feff}').lines()) {
         bytes.extend(entry(core, Words::of_line(format!("{name}, line {number}"), line))?);
     }
     Ok(bytes)

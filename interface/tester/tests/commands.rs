@@ -115,6 +115,8 @@ fn the_worked_logs() {
     let lines = "1 R 0 30000 29000 30000 30000 1\n2 D 0 29000 32000 29000 29000 1\n";
     assert_eq!(answer("tally 01 24 --plain"), lines);
     assert_eq!(answer("log 01 24"), "riichi 1\ndraw 1\n");
+    let marked = run_in(Path::new("."), "tally - --plain", "\u{feff}riichi 1\r\n\r\nDRAW 1 # alone\r\n".as_bytes());
+    assert_eq!(marked.out, lines);
     let second = format!("10 {LINE_1} 04 31 40");
     let lines = "1 W 0 30000 32000 30000 28000 0\n2 R 8 30000 32000 30000 28000 0\n3 C 0 33000 23000 33000 31000 0\n";
     assert_eq!(answer(&format!("tally {second} --plain")), lines);
