@@ -7,9 +7,10 @@ Of a name in backquotes:
 - a bare name is a definition, theorem, type or member of one in specs/ (laws apart), a struct, an exported call, a crate, or a Rattle word;
 - after "theorem" it is a theorem; `name`, `name` (`path`) and `path`: `name`, `name` say that the names stand in that file, and
   `function` ≡ `name` that the function's contract has it; in a column "edit" everything but a crate is an edit;
-- with a space it is text or a command, whose tools/ and .sh files exist.
+- with a space, a bracket or another sign it is text or a command, whose tools/ and .sh files exist.
 And every exported call, every theorem that a file directly in specs/ declares `pub`, and every must-fail edit stands in a row of a table; the
-figures given for tools/lines.py and tools/promises.py are theirs. Sections of document 02's requests (## S-n) are checked like the others."""
+figures given for tools/lines.py and tools/promises.py are theirs. Sections of document 02's requests (## S-n) are checked like the others.
+Of README.md and docs/DECISIONS.md the names are checked alone; there a law may be named too."""
 import fnmatch
 import glob
 import os
@@ -56,7 +57,7 @@ class Page:
 
     def fault_of(self, name, column, crate):
         """What is wrong with a name, or None."""
-        if " " in name:
+        if re.search(r"[ (\[{&#<]", name):
             for word in name.split():
                 if re.match(r"(tools|interface|scorer|\.ci)/", word) and not os.path.exists(os.path.join(tree.ROOT, word)):
                     return "no such file"
@@ -71,6 +72,8 @@ class Page:
             return None if name in self.tree.edits or self.path_exists(name) else "no such edit or path"
         if "*" in name:
             return None if fnmatch.filter(self.exported, name) else "no such call"
+        if re.search(r"\.\w+$", name):
+            return None if self.path_exists(name) or any(f.endswith("/" + name) for f in self.tree.files) else "no such file"
         known = name in self.stated or name in self.exported or name in self.tree.crates or (crate, name) in self.functions
         if known or any(i.kind == "struct" and i.name == name for i in self.tree.items("src")):
             return None
@@ -88,7 +91,7 @@ class Page:
             fault = self.fault_of(name, column, crate)
             if fault:
                 self.faults.append(f"{at}: `{name}`: {fault}")
-            if "::" in name:
+            if "::" in name or name in self.tree.crates:
                 crate = name.split("::")[0]
         for group in re.findall(r"[Tt]heorems? " + NAMES, text):
             for name in SPAN.findall(group):
@@ -121,6 +124,14 @@ class Page:
                 self.cell(at, text, header[k].strip() if k < len(header) else "")
                 self.rows.update(SPAN.findall(text))
 
+    def others(self):
+        """The names of the other pages."""
+        for i in self.tree.items("laws"):
+            self.stated.setdefault(i.name, []).append(i)
+        for path in ("README.md", "docs/DECISIONS.md"):
+            for number, line in enumerate(tree.read(os.path.join(tree.ROOT, path)).split("\n"), 1):
+                self.cell(f"{path}:{number}", line, "")
+
     def missing(self):
         """Exported calls, theorems and edits that have no row."""
         for edit in sorted(self.tree.edits - self.rows):
@@ -146,7 +157,8 @@ def main():
     page.read()
     page.missing()
     page.figures()
-    print("\n".join(page.faults) if page.faults else f"{page.checked} names in docs/CLAIMS.md, all in the tree")
+    page.others()
+    print("\n".join(page.faults) if page.faults else f"{page.checked} names in docs/CLAIMS.md, README.md and docs/DECISIONS.md, all in the tree")
     sys.exit(bool(page.faults))
 
 
