@@ -62,20 +62,28 @@ class Count:
         """Definitions and types of specs/ that are not reached, with who cites them."""
         return [(i, self.citers(i)) for i in self.tree.items("specs") if i.kind != "theorem" and id(i) not in self.reached]
 
+    def astray(self):
+        """Imports from this tree that name nothing in it, so that nothing is left out unseen."""
+        for f in self.tree.files.values():
+            for name, (module, there) in f.imports.items():
+                here = module.startswith("Rattle·") or module.split("::")[0] in self.tree.crates
+                if here and not self.tree.in_module(module, there):
+                    yield f"{f.path}: {name} from {module}"
+
     def citers(self, item):
         """Where the name of an item stands, beside its own definition."""
         word = re.compile(r"(?<![\w'′.-])" + re.escape(item.name) + r"(?![\w'′-])")
         found = set()
         for f in self.tree.files.values():
-            text = f.imports if f is not item.file else None
-            if text is not None and item.name in f.imports and f.imports[item.name][1] == item.name and self.tree.named(f, item.name) is item:
+            if f is not item.file and item.name in f.imports and self.tree.named(f, item.name) is item:
                 found.add("contracts of " + f.crate if f.part == "src" else f.part + " of " + f.crate)
         if any(word.search(" ".join(i.code + i.proof)) for i in item.file.items if i is not item):
             found.add("its own file")
-        proofs = os.path.join(tree.CRATES, item.file.crate, "proofs")
-        for folder, _, names in os.walk(proofs):
-            if any(word.search(tree.read(os.path.join(folder, n))) for n in names if n.endswith(".antt")):
-                found.add("proofs of " + item.file.crate)
+        module = "specs." + item.file.path.split("/specs/")[1][:-5].replace("/", ".") + "."
+        for path in self.tree.paths("*", "proofs/**/*.antt"):
+            text = tree.read(os.path.join(self.tree.root, path))
+            if f"{item.file.crate}.{module}" in text.replace("·specs.", ".") and word.search(text):
+                found.add("proofs of " + path.split("/")[0])
         return ", ".join(sorted(found)) or "nothing"
 
 
@@ -100,6 +108,8 @@ def main():
         print("meaning passes through laws or search:")
         for other, item in count.through.values():
             print(f"  {other.name} ({other.where()}), named by {item.name} ({item.where()})")
+    for line in count.astray():
+        print(f"an import that names nothing: {line}")
     left = count.unreached()
     if left:
         print("nothing exported or claimed reaches:")
