@@ -9,8 +9,9 @@ ends and line ends left out.
 Not counted: proofs under a statement, specs/laws/ and specs/search/, the kit's own names, attributes. Given apart: comment lines at what is
 counted, and import lines of the files of specs/ that hold any of it.
 
-Then it lists names of specs/laws/ and specs/search/ through which meaning passes (there should be none; they are not followed), and the
-definitions of specs/ that nothing exported or claimed reaches, with who cites them. With --each, every counted item too."""
+Then it lists names of specs/laws/ and specs/search/ through which meaning passes (they are not followed), files of specs/ that import
+specs/search/, imports that name nothing, and the definitions of specs/ that nothing exported or claimed reaches, with who cites them: they may
+go. Exit status 1 where one of the first three is found. With --each, every counted item too."""
 import os
 import re
 import sys
@@ -70,6 +71,14 @@ class Count:
                 if here and not self.tree.in_module(module, there):
                     yield f"{f.path}: {name} from {module}"
 
+    def searchers(self):
+        """Files of specs/, outside laws and search, that import search."""
+        for f in self.tree.files.values():
+            names = [name for name, (module, _) in f.imports.items() if ".specs.search." in module]
+            names += [name for name, module in f.aliases.items() if ".specs.search." in module]
+            if f.part == "specs" and names:
+                yield f"{f.path}: {', '.join(names)}"
+
     def citers(self, item):
         """Where the name of an item stands, beside its own definition."""
         word = re.compile(r"(?<![\w'′.-])" + re.escape(item.name) + r"(?![\w'′-])")
@@ -104,17 +113,16 @@ def main():
     for name, row in rows.items():
         lines = sum(row[c] for c in COLUMNS)
         print(f"{name:12}{lines:7}{row['characters']:12}" + "".join(f"{row[c]:13}" for c in COLUMNS) + f"{row['comments']:11}{row['imports']:9}")
-    if count.through:
-        print("meaning passes through laws or search:")
-        for other, item in count.through.values():
-            print(f"  {other.name} ({other.where()}), named by {item.name} ({item.where()})")
-    for line in count.astray():
-        print(f"an import that names nothing: {line}")
+    faults = [f"meaning passes through {o.name} ({o.where()}), named by {i.name} ({i.where()})" for o, i in count.through.values()]
+    faults += [f"a file of specs/ imports search/: {line}" for line in count.searchers()]
+    faults += [f"an import that names nothing: {line}" for line in count.astray()]
+    print("".join(fault + "\n" for fault in faults), end="")
     left = count.unreached()
     if left:
         print("nothing exported or claimed reaches:")
         for item, citers in left:
             print(f"  {item.name} ({item.where()}, {len(item.code)} lines); cited by {citers}")
+    sys.exit(bool(faults))
 
 
 if __name__ == "__main__":
