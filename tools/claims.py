@@ -10,7 +10,7 @@ Of a name in backquotes:
 - with a space, a bracket or another sign it is text or a command, whose tools/ and .sh files exist.
 And every exported call, every theorem that a file directly in specs/ declares `pub`, and every must-fail edit stands in a row of a table; the
 figures given for tools/lines.py and tools/promises.py are theirs. Sections of document 02's requests (## S-n) are checked like the others.
-Of README.md and docs/DECISIONS.md the names are checked alone; there a law may be named too."""
+Of README.md and docs/DECISIONS.md the names are checked alone; there a law may be named too. README.md names every crate."""
 import fnmatch
 import glob
 import os
@@ -131,6 +131,9 @@ class Page:
         for path in ("README.md", "docs/DECISIONS.md"):
             for number, line in enumerate(tree.read(os.path.join(tree.ROOT, path)).split("\n"), 1):
                 self.cell(f"{path}:{number}", line, "")
+
+        readme = SPAN.findall(tree.read(os.path.join(tree.ROOT, "README.md")))
+        self.faults += [f"README.md: no word of the crate {crate}" for crate in self.tree.crates if crate not in readme]
 
     def missing(self):
         """Exported calls, theorems and edits that have no row."""

@@ -233,29 +233,16 @@ class Tree:
         return self.in_module(*given) if given else None
 
     def uses(self, item):
-        """The items that an item's counted text names."""
+        """The items that an item's counted text names. A variable that has the name of an item in sight counts as that item."""
         text = " ".join(item.code) + (" " + item.module if item.module else "")
-        bound = set()
-        for names in re.findall(r"λ ([^.]*)\.", text) + re.findall(r"[({]([^(){}:]+?) : ", text) + re.findall(r"\blet (\S+) = ", text):
-            bound.update(names.split())
-        if item.file.part != "src":
-            for line in item.code:
-                if line.split()[0] == item.name and " = " in line + " ":
-                    pattern = re.sub(r"[(){}]", " ", line.partition(" =")[0]).split()[1:]
-                    bound.update(p for p in pattern if not self.constructor(item.file, p))
         if item.file.part == "src":
             text = re.sub(r"\b\w+:(?!:)", " ", text)  # names of fields and parameters
         text = re.sub(r"(?<=[{;])\s*[^\s={};]+ =(?= )", " ", text)  # names of fields in a record
         found = {}
         for word in re.split(r"[\s(){}\[\],;&⌜⌝]+", text):
-            word = word.rstrip(".:") if item.file.part == "src" or word.endswith(".") else word
-            if word and not word.startswith(".") and word not in bound and word != item.name:
+            word = word.rstrip(".")
+            if word and not word.startswith(".") and word != item.name:
                 other = self.named(item.file, word)
                 if other and other is not item:
                     found[id(other)] = other
         return list(found.values())
-
-    def constructor(self, file, name):
-        """Whether a name in a pattern is a constructor."""
-        other = self.named(file, name)
-        return bool(other) and (other.kind == "struct" or name in other.members)
