@@ -21,7 +21,7 @@
 extern "C" {
 #endif
 
-/* Refusals; where several are met, the first that the call lists is given. */
+/* Refusals (docs/REFUSALS.md); where several are met, the first that the call lists is given. */
 enum {
     HB_ACCEPTED = 0,
     HB_REFUSAL_LENGTH = 1,      /* "under 4 bytes, m over 4, or a length not m's" */

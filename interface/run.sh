@@ -1,6 +1,7 @@
 #!/usr/bin/env bash
 # Tests the archive that firmware links, and the tester's tool: run.sh [COUNT [SEED]]
-# Runs test.c and the tool's tests, then compares COUNT random hands, and logs, with the other scorer.
+# Checks pages and header against the tree (tools/check.sh), the header's structs and calls field by field; runs test.c and the tool's tests;
+# then compares COUNT random hands, and logs, with the other scorer.
 # The archive is HANDSET_LIB/libhandset.a; without it, build.sh sees to it. Ends with `interface: all agree` or exits 1.
 set -euo pipefail
 trap 'echo "interface: failed" >&2; exit 1' ERR
@@ -9,6 +10,8 @@ count=${1:-100000}
 seed=${2:-1}
 here=$(cd -- "$(dirname -- "${BASH_SOURCE[0]}")" && pwd)
 root=$(dirname -- "$here")
+
+bash "$root/tools/check.sh"
 
 if [[ -n ${HANDSET_LIB:-} ]]; then
     HANDSET_LIB=$(cd -- "$HANDSET_LIB" && pwd)

@@ -22,55 +22,10 @@ static void check_at(int holds, const char *what, int number, int line)
 #define CHECK(holds) check_at((holds) ? 1 : 0, #holds, 0, __LINE__)
 #define CHECK_CASE(number, holds) check_at((holds) ? 1 : 0, #holds, (int)(number), __LINE__)
 
-/* Layout: also compared by the compiler, with an array of size -1 where it differs. */
-#define SIZE(type, size) \
-    do { typedef char same[sizeof(type) == (size) ? 1 : -1]; CHECK(sizeof(same) == 1 && sizeof(type) == (size)); } while (0)
-#define PLACE(type, field, at) \
-    do { typedef char same[offsetof(type, field) == (at) ? 1 : -1]; CHECK(sizeof(same) == 1 && offsetof(type, field) == (at)); } while (0)
-
-static void layout(void)
+/* Sizes that the header takes for granted; structs and calls are checked by the file that tools/layout.py makes. */
+static void sizes(void)
 {
-    SIZE(bool, 1);
-    SIZE(size_t, 8);
-    SIZE(HbFields, 8);
-    PLACE(HbFields, how, 0);
-    PLACE(HbFields, winner, 1);
-    PLACE(HbFields, discarder, 2);
-    PLACE(HbFields, riichi, 3);
-    PLACE(HbFields, situation, 4);
-    PLACE(HbFields, indicator, 5);
-    PLACE(HbFields, winning, 6);
-    PLACE(HbFields, m, 7);
-    SIZE(HbHand, 25);
-    PLACE(HbHand, fields, 0);
-    PLACE(HbHand, melds, 8);
-    PLACE(HbHand, concealed, 12);
-    SIZE(HbReadHand, 26);
-    PLACE(HbReadHand, refusal, 0);
-    PLACE(HbReadHand, hand, 1);
-    SIZE(HbWritten, 16);
-    PLACE(HbWritten, refusal, 0);
-    PLACE(HbWritten, len, 8);
-    SIZE(HbScored, 60);
-    PLACE(HbScored, refusal, 0);
-    PLACE(HbScored, h, 2);
-    PLACE(HbScored, fu, 4);
-    PLACE(HbScored, yaku, 5);
-    PLACE(HbScored, changes, 44);
-    SIZE(HbGame, 28);
-    PLACE(HbGame, scores, 0);
-    PLACE(HbGame, sticks, 16);
-    PLACE(HbGame, declared, 20);
-    PLACE(HbGame, dealer, 24);
-    PLACE(HbGame, wind, 25);
-    PLACE(HbGame, hands, 26);
-    PLACE(HbGame, over, 27);
-    SIZE(HbNextEntry, 16);
-    PLACE(HbNextEntry, refusal, 0);
-    PLACE(HbNextEntry, end, 1);
-    PLACE(HbNextEntry, kind, 2);
-    PLACE(HbNextEntry, argument, 3);
-    PLACE(HbNextEntry, length, 8);
+    CHECK(sizeof(bool) == 1 && sizeof(size_t) == 8);
     CHECK(HB_RECORD_LENGTH(0) == 13 && HB_RECORD_LENGTH(1) == 12 && HB_RECORD_LENGTH(2) == 11);
     CHECK(HB_RECORD_LENGTH(3) == 10 && HB_RECORD_LENGTH(4) == 8);
 }
@@ -533,7 +488,7 @@ static void empty_slices(void)
 
 int main(void)
 {
-    layout();
+    sizes();
     table_of_hands();
     fields();
     refused_records();

@@ -1,31 +1,25 @@
 #!/usr/bin/env python3
 """Counts the public functions of crates/*/src, those without a promise (`ensures`) and those exported to C with a `requires`.
 Names the offenders; exit status 1 where there is one."""
-import glob
-import os
-import re
 import sys
 
-CRATES = os.path.join(os.path.dirname(os.path.abspath(__file__)), "..", "crates")
-SIGNATURE = re.compile(r"^pub (extern \"C\" )?fn (\w+)(.*?)^\{", re.M | re.S)
+import tree
+
+
+def count(t):
+    """The public functions, how many that are not exported have a `requires`, and a line for each offender."""
+    public = [i for i in t.items("src") if i.kind == "function" and i.public]
+    asks = [i for i in public if any(line.startswith("requires ") for line in i.code)]
+    offenders = [f"{i.where()}: {i.name} has no promise" for i in public if not any(line.startswith("ensures ") for line in i.code)]
+    offenders += [f"{i.where()}: {i.name} is exported with a requires" for i in asks if i.exported]
+    return len(public), sum(not i.exported for i in asks), offenders
 
 
 def main():
-    public = inner = 0
-    offenders = []
-    for path in sorted(glob.glob(os.path.join(CRATES, "*", "src", "*.rt"))):
-        with open(path, encoding="utf-8") as file:
-            text = file.read()
-        for exported, name, rest in SIGNATURE.findall(text):
-            public += 1
-            asks = re.search(r"^    requires ", rest, re.M)
-            if not re.search(r"^    ensures ", rest, re.M):
-                offenders.append(f"{os.path.relpath(path, CRATES)}: {name} has no promise")
-            if exported and asks:
-                offenders.append(f"{os.path.relpath(path, CRATES)}: {name} is exported with a requires")
-            inner += bool(asks and not exported)
+    public, inner, offenders = count(tree.Tree())
     print("\n".join(offenders + [f"{public} public functions, {inner} inner ones with a requires, {len(offenders)} offenders"]))
     sys.exit(bool(offenders))
 
 
-main()
+if __name__ == "__main__":
+    main()

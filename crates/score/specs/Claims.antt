@@ -55,9 +55,9 @@ module _ (h : Hand) (dealer wind : ℕ) where
   refused-7 = laws.refused-7 h dealer wind named
 
   -- the groups that a regular reading's yaku and fu go by: its own "4 − m groups", and after them those of the m melds
-  pub groups-then-melds : (codes : List ℕ) → h .fields .m ≤ 4 → length codes ≡ 4 - h .fields .m → Ascends 0 codes → length (h .melds) ≡ 4 → joined (codes ++ replicate (h .fields .m) 68) (meldCodes h) ≡ codes ++ map meldCode (take (h .fields .m) (h .melds))
+  pub groups-then-melds : (codes : List ℕ) → h .held .m ≤ 4 → length codes ≡ 4 - h .held .m → Ascends 0 codes → length (h .held .melds) ≡ 4 → joined (codes ++ replicate (h .held .m) 68) (meldCodes h) ≡ codes ++ map meldCode (take (h .held .m) (h .held .melds))
   unfolding meldCodes
-  groups-then-melds codes = melds.groups-then-melds (h .fields .m) codes (h .melds)
+  groups-then-melds codes = melds.groups-then-melds (h .held .m) codes (h .held .melds)
 
 -- ---- of a record
 

@@ -9,7 +9,8 @@ use lib.ListN.{getD, replicate}
 use Rattle.tiles.specs.Below.{tabulate}
 use Rattle.tiles.specs.Kinds.{doraOf}
 use Rattle.hand.specs.declared.Hand.{Hand}
-use Rattle.hand.specs.Hand.{isRon, isClosed, concealedTally, handTally}
+use Rattle.hand.specs.Held.{isClosed}
+use Rattle.hand.specs.Hand.{isRon, concealedTally, handTally}
 use Rattle.reading.specs.declared.Reading.{Reading}
 use Rattle.reading.specs.Reading.{IsReading}
 use Rattle.groups.specs.Melds.{meldCode, meldWay}
@@ -34,8 +35,8 @@ wonOf h dealer wind = record {
   riichi = h .fields .riichi;
   situation = h .fields .situation;
   ron = isRon (h .fields);
-  closed = isClosed h;
-  bare = eqb (h .fields .m) 0;
+  closed = isClosed (h .held);
+  bare = eqb (h .held .m) 0;
 }
 
 -- who wins, who deals, who discards (01, Fu and points: "ron, 4A to a child, 6A to the dealer")
@@ -44,21 +45,21 @@ seatsOf h dealer = record { winner = h .fields .winner; dealer = dealer; discard
 
 -- the melds stand in the last m of four places, behind the "4 − m groups" of a reading: the meld at place i
 abbrev pub meldAt : Hand → ℕ → ℕ
-meldAt h i = getD (h .melds) (i - (4 - h .fields .m)) 0
+meldAt h i = getD (h .held .melds) (i - (4 - h .held .m)) 0
 
 -- the group of each (01, Readings: "run: lowest kind; triplet: 34 + kind"), 68 where there is none
 unfoldable pub meldCodes : Hand → List ℕ
-meldCodes h = tabulate 4 0 (λ i. cond (ltb i (4 - h .fields .m)) 68 (meldCode (meldAt h i)))
+meldCodes h = tabulate 4 0 (λ i. cond (ltb i (4 - h .held .m)) 68 (meldCode (meldAt h i)))
 
 -- whether each is concealed, open, an open or a closed kan (01, Fu and points)
 unfoldable pub meldWays : Hand → List ℕ
-meldWays h = tabulate 4 0 (λ i. cond (ltb i (4 - h .fields .m)) 0 (meldWay (meldAt h i)))
+meldWays h = tabulate 4 0 (λ i. cond (ltb i (4 - h .held .m)) 0 (meldWay (meldAt h i)))
 
 -- what is the same in every reading of the hand; "Dora is the kind after the indicator"
 unfoldable pub settingOf : Hand → ℕ → ℕ → Setting
 settingOf h dealer wind = record {
   won = wonOf h dealer wind;
-  tests = tileTestsOf (handTally h) (eqb (h .fields .m) 0);
+  tests = tileTestsOf (handTally h) (eqb (h .held .m) 0);
   seats = seatsOf h dealer;
   dora = doraOf (h .fields .indicator);
   codes = meldCodes h;
@@ -79,7 +80,7 @@ acceptedAs v s ron = record { refusal = 0; h = v .han .0; fu = v .fu .0; yaku = 
 
 -- r is "a reading of the concealed tiles with the winning tile"
 abbrev pub IsReadingOf : Hand → Reading → Type 0
-IsReadingOf h r = IsReading (concealedTally h) (h .fields .m) (h .fields .winning) r
+IsReadingOf h r = IsReading (concealedTally h) (h .held .m) (h .fields .winning) r
 
 module _ (h : Hand) (dealer wind : ℕ) where
   -- r is one "of the readings with a yaku"

@@ -21,7 +21,7 @@ module _ (h : Hand) (dealer wind : ℕ) where
   long = length-tally (inConcealed h)
 
   abbrev kept : Best
-  kept = bestOf (settingOf h dealer wind) (concealedTally h) (h .fields .m) (h .fields .winning)
+  kept = bestOf (settingOf h dealer wind) (concealedTally h) (h .held .m) (h .fields .winning)
 
   -- the search held each reading of the hand against the others
   pub over-readings : Kept (settingOf h dealer wind) (IsReadingOf h) kept
@@ -29,7 +29,7 @@ module _ (h : Hand) (dealer wind : ℕ) where
   over-readings =
       let t = settingOf h dealer wind in
       let c = concealedTally h in
-      let m = h .fields .m in
+      let m = h .held .m in
       let w = h .fields .winning in
       kept-same t (λ q. Member q (readings c m w)) (IsReadingOf h) _ (λ q n. readings-sound c m w long q n) (λ q n. readings-complete c m w long q n)
       (kept-all t (readings c m w) (readings-ordered c m w long))

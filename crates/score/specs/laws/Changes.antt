@@ -66,7 +66,7 @@ module _ (P : List ℤ → Type 0) (h : Hand) (dealer wind : ℕ) (none : P (rep
   of-changes =
       let to : (x : Scored) → settledOf h dealer wind ≡ x → P (x .changes) → P (settledOf h dealer wind .changes) = λ x e p. subst (λ (y : Scored). P (y .changes)) (sym e) p in
       answers h dealer wind (λ s e. to (refusedWith 6) e none) (λ s v e. to (refusedWith 7) e none)
-      (λ s v e. to _ e (paid _ (best-le (settingOf h dealer wind) (concealedTally h) (h .fields .m) (h .fields .winning))))
+      (λ s v e. to _ e (paid _ (best-le (settingOf h dealer wind) (concealedTally h) (h .held .m) (h .fields .winning))))
 
 module _ (h : Hand) (dealer wind : ℕ) where
   pub changes-within : (i : ℕ) → Within (change h dealer wind i) 48000

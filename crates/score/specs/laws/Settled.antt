@@ -74,12 +74,12 @@ basic-kept b t c m win e = rw e (best-le t c m win)
 
 -- ---- a sound hand, by what the search kept
 
-module _ (h : Hand) (dealer wind : ℕ) (t : Setting) (c : List ℕ) (b : Best) (et : t ≡ settingOf h dealer wind) (ec : c ≡ concealedTally h) (eb : b ≡ bestOf t c (h .fields .m) (h .fields .winning)) where
+module _ (h : Hand) (dealer wind : ℕ) (t : Setting) (c : List ℕ) (b : Best) (et : t ≡ settingOf h dealer wind) (ec : c ≡ concealedTally h) (eb : b ≡ bestOf t c (h .held .m) (h .fields .winning)) where
   settled-by : settledBy b (seatsOf h dealer) (isRon (h .fields)) ≡ settledOf h dealer wind
   unfolding settledOf
   settled-by =
       ap (λ (x : Best). settledBy x (seatsOf h dealer) (isRon (h .fields)))
-      (eb ∙ ap (λ (x : Setting). bestOf x c (h .fields .m) (h .fields .winning)) et ∙ ap (λ (x : List ℕ). bestOf (settingOf h dealer wind) x (h .fields .m) (h .fields .winning)) ec)
+      (eb ∙ ap (λ (x : Setting). bestOf x c (h .held .m) (h .fields .winning)) et ∙ ap (λ (x : List ℕ). bestOf (settingOf h dealer wind) x (h .held .m) (h .fields .winning)) ec)
 
   pub settled-accepted : b .seen ≡ true → b .valued ≡ true → acceptedAs (b .value) (seatsOf h dealer) (isRon (h .fields)) ≡ settledOf h dealer wind
   unfolding settledBy
@@ -108,7 +108,7 @@ module _ (s : List ℕ) (dealer wind : ℕ) (r : HandRead) (q : ltb 3 dealer || 
   unfolding scoredBy
   scored-refused n w x told why ex = ex ∙ ap refusedWith (why ∙ ap refusalIn told) ∙ by-answer (Refused n) told
 
-  pub scored-sound : (f : Fields) (x : Scored) → r .answer ≡ Sound f → x ≡ settledOf (record { fields = f; melds = r .melds; concealed = r .concealed }) dealer wind → x ≡ scoreOf s dealer wind
+  pub scored-sound : (f : Fields) (x : Scored) → r .answer ≡ Sound f → x ≡ settledOf (record { fields = f; held = r .held }) dealer wind → x ≡ scoreOf s dealer wind
   unfolding scoredBy
   scored-sound f x told ex = ex ∙ ap (λ (y : Hand). settledOf y dealer wind) (hand-is s r e f told) ∙ by-answer (Sound f) told
 

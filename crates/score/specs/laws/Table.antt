@@ -4,9 +4,10 @@ use Rattle.tiles.specs.Below.{every, some, number, total}
 use Rattle.tiles.specs.Kinds.{doraOf}
 use Rattle.tiles.specs.Groups.{isGroup, at, uses}
 use Rattle.tiles.specs.Tally.{tallyOf}
-use Rattle.hand.specs.Hand.{meldHolds, inMelds, inConcealed, inHand, concealedTally, handTally}
-use Rattle.hand.specs.Refusals.{tileOver33, wrongFields, descends, inRecord, overFour, wrongSituation, refusalOf}
-use Rattle.hand_record.specs.Record.{headOf, meldsOf, tilesOf, paddingOf, handIn, answerBy, judged as judgedHand, readOf, widths, valuesOf, recordOf}
+use Rattle.hand.specs.Held.{meldHolds, inMelds, inOthers, inHeld, tileOver33, wrongHeld, descends, overFour}
+use Rattle.hand.specs.Hand.{inConcealed, inHand, concealedTally, handTally}
+use Rattle.hand.specs.Refusals.{wrongFields, inRecord, wrongSituation, refusalOf}
+use Rattle.hand_record.specs.Record.{headOf, meldsOf, tilesOf, heldIn, paddingAfter, handIn, answerBy, judged as judgedHand, readOf, widths, valuesOf, recordOf}
 use Rattle.reading.specs.Reading.{holds, isSevenPairs, isOrphans}
 use Rattle.reading.specs.search.Readings.{concatMap, isEmpty, less, fits, without, passes, step, splits, placedAt, placed, paired, shaped, readings}
 use Rattle.reading.specs.search.Judged.{judged}
@@ -27,7 +28,7 @@ use Rattle.score.specs.Score.{scoredBy, scoreOf}
 use Rattle.score.specs.Table.{Lines}
 
 pub lines : Lines
-unfolding widths valuesOf recordOf every some number total doraOf isGroup at uses tallyOf meldHolds inMelds inConcealed inHand concealedTally handTally tileOver33 wrongFields descends inRecord overFour wrongSituation refusalOf headOf meldsOf tilesOf paddingOf handIn answerBy judgedHand readOf holds isSevenPairs isOrphans concatMap isEmpty less fits without passes step splits placedAt placed paired shaped readings judged waysAt littleDragons valueHan earnsWait pinfu twins inThreeAt inThreeSuits straight touches outside concealed kans fourWinds only halfFlush flush gates tileTestsOf testsOf isYakuman listed yakuOf hasYaku plain limit ordinary basic hundreds share pays gain change changes tableHan yakuHan hanOf tripletFu groupFu earned added rounded fuOf valueOf joined partsOf worth beats noneOf judgeOf bestOf wonOf meldCodes meldWays settingOf settledBy settledOf scoredBy scoreOf
+unfolding widths valuesOf recordOf every some number total doraOf isGroup at uses tallyOf meldHolds inMelds inOthers inHeld inConcealed inHand concealedTally handTally tileOver33 wrongHeld wrongFields descends inRecord overFour wrongSituation refusalOf headOf meldsOf tilesOf heldIn paddingAfter handIn answerBy judgedHand readOf holds isSevenPairs isOrphans concatMap isEmpty less fits without passes step splits placedAt placed paired shaped readings judged waysAt littleDragons valueHan earnsWait pinfu twins inThreeAt inThreeSuits straight touches outside concealed kans fourWinds only halfFlush flush gates tileTestsOf testsOf isYakuman listed yakuOf hasYaku plain limit ordinary basic hundreds share pays gain change changes tableHan yakuHan hanOf tripletFu groupFu earned added rounded fuOf valueOf joined partsOf worth beats noneOf judgeOf bestOf wonOf meldCodes meldWays settingOf settledBy settledOf scoredBy scoreOf
 lines = record {
   line-1 = refl;
   line-2 = refl;

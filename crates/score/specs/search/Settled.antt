@@ -16,4 +16,4 @@ settledBy b s ron = cond (b .seen) (cond (b .valued) (acceptedAs (b .value) s ro
 -- what a sound hand scores
 unfoldable pub settledOf : Hand → ℕ → ℕ → Scored
 settledOf h dealer wind =
-    settledBy (bestOf (settingOf h dealer wind) (concealedTally h) (h .fields .m) (h .fields .winning)) (seatsOf h dealer) (isRon (h .fields))
+    settledBy (bestOf (settingOf h dealer wind) (concealedTally h) (h .held .m) (h .fields .winning)) (seatsOf h dealer) (isRon (h .fields))

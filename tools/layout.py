@@ -1,0 +1,167 @@
+#!/usr/bin/env python3
+"""Checks include/herbassolh.h against the Rattle sources, and prints a C file of assertions that makes the compiler check the rest.
+
+From the signature of every `pub extern "C"` function it takes the structs that C sees, and those in their fields. Each is `#[repr(C)]` and has
+a partner in the header, Hb and its name, with the same fields in the same order. The C file asserts, by the layout that C gives the Rattle
+struct: the offset and exact type (array length too) of each field, and the size and alignment of each struct; and it declares every exported
+call again from its Rattle signature, so that another type in the header does not compile. A slice is a pointer and a length, `&Struct` a
+pointer. A struct or call in one of the two and not in the other, or a field added, gone or moved, is a fault: a line each, and exit status 1."""
+import os
+import re
+import sys
+
+import tree
+
+HEADER = os.path.join(tree.ROOT, "include", "herbassolh.h")
+PRIMITIVE = {"u8": ("uint8_t", 1), "i8": ("int8_t", 1), "bool": ("bool", 1), "u16": ("uint16_t", 2), "i16": ("int16_t", 2),
+             "u32": ("uint32_t", 4), "i32": ("int32_t", 4), "u64": ("uint64_t", 8), "i64": ("int64_t", 8), "usize": ("size_t", 8)}
+
+
+class Fault(Exception):
+    pass
+
+
+def parameters(text):
+    """The parts between commas that stand in no bracket."""
+    parts, depth, part = [], 0, ""
+    for c in text:
+        depth += (c in "([{<") - (c in ")]}>")
+        if c == "," and depth == 0:
+            parts.append(part)
+            part = ""
+        else:
+            part += c
+    return [p.strip() for p in parts + [part] if p.strip()]
+
+
+class Layout:
+    """The structs that C sees, laid out."""
+
+    def __init__(self, t):
+        self.tree = t
+        self.structs = {}  # name -> (fields: [(name, C type, array length or None, offset)], size, alignment)
+        self.calls = {}  # name -> C declaration
+        for i in t.items("src"):
+            if i.exported:
+                self.calls[i.name] = self.declaration(i)
+
+    def type_of(self, text, file):
+        """C type, array length or None, size, alignment."""
+        array = re.fullmatch(r"\[(.+); (\d+)\]", text)
+        if array:
+            c, length, size, align = self.type_of(array.group(1), file)
+            if length is not None:
+                raise Fault(f"{file.path}: {text}: an array of arrays")
+            return c, int(array.group(2)), size * int(array.group(2)), align
+        if text in PRIMITIVE:
+            c, size = PRIMITIVE[text]
+            return c, None, size, size
+        item = self.tree.named(file, text)
+        if not item or item.kind != "struct":
+            raise Fault(f"{file.path}: {text}: no struct that C can see")
+        newtype = re.fullmatch(r"(?:pub )?struct \w+\((?:pub )?(\w+)\);", item.code[0])
+        if newtype:
+            return self.type_of(newtype.group(1), item.file)
+        _, size, align = self.struct(item)
+        return "Hb" + item.name, None, size, align
+
+    def struct(self, item):
+        if item.name in self.structs:
+            return self.structs[item.name]
+        if not item.repr_c:
+            raise Fault(f"{item.where()}: {item.name} is given to C without #[repr(C)]")
+        fields, end, largest = [], 0, 1
+        for line in item.code[1:-1]:
+            field = re.fullmatch(r"(?:pub )?(\w+): (.+),", line)
+            if not field:
+                raise Fault(f"{item.where()}: {line}: no field")
+            c, length, size, align = self.type_of(field.group(2), item.file)
+            at = -(-end // align) * align
+            fields.append((field.group(1), c, length, at))
+            end, largest = at + size, max(largest, align)
+        self.structs[item.name] = fields, -(-end // largest) * largest, largest
+        return self.structs[item.name]
+
+    def argument(self, text, file):
+        """The C types of a parameter: two for a slice."""
+        reference = re.fullmatch(r"&(mut )?(.+)", text)
+        if not reference:
+            c, length, _, _ = self.type_of(text, file)
+            if length is not None:
+                raise Fault(f"{file.path}: {text}: an array by value")
+            return [c]
+        mutable, target = reference.groups()
+        const = "" if mutable else "const "
+        slice_ = re.fullmatch(r"\[(\w+)\]", target)
+        if slice_:
+            return [f"{const}{self.type_of(slice_.group(1), file)[0]} *", "size_t"]
+        c, length, _, _ = self.type_of(target, file)
+        if length is not None:
+            raise Fault(f"{file.path}: {text}: a reference to an array")
+        return [f"{const}{c} *"]
+
+    def declaration(self, item):
+        signature = re.split(r" (?:requires|ensures) ", " ".join(item.code))[0]
+        m = re.fullmatch(r'pub extern "C" fn (\w+)\((.*)\)(?: -> (.+))?', signature)
+        name, given, result = m.groups()
+        types = [t for p in parameters(given) for t in self.argument(p.split(": ", 1)[1], item.file)]
+        back = self.argument(result, item.file)[0] if result else "void"
+        return f"{back} {name}({', '.join(types) or 'void'});"
+
+
+def header():
+    """The header's structs, each with the names of its fields, and its calls."""
+    text = re.sub(r"/\*.*?\*/", " ", tree.read(HEADER), flags=re.S)
+    text = re.sub(r"^#.*$", "", text, flags=re.M)
+    structs = {}
+    for body, name in re.findall(r"typedef struct (?:\w+ )?\{([^}]*)\} (\w+);", text):
+        names = []
+        for declared in body.split(";"):
+            if declared.strip():
+                names += [re.sub(r"\[\w+\]|\*", "", d).split()[-1] for d in declared.split(",")]
+        structs[name] = names
+    calls = set(re.findall(r"^[\w *]+?\b(hb_\w+)\(", text, flags=re.M))
+    return structs, calls
+
+
+def faults_of(layout):
+    structs, calls = header()
+    said = []
+    for name, (fields, _, _) in layout.structs.items():
+        here, there = [f[0] for f in fields], structs.get("Hb" + name)
+        if there is None:
+            said.append(f"include/herbassolh.h: no struct Hb{name} ({', '.join(here)})")
+        elif here != there:
+            said.append(f"include/herbassolh.h: Hb{name} has {', '.join(there)}; {name} has {', '.join(here)}")
+    said += [f"include/herbassolh.h: {n}: no such struct is given to C" for n in structs if n[2:] not in layout.structs]
+    said += [f"include/herbassolh.h: no {declaration}" for n, declaration in layout.calls.items() if n not in calls]
+    said += [f"include/herbassolh.h: {n}: no such exported call" for n in sorted(calls - set(layout.calls))]
+    return said
+
+
+def assertions(layout):
+    yield "/* Made by tools/layout.py from the Rattle sources. */"
+    yield '#include "herbassolh.h"'
+    for name, (fields, size, align) in layout.structs.items():
+        c = "Hb" + name
+        yield f'_Static_assert(sizeof({c}) == {size} && _Alignof({c}) == {align}, "{c}: size {size}, alignment {align}");'
+        for field, kind, length, at in fields:
+            wanted = f"{kind} *" if length is None else f"{kind} (*)[{length}]"
+            said = kind if length is None else f"{kind}[{length}]"
+            yield f'_Static_assert(offsetof({c}, {field}) == {at}, "{c}.{field} at {at}");'
+            yield f'_Static_assert(_Generic(&(({c} *)0)->{field}, {wanted}: 1, default: 0), "{c}.{field} is {said}");'
+    yield from layout.calls.values()
+
+
+def main():
+    try:
+        layout = Layout(tree.Tree())
+    except Fault as fault:
+        sys.exit(f"{fault}")
+    faults = faults_of(layout)
+    if faults:
+        sys.exit("\n".join(faults))
+    print("\n".join(assertions(layout)))
+
+
+main()
