@@ -20,15 +20,21 @@ pub struct Fields {
     pub situation: u8,
     pub indicator: u8,
     pub winning: u8,
+}
+
+#[repr(C)]
+#[derive(Clone, Copy, Debug, Default, PartialEq, Eq)]
+pub struct Held {
     pub m: u8,
+    pub melds: [u8; 4],
+    pub concealed: [u8; 13],
 }
 
 #[repr(C)]
 #[derive(Clone, Copy, Debug, Default, PartialEq, Eq)]
 pub struct Hand {
     pub fields: Fields,
-    pub melds: [u8; 4],
-    pub concealed: [u8; 13],
+    pub held: Held,
 }
 
 #[repr(C)]
@@ -106,17 +112,17 @@ impl Hand {
     pub fn of(bytes: [u8; 25]) -> Hand {
         let [how, winner, discarder, riichi, situation, indicator, winning, m, rest @ ..] = bytes;
         let [a, b, c, d, concealed @ ..] = rest;
-        let fields = Fields { how, winner, discarder, riichi, situation, indicator, winning, m };
-        Hand { fields, melds: [a, b, c, d], concealed }
+        let fields = Fields { how, winner, discarder, riichi, situation, indicator, winning };
+        Hand { fields, held: Held { m, melds: [a, b, c, d], concealed } }
     }
 
     /// The 25 bytes of a hand as they lie in memory.
     pub fn bytes(&self) -> [u8; 25] {
-        let Fields { how, winner, discarder, riichi, situation, indicator, winning, m } = self.fields;
-        let [a, b, c, d] = self.melds;
+        let Fields { how, winner, discarder, riichi, situation, indicator, winning } = self.fields;
+        let Held { m, melds: [a, b, c, d], concealed } = self.held;
         let mut bytes = [0; 25];
         bytes[..12].copy_from_slice(&[how, winner, discarder, riichi, situation, indicator, winning, m, a, b, c, d]);
-        bytes[12..].copy_from_slice(&self.concealed);
+        bytes[12..].copy_from_slice(&concealed);
         bytes
     }
 }
