@@ -28,7 +28,7 @@ tester hand HEX [dealer=N] [wind=E|S] [--plain]
   riichi, double                             riichi, double riichi
   rinshan, chankan, last, first              the situation
   indicator=TILE  the tile that shows the dora; North if not given
-  dealer=N        the dealer's seat; 0 if not given
+  dealer=N        the dealer's seat, or E S W N by the winds of the first deal; 0 if not given
   wind=E|S        the round wind, or 0, 1; East if not given
   HEX             the record's bytes instead, in one word or more
 

@@ -9,18 +9,24 @@ use other_scorer::notation::hex::{from_hex, is_hex};
 use other_scorer::notation::parse;
 
 use crate::both::Core;
+use crate::names::wind;
 use crate::text;
 use crate::words::{Bad, Words};
 
+/// A number, or the wind with that number by its letter, 0 for East.
+fn number_or_wind(value: &str) -> Option<u8> {
+    let letter = (0..4).find(|&number| wind(number).eq_ignore_ascii_case(value));
+    letter.or_else(|| value.parse().ok())
+}
+
 /// The dealer and round wind, seat 0 and East where they are not given.
 pub fn table(words: &mut Words) -> Result<(u8, u8), Bad> {
-    let dealer = words.take_number("dealer", "0 to 3 (up to 255 to see it refused)")?;
-    let needed = "E, S, 0 or 1 is needed (a number up to 255 to see it refused)";
-    let wind = words.take("wind", |value| match value.to_ascii_uppercase().as_str() {
-        "E" => Ok(0),
-        "S" => Ok(1),
-        number => number.parse().map_err(|_| needed.to_string()),
-    })?;
+    let mut take = |key: &str, usual: &str| {
+        let why = format!("{usual} is needed (a number up to 255 to see it refused)");
+        words.take(key, |value| number_or_wind(value).ok_or(why.clone()))
+    };
+    let dealer = take("dealer", "a seat 0 to 3, or E S W N by the first deal's winds,")?;
+    let wind = take("wind", "E, S, 0 or 1")?;
     Ok((dealer.unwrap_or(0), wind.unwrap_or(0)))
 }
 

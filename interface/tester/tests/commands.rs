@@ -45,7 +45,7 @@ fn a_hand_for_reading() {
     }
     let south = answer("hand 234567m345p67s22s+8s seat=0 tsumo dealer=3 wind=S");
     assert!(south.contains("dealer=3 wind=S; the winner is S") && south.contains("pays 2 A"), "{south}");
-    assert_eq!(south, answer("hand 234567m345p67s22s+8s seat=0 tsumo dealer=3 wind=1"));
+    assert_eq!(south, answer("hand 234567m345p67s22s+8s seat=0 tsumo dealer=N wind=1"));
 }
 
 #[test]
@@ -68,7 +68,7 @@ fn refusals_of_a_hand_say_which_condition_was_met() {
         ("1111m44m77m22p55p8p+8p seat=1 ron=3".into(), 6, "neither a pair and groups"),
         ("456p78s234s99p+9s chi=123m seat=1 ron=3".into(), 7, "1 reading"),
         (format!("{hand} ron=3 dealer=4"), 8, "dealer 4 over 3"),
-        (format!("{hand} ron=3 wind=2"), 8, "wind 2 over 1"),
+        (format!("{hand} ron=3 wind=W"), 8, "wind 2 over 1"),
     ] {
         let out = answer(&format!("hand {words} --plain"));
         let lines: Vec<&str> = out.lines().collect();

@@ -29,8 +29,8 @@ fn of_a_hand() {
             (&format!("{tiles} seat=5 ron=3"), "word 3, \"seat=5\": a seat is 0, 1, 2 or 3".into()),
             (&format!("{tiles} seat=1 ron=3 dora=4z"), "word 5, \"dora=4z\": the tile turned up is indicator=, dora is the next one".into()),
             (&format!("{tiles} seat=1 ron=3 --plian"), "word 5, \"--plian\": no option here; --help lists them".into()),
-            (&format!("{tiles} seat=1 ron=3 dealer=x"), "word 5, \"dealer=x\": a number 0 to 3 (up to 255 to see it refused) is needed".into()),
-            (&format!("{tiles} seat=1 ron=3 wind=W"), "word 5, \"wind=W\": E, S, 0 or 1 is needed (a number up to 255 to see it refused)".into()),
+            (&format!("{tiles} seat=1 ron=3 dealer=x"), "word 5, \"dealer=x\": a seat 0 to 3, or E S W N by the first deal's winds, is needed (a number up to 255 to see it refused)".into()),
+            (&format!("{tiles} seat=1 ron=3 wind=X"), "word 5, \"wind=X\": E, S, 0 or 1 is needed (a number up to 255 to see it refused)".into()),
             (&format!("{tiles} dealer=1 seat=1 ron=3 dealer=1"), "word 6, \"dealer=1\": an earlier word has said this already".into()),
             ("234567m345p67s2s+8s seat=1 ron=3", "word 2, \"234567m345p67s2s+8s\": 12 tiles before +, with 0 melds 13 are needed".into()),
         ] {
