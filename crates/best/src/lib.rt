@@ -10,6 +10,9 @@ ghost use Rattle.best.specs.Best.{joined as joinedOf, partsOf, worth as 
 ghost use Rattle.best.specs.search.Best.{beats as beatsOf, noneOf, judgeOf, bestOf, Ready};
 use points::Seats;
 use reading::Reading;
+use units::Fu;
+use units::Han;
+use units::Points;
 use value::Value;
 use yaku::Parts;
 use yaku::TileTests;
@@ -92,10 +95,10 @@ fn none() -> Best
     let y = [false; 37];
     let v = Value {
         yaku: y,
-        han: points::Han(0),
-        fu: points::Fu(0),
-        basic: points::Points(0),
-        gain: points::Points(0),
+        han: Han(0),
+        fu: Fu(0),
+        basic: Points(0),
+        gain: Points(0),
     };
     Best {
         seen: false,

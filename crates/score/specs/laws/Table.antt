@@ -16,7 +16,7 @@ use Rattle.yaku.specs.OfTiles.{only, halfFlush, flush, gates}
 use Rattle.yaku.specs.search.TileTests.{tileTestsOf}
 use Rattle.yaku.specs.Yaku.{testsOf, isYakuman, listed, yakuOf, hasYaku}
 use Rattle.points.specs.Points.{plain, limit, ordinary, basic, hundreds, share, pays, gain, change, changes}
-use Rattle.value.specs.Han.{tableHan, yakuHan, hanOf}
+use Rattle.value.specs.Han.{hanBy, yakuHan, hanOf}
 use Rattle.value.specs.Fu.{tripletFu, groupFu, earned, added, rounded, fuOf}
 use Rattle.value.specs.Value.{valueOf}
 use Rattle.best.specs.Best.{joined, partsOf, worth}
@@ -27,7 +27,7 @@ use Rattle.score.specs.Score.{scoredBy, scoreOf}
 use Rattle.score.specs.Table.{Lines}
 
 pub lines : Lines
-unfolding widths valuesOf recordOf every some number total doraOf isGroup at uses tallyOf meldHolds inMelds inConcealed inHand concealedTally handTally tileOver33 wrongFields descends inRecord overFour wrongSituation refusalOf headOf meldsOf tilesOf paddingOf handIn answerBy judgedHand readOf holds isSevenPairs isOrphans concatMap isEmpty less fits without passes step splits placedAt placed paired shaped readings judged waysAt littleDragons valueHan earnsWait pinfu twins inThreeAt inThreeSuits straight touches outside concealed kans fourWinds only halfFlush flush gates tileTestsOf testsOf isYakuman listed yakuOf hasYaku plain limit ordinary basic hundreds share pays gain change changes tableHan yakuHan hanOf tripletFu groupFu earned added rounded fuOf valueOf joined partsOf worth beats noneOf judgeOf bestOf wonOf meldCodes meldWays settingOf settledBy settledOf scoredBy scoreOf
+unfolding widths valuesOf recordOf every some number total doraOf isGroup at uses tallyOf meldHolds inMelds inConcealed inHand concealedTally handTally tileOver33 wrongFields descends inRecord overFour wrongSituation refusalOf headOf meldsOf tilesOf paddingOf handIn answerBy judgedHand readOf holds isSevenPairs isOrphans concatMap isEmpty less fits without passes step splits placedAt placed paired shaped readings judged waysAt littleDragons valueHan earnsWait pinfu twins inThreeAt inThreeSuits straight touches outside concealed kans fourWinds only halfFlush flush gates tileTestsOf testsOf isYakuman listed yakuOf hasYaku plain limit ordinary basic hundreds share pays gain change changes hanBy yakuHan hanOf tripletFu groupFu earned added rounded fuOf valueOf joined partsOf worth beats noneOf judgeOf bestOf wonOf meldCodes meldWays settingOf settledBy settledOf scoredBy scoreOf
 lines = record {
   line-1 = refl;
   line-2 = refl;
