@@ -4,7 +4,8 @@ ghost use mathlib.Core.Bool.{cond};
 ghost use Prim.Native.Nat.{_<_, _≤_, _-_, _%_};
 ghost use lib.Dec.{ltb};
 ghost use lib.ListN.{getD};
-ghost use Rattle.groups.specs.Melds.{meldCode, meldWay, waysAt};
+ghost use Rattle.groups.specs.Melds.{meldCode, meldWay};
+ghost use Rattle.groups.specs.search.Ways.{waysAt};
 ghost use Rattle.groups.specs.Tests.{has as hasOf, isValue, dragons as dragonsOf, winds as windsOf, littleDragons, valueHan, earnsWait, pinfu as pinfuOf, twins as twinsOf, inThreeAt, inThreeSuits, straight as straightOf, touches as touchesOf, outside as outsideOf, triplets as tripletsOf, isConcealed, concealed as concealedOf, kans as kansOf, fourWinds};
 use units::Han;
 
