@@ -403,12 +403,7 @@ pub fn win(g: Game, s: &[u8]) -> Outcome
     let Answer::Sound(f) = a else {
         return refused(g, hand_record::refusal(a));
     };
-    let melds = r.melds;
-    let concealed = r.concealed;
-    let h = Hand {
-        fields: f,
-        melds,
-        concealed,
-    };
+    let held = r.held;
+    let h = Hand { fields: f, held };
     win_hand(g, h)
 }

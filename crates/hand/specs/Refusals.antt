@@ -1,90 +1,85 @@
--- What a hand is refused for (01, Read, 2 to 5; Write). Each condition has the paper's words.
+-- What a hand is refused for (01, Read, 2 to 5; Write): what its tiles held are refused for (Held) and what its fields add, in the paper's order.
 use mathlib.Core.Bool.{Bool, _&&_, _||_, cond, not}
-use Prim.Native.Nat.{ℕ, _+_, _-_}
+use Prim.Native.Nat.{ℕ, _+_}
 use lib.Dec.{ltb, leb, eqb}
-use lib.ListN.{getD}
-use Rattle.tiles.specs.Below.{all, every, some}
-use Rattle.tiles.specs.Kinds.{isRunStart}
 use Rattle.tiles.specs.Groups.{at}
 use Rattle.hand.specs.declared.Fields.{Fields}
+use Rattle.hand.specs.declared.Held.{Held}
 use Rattle.hand.specs.declared.Hand.{Hand}
-use Rattle.hand.specs.Hand.{meldKind, meldTile, someMeld, others, isClosed, hasKan, isRon, inHand}
+use Rattle.hand.specs.Held.{isClosed, hasKan, wrongHeld, descends, overFour, unusedNotZero}
+use Rattle.hand.specs.Hand.{isRon, inHand}
 
--- 2: "a tile over 33"
-unfoldable pub tileOver33 : Hand → Bool
-tileOver33 h =
-    ltb 33 (h .fields .indicator)
-    || ltb 33 (h .fields .winning)
-    || someMeld (h .fields .m) (h .melds) (λ b. ltb 33 (meldTile b))
-    || some (others h) (λ i. ltb 33 (getD (h .concealed) i 0))
+-- ---- 2
 
--- 2: "riichi 3, situation over 4"
+-- "a tile over 33": the indicator and the winning tile too
+abbrev pub fieldOver33 : Fields → Bool
+fieldOver33 f = ltb 33 (f .indicator) || ltb 33 (f .winning)
+
+-- "riichi 3, situation over 4"
 abbrev pub fieldOver : Fields → Bool
 fieldOver f = leb 3 (f .riichi) || ltb 4 (f .situation)
 
--- 2: "a chi with no run from that tile"
-abbrev pub chiWithoutRun : Hand → Bool
-chiWithoutRun h = someMeld (h .fields .m) (h .melds) (λ b. eqb (meldKind b) 0 && not (isRunStart (meldTile b)))
-
--- 2: "tsumo with discarder not 0, ron with discarder equal to winner"
+-- "tsumo with discarder not 0, ron with discarder equal to winner"
 abbrev pub wrongDiscarder : Fields → Bool
 wrongDiscarder f = cond (isRon f) (eqb (f .discarder) (f .winner)) (not (eqb (f .discarder) 0))
 
--- 2, with the padding bits as a number: "a padding bit set"
+-- 2, whole, with the padding bits as a number: "a tile over 33, .., a chi with no run from that tile, a padding bit set" and these
 unfoldable pub wrongFields : Hand → ℕ → Bool
-wrongFields h padding = tileOver33 h || fieldOver (h .fields) || chiWithoutRun h || ltb 0 padding || wrongDiscarder (h .fields)
+wrongFields h padding = wrongHeld (h .held) padding || fieldOver33 (h .fields) || fieldOver (h .fields) || wrongDiscarder (h .fields)
 
--- Write's 2: "m over 4, a field too large for its bits". A tile too large for its bits is over 33.
-abbrev pub tooLarge : Fields → Bool
-tooLarge f = ltb 4 (f .m) || ltb 1 (f .how) || ltb 3 (f .winner) || ltb 3 (f .discarder) || ltb 3 (f .riichi) || ltb 7 (f .situation)
+-- ---- 3 is `descends` of the tiles held; 4
 
--- Write's 2: "or an unused place not zero": a meld from m on, a concealed tile from 13 − 3m on
-unfoldable pub unusedNotZero : Hand → Bool
-unusedNotZero h =
-    not (all 4 (λ i. ltb i (h .fields .m) || eqb (getD (h .melds) i 0) 0))
-    || not (every 13 (λ i. ltb i (others h) || eqb (getD (h .concealed) i 0) 0))
-
--- 3: "concealed tiles descend somewhere"
-unfoldable pub descends : Hand → Bool
-descends h = some (others h - 1) (λ i. ltb (getD (h .concealed) (i + 1) 0) (getD (h .concealed) i 0))
-
--- 4: "among concealed tiles, winning tile, melds and indicator": how many of kind k
+-- "among concealed tiles, winning tile, melds and indicator": how many of kind k
 unfoldable pub inRecord : Hand → ℕ → ℕ
 inRecord h k = inHand h k + at (h .fields .indicator) 1 k
 
--- 4: "over four of a kind among" these
-unfoldable pub overFour : Hand → Bool
-overFour h = some 34 (λ k. ltb 4 (inRecord h k))
+-- ---- 5
 
--- 5: "riichi without a closed hand; double riichi with a meld"
-abbrev pub wrongRiichi : Fields → Bool → Bool
-wrongRiichi f closed = (ltb 0 (f .riichi) && not closed) || (eqb (f .riichi) 2 && ltb 0 (f .m))
+-- "riichi without a closed hand; double riichi with a meld"
+abbrev pub wrongRiichi : Fields → Held → Bool
+wrongRiichi f x = (ltb 0 (f .riichi) && not (isClosed x)) || (eqb (f .riichi) 2 && ltb 0 (x .m))
 
--- 5: "rinshan on ron, with riichi or without a kan"
-abbrev pub wrongRinshan : Fields → Bool → Bool
-wrongRinshan f kan = isRon f || ltb 0 (f .riichi) || not kan
+-- "rinshan on ron, with riichi or without a kan"
+abbrev pub wrongRinshan : Fields → Held → Bool
+wrongRinshan f x = isRon f || ltb 0 (f .riichi) || not (hasKan x)
 
--- 5: "chankan on tsumo, or with the winning tile's kind more than once among the tiles of 4"
+-- "chankan on tsumo, or with the winning tile's kind more than once among the tiles of 4": n times among them
 abbrev pub wrongChankan : Fields → ℕ → Bool
-wrongChankan f held = not (isRon f) || ltb 1 held
+wrongChankan f n = not (isRon f) || ltb 1 n
 
--- 5: "first turn with ron, a meld or riichi"
-abbrev pub wrongFirstTurn : Fields → Bool
-wrongFirstTurn f = isRon f || ltb 0 (f .m) || ltb 0 (f .riichi)
+-- "first turn with ron, a meld or riichi"
+abbrev pub wrongFirstTurn : Fields → Held → Bool
+wrongFirstTurn f x = isRon f || ltb 0 (x .m) || ltb 0 (f .riichi)
 
--- 5, whole: "situation 3 (0 ordinary, 1 rinshan, 2 chankan, 3 last tile, 4 first turn)"
+-- 5 of fields, tiles held, and how often they have the winning tile's kind: "situation 3 (0 ordinary, 1 rinshan, 2 chankan, 3 last tile, 4 first turn)"
+abbrev pub wrongBy : Fields → Held → ℕ → Bool
+wrongBy f x n =
+    wrongRiichi f x
+    || (eqb (f .situation) 1 && wrongRinshan f x)
+    || (eqb (f .situation) 2 && wrongChankan f n)
+    || (eqb (f .situation) 4 && wrongFirstTurn f x)
+
+-- 5, whole
 unfoldable pub wrongSituation : Hand → Bool
-wrongSituation h =
-    wrongRiichi (h .fields) (isClosed h)
-    || (eqb (h .fields .situation) 1 && wrongRinshan (h .fields) (hasKan h))
-    || (eqb (h .fields .situation) 2 && wrongChankan (h .fields) (inRecord h (h .fields .winning)))
-    || (eqb (h .fields .situation) 4 && wrongFirstTurn (h .fields))
+wrongSituation h = wrongBy (h .fields) (h .held) (inRecord h (h .fields .winning))
+
+-- ---- Read's and Write's refusals of a hand
 
 -- "first match wins": 2, 3, 4, 5, or 0 where there is none
 unfoldable pub refusalOf : Hand → ℕ → ℕ
 refusalOf h padding =
-    cond (wrongFields h padding) 2 (cond (descends h) 3 (cond (overFour h) 4 (cond (wrongSituation h) 5 0)))
+    cond (wrongFields h padding) 2 (cond (descends (h .held)) 3 (cond (overFour (inRecord h)) 4 (cond (wrongSituation h) 5 0)))
 
--- what Write refuses of a hand before it looks at the buffer: "2 (also m over 4, ..), 3, 4, 5 as above"
+-- Write's 2: "m over 4, a field too large for its bits". A tile too large for its bits is over 33.
+abbrev pub tooLarge : Hand → Bool
+tooLarge h =
+    ltb 4 (h .held .m)
+    || ltb 1 (h .fields .how)
+    || ltb 3 (h .fields .winner)
+    || ltb 3 (h .fields .discarder)
+    || ltb 3 (h .fields .riichi)
+    || ltb 7 (h .fields .situation)
+
+-- what Write refuses of a hand before it looks at the buffer: "2 (also m over 4, .., or an unused place not zero), 3, 4, 5 as above"
 unfoldable pub unwritable : Hand → ℕ
-unwritable h = cond (tooLarge (h .fields) || unusedNotZero h) 2 (refusalOf h 0)
+unwritable h = cond (tooLarge h || unusedNotZero (h .held)) 2 (refusalOf h 0)

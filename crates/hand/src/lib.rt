@@ -1,4 +1,4 @@
-// The hand: its fields, the tallies of its tiles, and the refusals 2 to 5 (01, Tiles and the hand record).
+// The hand: its fields, the tiles held, the tallies of its tiles, and the refusals 2 to 5 (01, Tiles and the hand record).
 ghost use mathlib.Core.Path.{_≡_};
 ghost use mathlib.Core.Bool.{true, false, _&&_, _||_, not, cond};
 ghost use Prim.Native.Nat.{ℕ, _+_, _-_, _*_, _/_, _%_, _≤_, _<_};
@@ -6,12 +6,12 @@ ghost use lib.Dec.{ltb, leb, eqb};
 ghost use lib.ListN.{getD};
 ghost use Rattle.tiles.specs.Below.{every, some, number};
 ghost use Rattle.tiles.specs.Kinds.{isRunStart};
-ghost use Rattle.tiles.specs.Groups.{at as atKind};
 ghost use Rattle.tiles.specs.Tally.{tallyOf};
-ghost use Rattle.hand.specs.Hand.{eachMeld, someMeld, meldHolds, concealedTally, handTally};
-ghost use Rattle.hand.specs.Refusals.{tileOver33, chiWithoutRun, wrongDiscarder, wrongFields, tooLarge, unusedNotZero, inRecord, wrongRiichi, wrongRinshan, wrongChankan, wrongFirstTurn, refusalOf, unwritable as unwritableOf};
+ghost use Rattle.hand.specs.Held.{isClosed, hasKan, meldHolds, inOthers, inHeld, tileOver33, chiWithoutRun, wrongHeld, descends as descendsOf, overFour, unusedNotZero};
+ghost use Rattle.hand.specs.Hand.{concealedTally, handTally};
+ghost use Rattle.hand.specs.Refusals.{wrongDiscarder, wrongFields, inRecord, wrongBy, refusalOf, tooLarge, unwritable as unwritableOf};
 
-// The numbers of a hand, in the record's order: how 0 tsumo, 1 ron; m the meld count.
+// The numbers of a hand, in the record's order: how 0 tsumo, 1 ron.
 #[repr(C)]
 pub struct Fields {
     pub how: u8,
@@ -21,15 +21,21 @@ pub struct Fields {
     pub situation: u8,
     pub indicator: u8,
     pub winning: u8,
-    pub m: u8,
 }
 
-// A meld is 64 times its kind and its tile. Unused places are 0.
+// The tiles held: m melds, each 64 times its kind and its tile, and 13 - 3m concealed tiles beside the winning one. Unused places are 0.
+#[repr(C)]
+pub struct Held {
+    pub m: u8,
+    pub melds: [u8; 4],
+    pub concealed: [u8; 13],
+}
+
+// A finished hand.
 #[repr(C)]
 pub struct Hand {
     pub fields: Fields,
-    pub melds: [u8; 4],
-    pub concealed: [u8; 13],
+    pub held: Held,
 }
 
 // How many concealed tiles there are beside the winning one.
@@ -38,6 +44,8 @@ pub fn others(m: u8) -> usize
 {
     if m <= 4 { 13 - 3 * (m as usize) } else { 0 }
 }
+
+// ---- 2, 3 and 4 over the tiles held
 
 // A tile over 33 among the first n.
 fn over_33(c: [u8; 13], n: usize) -> bool
@@ -52,18 +60,17 @@ fn over_33(c: [u8; 13], n: usize) -> bool
     false
 }
 
-fn tile_over_33(h: Hand) -> bool
-    ensures { λ r. ⌜ r ≡ tileOver33 h ⌝ }
+// A tile over 33 in a meld or among the concealed tiles.
+fn tile_over_33(x: Held) -> bool
+    ensures { λ r. ⌜ r ≡ tileOver33 x ⌝ }
 {
-    let m = h.fields.m;
-    let d = h.melds;
-    let c = h.concealed;
-    (33 < h.fields.indicator)
-        | (33 < h.fields.winning)
-        | (((0 < m) & (33 < d[0] % 64))
-            | ((1 < m) & (33 < d[1] % 64))
-            | ((2 < m) & (33 < d[2] % 64))
-            | ((3 < m) & (33 < d[3] % 64)))
+    let m = x.m;
+    let d = x.melds;
+    let c = x.concealed;
+    (((0 < m) & (33 < d[0] % 64))
+        | ((1 < m) & (33 < d[1] % 64))
+        | ((2 < m) & (33 < d[2] % 64))
+        | ((3 < m) & (33 < d[3] % 64)))
         | over_33(c, others(m))
 }
 
@@ -74,73 +81,23 @@ fn bad_chi(b: u8) -> bool
     (b / 64 == 0) & !tiles::is_run_start(b % 64)
 }
 
-fn chi_without_run(h: Hand) -> bool
-    ensures { λ r. ⌜ r ≡ chiWithoutRun h ⌝ }
+// Such a chi among the melds.
+fn chi_without_run(x: Held) -> bool
+    ensures { λ r. ⌜ r ≡ chiWithoutRun x ⌝ }
 {
-    let m = h.fields.m;
-    let d = h.melds;
+    let m = x.m;
+    let d = x.melds;
     ((0 < m) & bad_chi(d[0]))
         | ((1 < m) & bad_chi(d[1]))
         | ((2 < m) & bad_chi(d[2]))
         | ((3 < m) & bad_chi(d[3]))
 }
 
-fn wrong_discarder(f: Fields) -> bool
-    ensures { λ r. ⌜ r ≡ wrongDiscarder f ⌝ }
+// 2 of the tiles held, with the padding bits after them as a number.
+pub fn wrong_held(x: Held, padding: u8) -> bool
+    ensures { λ r. ⌜ r ≡ wrongHeld x padding ⌝ }
 {
-    if f.how == 1 {
-        f.discarder == f.winner
-    } else {
-        !(f.discarder == 0)
-    }
-}
-
-// 2
-fn wrong_fields(h: Hand, padding: u8) -> bool
-    ensures { λ r. ⌜ r ≡ wrongFields h padding ⌝ }
-{
-    let f = h.fields;
-    tile_over_33(h)
-        | ((3 <= f.riichi) | (4 < f.situation))
-        | chi_without_run(h)
-        | (0 < padding)
-        | wrong_discarder(f)
-}
-
-// Each place from n on is 0.
-fn zero_from(c: [u8; 13], n: usize) -> bool
-    ensures { λ r. ⌜ r ≡ every 13 (λ i. ltb i n || eqb (getD c i 0) 0) ⌝ }
-{
-    for i in 0..13 {
-        if !((i < n) | (c[i] == 0)) {
-            return false;
-        }
-    }
-    true
-}
-
-fn unused_not_zero(h: Hand) -> bool
-    ensures { λ r. ⌜ r ≡ unusedNotZero h ⌝ }
-{
-    let m = h.fields.m;
-    let d = h.melds;
-    let c = h.concealed;
-    !(((0 < m) | (d[0] == 0))
-        & ((1 < m) | (d[1] == 0))
-        & ((2 < m) | (d[2] == 0))
-        & ((3 < m) | (d[3] == 0)))
-        | !zero_from(c, others(m))
-}
-
-fn too_large(f: Fields) -> bool
-    ensures { λ r. ⌜ r ≡ tooLarge f ⌝ }
-{
-    (4 < f.m)
-        | (1 < f.how)
-        | (3 < f.winner)
-        | (3 < f.discarder)
-        | (3 < f.riichi)
-        | (7 < f.situation)
+    tile_over_33(x) | chi_without_run(x) | (0 < padding)
 }
 
 // How many tiles have one after them.
@@ -163,24 +120,73 @@ fn falls(c: [u8; 13], n: usize) -> bool
     false
 }
 
-// The first n tiles and the winning one.
-fn tally_of(c: [u8; 13], n: usize, winning: u8) -> [u8; 34]
+// 3: the concealed tiles descend somewhere.
+pub fn descends(x: Held) -> bool
+    ensures { λ r. ⌜ r ≡ descendsOf x ⌝ }
+{
+    let c = x.concealed;
+    falls(c, followed(x.m))
+}
+
+// 4: over four of a kind in a tally.
+pub fn over_four(t: [u8; 34]) -> bool
+    ensures { λ r. ⌜ r ≡ overFour (λ k. getD t k 0) ⌝ }
+{
+    for k in 0..34 {
+        if 4 < t[k] {
+            return true;
+        }
+    }
+    false
+}
+
+// Each place from n on is 0.
+fn zero_from(c: [u8; 13], n: usize) -> bool
+    ensures { λ r. ⌜ r ≡ every 13 (λ i. ltb i n || eqb (getD c i 0) 0) ⌝ }
+{
+    for i in 0..13 {
+        if !((i < n) | (c[i] == 0)) {
+            return false;
+        }
+    }
+    true
+}
+
+// A place past the m melds or past the 13 - 3m tiles is not 0.
+fn unused_not_zero(x: Held) -> bool
+    ensures { λ r. ⌜ r ≡ unusedNotZero x ⌝ }
+{
+    let m = x.m;
+    let d = x.melds;
+    let c = x.concealed;
+    !(((0 < m) | (d[0] == 0))
+        & ((1 < m) | (d[1] == 0))
+        & ((2 < m) | (d[2] == 0))
+        & ((3 < m) | (d[3] == 0)))
+        | !zero_from(c, others(m))
+}
+
+// ---- tallies
+
+// The first n tiles.
+fn tally_of(c: [u8; 13], n: usize) -> [u8; 34]
     requires { ⌜ n ≤ 13 ⌝ }
-    ensures { λ r. ⌜ r ≡ tallyOf (λ k. number n (λ i. eqb (getD c i 0) k) + atKind winning 1 k) ⌝ }
+    ensures { λ r. ⌜ r ≡ tallyOf (λ k. number n (λ i. eqb (getD c i 0) k)) ⌝ }
 {
     let mut t = [0u8; 34];
     for i in 0..n {
         let u = tiles::add(t, c[i], 1);
         t = u;
     }
-    tiles::add(t, winning, 1)
+    t
 }
 
-pub fn concealed_tally(h: Hand) -> [u8; 34]
-    ensures { λ r. ⌜ r ≡ concealedTally h ⌝ }
+// The concealed tiles alone.
+pub fn others_tally(x: Held) -> [u8; 34]
+    ensures { λ r. ⌜ r ≡ tallyOf (inOthers x) ⌝ }
 {
-    let c = h.concealed;
-    tally_of(c, others(h.fields.m), h.fields.winning)
+    let c = x.concealed;
+    tally_of(c, others(x.m))
 }
 
 // The tiles of a meld.
@@ -208,17 +214,31 @@ fn add_meld_if(t: [u8; 34], used: bool, b: u8) -> [u8; 34]
     if used { add_meld(t, b) } else { t }
 }
 
-// All tiles of the hand, kans whole.
-pub fn hand_tally(h: Hand) -> [u8; 34]
-    ensures { λ r. ⌜ r ≡ handTally h ⌝ }
+// Melds and concealed tiles together, kans whole.
+pub fn held_tally(x: Held) -> [u8; 34]
+    ensures { λ r. ⌜ r ≡ tallyOf (inHeld x) ⌝ }
 {
-    let m = h.fields.m;
-    let d = h.melds;
-    let t0 = concealed_tally(h);
+    let m = x.m;
+    let d = x.melds;
+    let t0 = others_tally(x);
     let t1 = add_meld_if(t0, 0 < m, d[0]);
     let t2 = add_meld_if(t1, 1 < m, d[1]);
     let t3 = add_meld_if(t2, 2 < m, d[2]);
     add_meld_if(t3, 3 < m, d[3])
+}
+
+// The concealed tiles with the winning tile: what readings go by.
+pub fn concealed_tally(h: Hand) -> [u8; 34]
+    ensures { λ r. ⌜ r ≡ concealedTally h ⌝ }
+{
+    tiles::add(others_tally(h.held), h.fields.winning, 1)
+}
+
+// All tiles of the hand: what yaku and dora go by.
+pub fn hand_tally(h: Hand) -> [u8; 34]
+    ensures { λ r. ⌜ r ≡ handTally h ⌝ }
+{
+    tiles::add(held_tally(h.held), h.fields.winning, 1)
 }
 
 // With the indicator: the tiles of 4.
@@ -228,45 +248,63 @@ fn record_tally(h: Hand) -> [u8; 34]
     tiles::add(hand_tally(h), h.fields.indicator, 1)
 }
 
-// Over four of a kind.
-fn over_four(t: [u8; 34]) -> bool
-    ensures { λ r. ⌜ r ≡ some 34 (λ k. ltb 4 (getD t k 0)) ⌝ }
+// ---- what the fields add: 2 and 5
+
+// Tsumo with a discarder, or ron from oneself.
+fn wrong_discarder(f: Fields) -> bool
+    ensures { λ r. ⌜ r ≡ wrongDiscarder f ⌝ }
 {
-    for k in 0..34 {
-        if 4 < t[k] {
-            return true;
-        }
+    if f.how == 1 {
+        f.discarder == f.winner
+    } else {
+        !(f.discarder == 0)
     }
-    false
 }
 
-pub fn is_closed(m: u8, d: [u8; 4]) -> bool
-    ensures { λ r. ⌜ r ≡ eachMeld m d (λ b. eqb (b / 64) 3) ⌝ }
+// 2, whole.
+fn wrong_fields(h: Hand, padding: u8) -> bool
+    ensures { λ r. ⌜ r ≡ wrongFields h padding ⌝ }
 {
+    let f = h.fields;
+    wrong_held(h.held, padding)
+        | ((33 < f.indicator) | (33 < f.winning))
+        | ((3 <= f.riichi) | (4 < f.situation))
+        | wrong_discarder(f)
+}
+
+// All melds are closed kans.
+pub fn is_closed(x: Held) -> bool
+    ensures { λ r. ⌜ r ≡ isClosed x ⌝ }
+{
+    let m = x.m;
+    let d = x.melds;
     ((m <= 0) | (d[0] / 64 == 3))
         & ((m <= 1) | (d[1] / 64 == 3))
         & ((m <= 2) | (d[2] / 64 == 3))
         & ((m <= 3) | (d[3] / 64 == 3))
 }
 
-fn has_kan(m: u8, d: [u8; 4]) -> bool
-    ensures { λ r. ⌜ r ≡ someMeld m d (λ b. leb 2 (b / 64)) ⌝ }
+// A kan, open or closed, is among the melds.
+fn has_kan(x: Held) -> bool
+    ensures { λ r. ⌜ r ≡ hasKan x ⌝ }
 {
+    let m = x.m;
+    let d = x.melds;
     ((0 < m) & (2 <= d[0] / 64))
         | ((1 < m) & (2 <= d[1] / 64))
         | ((2 < m) & (2 <= d[2] / 64))
         | ((3 < m) & (2 <= d[3] / 64))
 }
 
-// 5. `held` is how many of the winning tile's kind the tiles of 4 have.
-fn wrong_situation(f: Fields, closed: bool, kan: bool, held: u8) -> bool
-    ensures { λ r. ⌜ r ≡ (wrongRiichi f closed || (eqb (f .situation) 1 && wrongRinshan f kan) || (eqb (f .situation) 2 && wrongChankan f held) || (eqb (f .situation) 4 && wrongFirstTurn f)) ⌝ }
+// 5, where the tiles of 4 have n of the winning tile's kind.
+fn wrong_situation(f: Fields, x: Held, n: u8) -> bool
+    ensures { λ r. ⌜ r ≡ wrongBy f x n ⌝ }
 {
     let ron = f.how == 1;
-    (((0 < f.riichi) & !closed) | ((f.riichi == 2) & (0 < f.m)))
-        | ((f.situation == 1) & (ron | (0 < f.riichi) | !kan))
-        | ((f.situation == 2) & (!ron | (1 < held)))
-        | ((f.situation == 4) & (ron | (0 < f.m) | (0 < f.riichi)))
+    (((0 < f.riichi) & !is_closed(x)) | ((f.riichi == 2) & (0 < x.m)))
+        | ((f.situation == 1) & (ron | (0 < f.riichi) | !has_kan(x)))
+        | ((f.situation == 2) & (!ron | (1 < n)))
+        | ((f.situation == 4) & (ron | (0 < x.m) | (0 < f.riichi)))
 }
 
 // 2 to 5, first match wins; 0 where there is none.
@@ -277,9 +315,8 @@ pub fn refusal(h: Hand, padding: u8) -> u8
         return 2;
     }
     let f = h.fields;
-    let d = h.melds;
-    let c = h.concealed;
-    if falls(c, followed(f.m)) {
+    let x = h.held;
+    if descends(x) {
         return 3;
     }
     let t = record_tally(h);
@@ -287,17 +324,30 @@ pub fn refusal(h: Hand, padding: u8) -> u8
         return 4;
     }
     let at = f.winning as usize;
-    if wrong_situation(f, is_closed(f.m, d), has_kan(f.m, d), t[at]) {
+    if wrong_situation(f, x, t[at]) {
         return 5;
     }
     0
 }
 
-// What Write refuses of a hand.
+// A number too large for its bits, or m over 4. A tile too large is over 33.
+fn too_large(h: Hand) -> bool
+    ensures { λ r. ⌜ r ≡ tooLarge h ⌝ }
+{
+    let f = h.fields;
+    (4 < h.held.m)
+        | (1 < f.how)
+        | (3 < f.winner)
+        | (3 < f.discarder)
+        | (3 < f.riichi)
+        | (7 < f.situation)
+}
+
+// What Write refuses of a hand before it looks at the buffer: 2 to 5, or 0.
 pub fn unwritable(h: Hand) -> u8
     ensures { λ r. ⌜ r ≡ unwritableOf h ⌝ }
 {
-    if too_large(h.fields) | unused_not_zero(h) {
+    if too_large(h) | unused_not_zero(h.held) {
         2
     } else {
         refusal(h, 0)

@@ -6,8 +6,10 @@ use lib.Dec.{ltb, eqb}
 use lib.ListN.{length, getD, take, drop, replicate}
 use Rattle.bits.specs.Bits.{unpack, eights, bitsOf, bytesOf, fill}
 use Rattle.hand.specs.declared.Fields.{Fields}
+use Rattle.hand.specs.declared.Held.{Held}
 use Rattle.hand.specs.declared.Hand.{Hand}
 use Rattle.hand.specs.Refusals.{refusalOf, unwritable}
+use Rattle.hand_record.specs.declared.Head.{Head}
 use Rattle.hand_record.specs.declared.Answer.{Answer}
 use Rattle.hand_record.specs.declared.Answer.the-variants.{Sound, Refused}
 use Rattle.hand_record.specs.declared.HandRead.{HandRead}
@@ -31,46 +33,60 @@ lengthOf m = getD (13 ∷ 12 ∷ 11 ∷ 10 ∷ 8 ∷ []) m 0
 abbrev pub padOf : ℕ → ℕ
 padOf m = getD (1 ∷ 3 ∷ 5 ∷ 7 ∷ 1 ∷ []) m 0
 
--- all fields of a record with m melds: "m melds of 8; 13 − 3m other concealed tiles of 6"
+-- all widths of a record with m melds: the head, "m melds of 8; 13 − 3m other concealed tiles of 6; zero bits to the byte"
 unfoldable pub widths : ℕ → List ℕ
 widths m = head ++ (eights m ++ (sixes (13 - 3 * m) ++ (padOf m ∷ [])))
 
 -- ---- the parts of a record's bits
 
--- "how; winner; discarder; riichi; situation; dora indicator; winning tile; meld count m", in this order
-abbrev pub headerOf : List ℕ → Fields
-headerOf l =
-    record { how = getD l 0 0; winner = getD l 1 0; discarder = getD l 2 0; riichi = getD l 3 0; situation = getD l 4 0; indicator = getD l 5 0; winning = getD l 6 0; m = getD l 7 0 }
+-- the eight values of a head: "how; winner; discarder; riichi; situation; dora indicator; winning tile", and "meld count m"
+abbrev pub headBy : List ℕ → Head
+headBy l = record {
+  fields = record { how = getD l 0 0; winner = getD l 1 0; discarder = getD l 2 0; riichi = getD l 3 0; situation = getD l 4 0; indicator = getD l 5 0; winning = getD l 6 0 };
+  m = getD l 7 0;
+}
 
 -- "how; winner; ..; meld count m" of a record's bits: its first 25
-unfoldable pub headOf : List ℕ → Fields
-headOf bits = headerOf (unpack head bits)
+unfoldable pub headOf : List ℕ → Head
+headOf bits = headBy (unpack head bits)
 
--- "m melds of 8", after them
-unfoldable pub meldsOf : ℕ → List ℕ → List ℕ
-meldsOf m bits = unpack (eights m) (drop 25 bits)
+-- "m melds of 8", from bit `at` on
+unfoldable pub meldsOf : ℕ → ℕ → List ℕ → List ℕ
+meldsOf at m bits = unpack (eights m) (drop at bits)
 
 -- "13 − 3m other concealed tiles of 6", after the melds
-unfoldable pub tilesOf : ℕ → List ℕ → List ℕ
-tilesOf m bits = unpack (sixes (13 - 3 * m)) (drop (25 + 8 * m) bits)
+unfoldable pub tilesOf : ℕ → ℕ → List ℕ → List ℕ
+tilesOf at m bits = unpack (sixes (13 - 3 * m)) (drop (at + 8 * m) bits)
 
--- "zero bits to the byte", after the tiles: as a number, 0 where none is set
-unfoldable pub paddingOf : ℕ → List ℕ → ℕ
-paddingOf m bits = getD (unpack (padOf m ∷ []) (drop (25 + 8 * m + 6 * (13 - 3 * m)) bits)) 0 0
+-- the tiles held that bits are from bit `at` on, m melds; an "unused place" is zero
+unfoldable pub heldIn : ℕ → ℕ → List ℕ → Held
+heldIn at m bits = record { m = m; melds = fill 4 (meldsOf at m bits); concealed = fill 13 (tilesOf at m bits) }
 
--- the hand that the bits of a record with m melds are; an "unused place" is zero
+-- "zero bits to the byte", the n after them: as a number, 0 where none is set
+unfoldable pub paddingAfter : ℕ → ℕ → ℕ → List ℕ → ℕ
+paddingAfter at m n bits = getD (unpack (n ∷ []) (drop (at + 8 * m + 6 * (13 - 3 * m)) bits)) 0 0
+
+-- in the record of a finished hand: after "how 1; ..; meld count m 3", 25 bits
+abbrev pub paddingOf : ℕ → List ℕ → ℕ
+paddingOf m bits = paddingAfter 25 m (padOf m) bits
+
+-- the hand that the bits of a record with m melds are
 unfoldable pub handIn : ℕ → List ℕ → Hand
-handIn m bits = record { fields = headOf bits; melds = fill 4 (meldsOf m bits); concealed = fill 13 (tilesOf m bits) }
+handIn m bits = record { fields = headOf bits .fields; held = heldIn 25 m bits }
 
 -- ---- Read
 
+-- no meld and no tile: "an all-zero hand"
+abbrev pub noneHeld : Held
+noneHeld = record { m = 0; melds = replicate 4 0; concealed = replicate 13 0 }
+
 -- "It then returns an all-zero hand."
 abbrev pub refusedWith : ℕ → HandRead
-refusedWith n = record { answer = Refused n; melds = replicate 4 0; concealed = replicate 13 0 }
+refusedWith n = record { answer = Refused n; held = noneHeld }
 
 -- "A record that meets none of these is sound": its hand
 abbrev pub soundAs : Hand → HandRead
-soundAs h = record { answer = Sound (h .fields); melds = h .melds; concealed = h .concealed }
+soundAs h = record { answer = Sound (h .fields); held = h .held }
 
 -- the number of an answer: "Read refuses .. 1 .. 5"; 0 where the record is sound
 abbrev pub refusalIn : Answer → ℕ
@@ -80,11 +96,11 @@ refusalIn (Refused n) = n
 -- the fields of an answer: "all-zero" where it is refused
 abbrev pub fieldsOf : Answer → Fields
 fieldsOf (Sound f) = f
-fieldsOf (Refused n) = record { how = 0; winner = 0; discarder = 0; riichi = 0; situation = 0; indicator = 0; winning = 0; m = 0 }
+fieldsOf (Refused n) = record { how = 0; winner = 0; discarder = 0; riichi = 0; situation = 0; indicator = 0; winning = 0 }
 
 -- the hand that Read "returns"
 abbrev pub handOf : HandRead → Hand
-handOf r = record { fields = fieldsOf (r .answer); melds = r .melds; concealed = r .concealed }
+handOf r = record { fields = fieldsOf (r .answer); held = r .held }
 
 -- 1: "under 4 bytes, m over 4, or a length not m's"
 abbrev pub wrongLength : ℕ → ℕ → Bool
@@ -108,27 +124,32 @@ readOf s = cond (wrongLength (length s) (countIn s)) (refusedWith 1) (judged (co
 
 -- ---- Write
 
--- the fields in the record's order: "how; winner; discarder; .."
-abbrev pub headList : Fields → List ℕ
-headList f = f .how ∷ f .winner ∷ f .discarder ∷ f .riichi ∷ f .situation ∷ f .indicator ∷ f .winning ∷ f .m ∷ []
+-- the head's values in the record's order: "how; winner; discarder; ..; meld count m"
+abbrev pub headList : Head → List ℕ
+headList x =
+    x .fields .how ∷ x .fields .winner ∷ x .fields .discarder ∷ x .fields .riichi ∷ x .fields .situation ∷ x .fields .indicator ∷ x .fields .winning ∷ x .m ∷ []
+
+-- the head of a hand's record
+abbrev pub headFor : Hand → Head
+headFor h = record { fields = h .fields; m = h .held .m }
 
 -- and all values of a record: the m melds, the 13 − 3m tiles, "zero bits to the byte"
 unfoldable pub valuesOf : Hand → List ℕ
-valuesOf h = headList (h .fields) ++ (take (h .fields .m) (h .melds) ++ (take (13 - 3 * h .fields .m) (h .concealed) ++ (0 ∷ [])))
+valuesOf h = headList (headFor h) ++ (take (h .held .m) (h .held .melds) ++ (take (13 - 3 * h .held .m) (h .held .concealed) ++ (0 ∷ [])))
 
 -- "Write takes a hand": its record, each value at its width, as bytes
 unfoldable pub recordOf : Hand → List ℕ
-recordOf h = bytesOf (lengthOf (h .fields .m)) (widths (h .fields .m)) (valuesOf h)
+recordOf h = bytesOf (lengthOf (h .held .m)) (widths (h .held .m)) (valuesOf h)
 
 -- "Refusals: 2, 3, 4, 5 as above, then 13: buffer shorter than the record"
 unfoldable pub writeRefusal : Hand → List ℕ → ℕ
-writeRefusal h buf = cond (ltb 0 (unwritable h)) (unwritable h) (cond (ltb (length buf) (lengthOf (h .fields .m))) 13 0)
+writeRefusal h buf = cond (ltb 0 (unwritable h)) (unwritable h) (cond (ltb (length buf) (lengthOf (h .held .m))) 13 0)
 
 -- "It returns the length, 0 if refused"
 unfoldable pub writtenOf : Hand → List ℕ → Written
 writtenOf h buf =
-    cond (ltb 0 (writeRefusal h buf)) (record { refusal = writeRefusal h buf; len = 0 }) (record { refusal = 0; len = lengthOf (h .fields .m) })
+    cond (ltb 0 (writeRefusal h buf)) (record { refusal = writeRefusal h buf; len = 0 }) (record { refusal = 0; len = lengthOf (h .held .m) })
 
 -- "bytes past the record stay"; "a refused write changes no byte of the buffer"
 unfoldable pub bufferOf : Hand → List ℕ → List ℕ
-bufferOf h buf = cond (ltb 0 (writeRefusal h buf)) buf (recordOf h ++ drop (lengthOf (h .fields .m)) buf)
+bufferOf h buf = cond (ltb 0 (writeRefusal h buf)) buf (recordOf h ++ drop (lengthOf (h .held .m)) buf)

@@ -1,11 +1,12 @@
 // The hand record: Read and Write (01, Tiles and the hand record). Both take all input.
 ghost use mathlib.Core.Path.{_≡_};
-ghost use Prim.Native.Nat.{_+_, _*_, _≤_};
+ghost use Prim.Native.Nat.{_+_, _*_, _-_, _≤_};
 ghost use lib.ListN.{length, drop};
 ghost use Rattle.bits.specs.Bits.{pack, unpack, Below, bitsOf, fill};
-ghost use Rattle.hand_record.specs.Record.{headOf, meldsOf, sixes, refusedWith, judged, readOf, refusalIn, widths, valuesOf, writtenOf, bufferOf};
+ghost use Rattle.hand_record.specs.Record.{headOf, meldsOf, sixes, heldIn, refusedWith, judged, readOf, refusalIn, widths, valuesOf, writtenOf, bufferOf};
 use hand::Fields;
 use hand::Hand;
+use hand::Held;
 
 const HEAD: [u8; 8] = [1, 2, 2, 2, 3, 6, 6, 3];
 
@@ -13,17 +14,22 @@ const LENGTHS: [usize; 5] = [13, 12, 11, 10, 8];
 
 const PADS: [usize; 5] = [1, 3, 5, 7, 1];
 
+// The head of a record: the fields, and then the meld count.
+struct Head {
+    fields: Fields,
+    m: u8,
+}
+
 // The fields that read, or the number of the refusal.
 pub enum Answer {
     Sound(Fields),
     Refused(u8),
 }
 
-// What Read gives: the arrays stand beside the answer, all zero where it is refused.
+// What Read gives: the tiles held stand beside the answer, all zero where it is refused.
 pub struct HandRead {
     pub answer: Answer,
-    pub melds: [u8; 4],
-    pub concealed: [u8; 13],
+    pub held: Held,
 }
 
 // What Write gives: 0 and the record's length, or the refusal and 0.
@@ -45,14 +51,15 @@ fn spread(s: &[u8]) -> [u8; 104]
     b
 }
 
-fn header(b: &[u8]) -> Fields
+// The first 25 bits.
+fn header(b: &[u8]) -> Head
     requires { ⌜ (25 ≤ length (now b)) × Below 2 (now b) ⌝ }
     ensures { λ r. ⌜ r ≡ headOf (now (b .entry)) ⌝ }
 {
     let ws = HEAD;
     let mut h = [0u8; 8];
     bits::unpack_into(&ws, b, 0, &mut h);
-    Fields {
+    let fields = Fields {
         how: h[0],
         winner: h[1],
         discarder: h[2],
@@ -60,22 +67,22 @@ fn header(b: &[u8]) -> Fields
         situation: h[4],
         indicator: h[5],
         winning: h[6],
-        m: h[7],
-    }
+    };
+    Head { fields, m: h[7] }
 }
 
-// The m melds, with zeros after them.
-fn melds_in(b: &[u8], m: usize) -> [u8; 4]
-    requires { ⌜ (m ≤ 4) × (25 + 8 * m ≤ length (now b)) × Below 2 (now b) ⌝ }
-    ensures { λ r. ⌜ r ≡ fill 4 (meldsOf m (now (b .entry))) ⌝ }
+// The m melds from bit `at` on, with zeros after them.
+fn melds_in(b: &[u8], at: usize, m: usize) -> [u8; 4]
+    requires { ⌜ (m ≤ 4) × (at + 8 * m ≤ length (now b)) × Below 2 (now b) ⌝ }
+    ensures { λ r. ⌜ r ≡ fill 4 (meldsOf at m (now (b .entry))) ⌝ }
 {
     let ws = [8u8; 4];
     let mut out = [0u8; 4];
-    bits::unpack_into(&ws[..m], b, 25, &mut out);
+    bits::unpack_into(&ws[..m], b, at, &mut out);
     out
 }
 
-// The n tiles from `at` on, with zeros after them.
+// The n tiles from bit `at` on, with zeros after them.
 fn tiles_in(b: &[u8], at: usize, n: usize) -> [u8; 13]
     requires { ⌜ (n ≤ 13) × (at + 6 * n ≤ length (now b)) × Below 2 (now b) ⌝ }
     ensures { λ r. ⌜ r ≡ fill 13 (unpack (sixes n) (drop at (now (b .entry)))) ⌝ }
@@ -86,39 +93,52 @@ fn tiles_in(b: &[u8], at: usize, n: usize) -> [u8; 13]
     out
 }
 
-fn refused(n: u8) -> HandRead
-    ensures { λ r. ⌜ r ≡ refusedWith n ⌝ }
+// The tiles held that the bits from `at` on are: m melds, and then 13 - 3m tiles. An inner call of each reader.
+pub fn held_in(b: &[u8], at: usize, m: u8) -> Held
+    requires { ⌜ (m ≤ 4) × (at + 8 * m + 6 * (13 - 3 * m) ≤ length (now b)) × Below 2 (now b) ⌝ }
+    ensures { λ r. ⌜ r ≡ heldIn at m (now (b .entry)) ⌝ }
 {
-    HandRead {
-        answer: Answer::Refused(n),
-        melds: [0u8; 4],
-        concealed: [0u8; 13],
+    let k = m as usize;
+    let melds = melds_in(b, at, k);
+    let concealed = tiles_in(b, at + 8 * k, 13 - 3 * k);
+    Held {
+        m,
+        melds,
+        concealed,
     }
 }
 
-// The hand of m melds and the header f that bits are, or why it is refused.
-fn hand_in(b: &[u8], f: Fields, m: usize) -> HandRead
-    requires { ⌜ (m ≤ 4) × (104 ≤ length (now b)) × Below 2 (now b) × (f ≡ headOf (now b)) ⌝ }
+// A refused record: the refusal, and zeros.
+fn refused(n: u8) -> HandRead
+    ensures { λ r. ⌜ r ≡ refusedWith n ⌝ }
+{
+    let held = Held {
+        m: 0,
+        melds: [0u8; 4],
+        concealed: [0u8; 13],
+    };
+    HandRead {
+        answer: Answer::Refused(n),
+        held,
+    }
+}
+
+// The hand of m melds and the fields f that bits are, or why it is refused.
+fn hand_in(b: &[u8], f: Fields, m: u8) -> HandRead
+    requires { ⌜ (m ≤ 4) × (104 ≤ length (now b)) × Below 2 (now b) × (f ≡ headOf (now b) .fields) ⌝ }
     ensures { λ r. ⌜ r ≡ judged m (now (b .entry)) ⌝ }
 {
-    let k = 13 - 3 * m;
-    let at = 25 + 8 * m;
-    let melds = melds_in(b, m);
-    let concealed = tiles_in(b, at, k);
-    let padding = bits::gather(b, at + 6 * k, PADS[m]);
-    let h = Hand {
-        fields: f,
-        melds,
-        concealed,
-    };
+    let k = m as usize;
+    let held = held_in(b, 25, m);
+    let padding = bits::gather(b, 25 + 8 * k + 6 * (13 - 3 * k), PADS[k]);
+    let h = Hand { fields: f, held };
     let j = hand::refusal(h, padding);
     if 0 < j {
         return refused(j);
     }
     HandRead {
         answer: Answer::Sound(f),
-        melds,
-        concealed,
+        held,
     }
 }
 
@@ -134,14 +154,15 @@ pub fn read(s: &[u8]) -> HandRead
         return refused(1);
     }
     let b = spread(s);
-    let f = header(&b);
-    let m = f.m as usize;
+    let h = header(&b);
+    let m = h.m;
     if 4 < m {
         return refused(1);
     }
-    if n != LENGTHS[m] {
+    if n != LENGTHS[m as usize] {
         return refused(1);
     }
+    let f = h.fields;
     hand_in(&b, f, m)
 }
 
@@ -157,13 +178,14 @@ pub fn refusal(a: Answer) -> u8
 
 // The bits of a hand, with zeros after them.
 fn pack_hand(h: Hand) -> [u8; 104]
-    requires { ⌜ h .fields .m ≤ 4 ⌝ }
-    ensures { λ r. ⌜ r ≡ fill 104 (pack (widths (h .fields .m)) (valuesOf h)) ⌝ }
+    requires { ⌜ h .held .m ≤ 4 ⌝ }
+    ensures { λ r. ⌜ r ≡ fill 104 (pack (widths (h .held .m)) (valuesOf h)) ⌝ }
 {
     let f = h.fields;
-    let m = f.m as usize;
-    let melds = h.melds;
-    let concealed = h.concealed;
+    let x = h.held;
+    let m = x.m as usize;
+    let melds = x.melds;
+    let concealed = x.concealed;
     let mut b = [0u8; 104];
     let hw = HEAD;
     let hv = [
@@ -174,7 +196,7 @@ fn pack_hand(h: Hand) -> [u8; 104]
         f.situation,
         f.indicator,
         f.winning,
-        f.m,
+        x.m,
     ];
     let ew = [8u8; 4];
     let sw = [6u8; 13];
@@ -196,7 +218,7 @@ pub fn write(h: Hand, buf: &mut [u8]) -> Written
     if 0 < j {
         return Written { refusal: j, len: 0 };
     }
-    let m = h.fields.m as usize;
+    let m = h.held.m as usize;
     let n = LENGTHS[m];
     if buf.len() < n {
         return Written {

@@ -46,7 +46,6 @@ fn fields_of(a: Answer) -> Fields
             situation: 0,
             indicator: 0,
             winning: 0,
-            m: 0,
         },
     }
 }
@@ -57,14 +56,9 @@ pub extern "C" fn hb_read(s: &[u8]) -> ReadHand
 {
     let r = hand_record::read(s);
     let a = r.answer;
-    let melds = r.melds;
-    let concealed = r.concealed;
+    let held = r.held;
     let fields = fields_of(a);
-    let hand = Hand {
-        fields,
-        melds,
-        concealed,
-    };
+    let hand = Hand { fields, held };
     ReadHand {
         refusal: hand_record::refusal(a),
         hand,

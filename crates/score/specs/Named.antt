@@ -9,7 +9,8 @@ use lib.ListN.{take, replicate}
 use Rattle.tiles.specs.Below.{tabulate}
 use Rattle.tiles.specs.Kinds.{doraOf}
 use Rattle.hand.specs.declared.Hand.{Hand}
-use Rattle.hand.specs.Hand.{isRon, isClosed, concealedTally, handTally}
+use Rattle.hand.specs.Held.{isClosed}
+use Rattle.hand.specs.Hand.{isRon, concealedTally, handTally}
 use Rattle.reading.specs.declared.Reading.{Reading}
 use Rattle.reading.specs.Reading.{IsReading}
 use Rattle.groups.specs.Melds.{meldCode, meldWay}
@@ -34,8 +35,8 @@ wonOf h dealer wind = record {
   riichi = h .fields .riichi;
   situation = h .fields .situation;
   ron = isRon (h .fields);
-  closed = isClosed h;
-  bare = eqb (h .fields .m) 0;
+  closed = isClosed (h .held);
+  bare = eqb (h .held .m) 0;
 }
 
 -- who wins, who deals, who discards (01, Fu and points: "ron, 4A to a child, 6A to the dealer")
@@ -47,11 +48,11 @@ seatsOf h dealer = record { winner = h .fields .winner; dealer = dealer; discard
 -- the groups that yaku and fu go by: the "4 − m groups" of the reading in its order, then those of the m melds in the record's
 -- ("run: lowest kind; triplet: 34 + kind")
 unfoldable pub groupsOf : Hand → Reading → List ℕ
-groupsOf h r = take (4 - h .fields .m) (r .groups) ++ map meldCode (take (h .fields .m) (h .melds))
+groupsOf h r = take (4 - h .held .m) (r .groups) ++ map meldCode (take (h .held .m) (h .held .melds))
 
 -- the way of each: "A triplet completed by ron is open; other concealed triplets and closed kans are concealed" (0 concealed, 1 open, 2 open kan, 3 closed kan)
 unfoldable pub waysOf : Hand → Reading → List ℕ
-waysOf h r = tabulate (4 - h .fields .m) 0 (λ i. cond (isRon (h .fields) && eqb (r .place) (i + 1)) 1 0) ++ map meldWay (take (h .fields .m) (h .melds))
+waysOf h r = tabulate (4 - h .held .m) 0 (λ i. cond (isRon (h .fields) && eqb (r .place) (i + 1)) 1 0) ++ map meldWay (take (h .held .m) (h .held .melds))
 
 -- the reading with the melds
 unfoldable pub partsOf : Hand → Reading → Parts
@@ -75,7 +76,7 @@ acceptedAs v s ron = record { refusal = 0; h = v .han .0; fu = v .fu .0; yaku = 
 
 -- r is "a reading of the concealed tiles with the winning tile"
 abbrev pub IsReadingOf : Hand → Reading → Type 0
-IsReadingOf h r = IsReading (concealedTally h) (h .fields .m) (h .fields .winning) r
+IsReadingOf h r = IsReading (concealedTally h) (h .held .m) (h .fields .winning) r
 
 module _ (h : Hand) (dealer wind : ℕ) where
   -- r is one "of the readings with a yaku"

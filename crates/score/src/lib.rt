@@ -34,7 +34,7 @@ fn won_of(h: Hand, dealer: u8, wind: u8) -> Won
     ensures { λ r. ⌜ r ≡ wonOf h dealer wind ⌝ }
 {
     let f = h.fields;
-    let d = h.melds;
+    let x = h.held;
     let t = hand::hand_tally(h);
     Won {
         tally: t,
@@ -44,8 +44,8 @@ fn won_of(h: Hand, dealer: u8, wind: u8) -> Won
         riichi: f.riichi,
         situation: f.situation,
         ron: f.how == 1,
-        closed: hand::is_closed(f.m, d),
-        bare: f.m == 0,
+        closed: hand::is_closed(x),
+        bare: x.m == 0,
     }
 }
 
@@ -77,11 +77,12 @@ fn way_at(d: [u8; 4], m: u8, i: u8) -> u8
 
 // The groups of the melds, in the last of four places.
 fn meld_codes(h: Hand) -> [u8; 4]
-    requires { ⌜ h .fields .m ≤ 4 ⌝ }
+    requires { ⌜ h .held .m ≤ 4 ⌝ }
     ensures { λ r. ⌜ r ≡ meldCodes h ⌝ }
 {
-    let d = h.melds;
-    let m = h.fields.m;
+    let x = h.held;
+    let d = x.melds;
+    let m = x.m;
     [
         code_at(d, m, 0),
         code_at(d, m, 1),
@@ -92,11 +93,12 @@ fn meld_codes(h: Hand) -> [u8; 4]
 
 // The ways of the melds, in the last of four places.
 fn meld_ways(h: Hand) -> [u8; 4]
-    requires { ⌜ h .fields .m ≤ 4 ⌝ }
+    requires { ⌜ h .held .m ≤ 4 ⌝ }
     ensures { λ r. ⌜ r ≡ meldWays h ⌝ }
 {
-    let d = h.melds;
-    let m = h.fields.m;
+    let x = h.held;
+    let d = x.melds;
+    let m = x.m;
     [
         way_at(d, m, 0),
         way_at(d, m, 1),
@@ -107,7 +109,7 @@ fn meld_ways(h: Hand) -> [u8; 4]
 
 // What is the same in every reading of the hand.
 fn setting_of(h: Hand, dealer: u8, wind: u8) -> Setting
-    requires { ⌜ (h .fields .m ≤ 4) × (h .fields .winner ≤ 3) × (dealer ≤ 3) × (wind ≤ 1) ⌝ }
+    requires { ⌜ (h .held .m ≤ 4) × (h .fields .winner ≤ 3) × (dealer ≤ 3) × (wind ≤ 1) ⌝ }
     ensures { λ r. ⌜ (r ≡ settingOf h dealer wind) × Ready r ⌝ }
 {
     let won = won_of(h, dealer, wind);
@@ -164,13 +166,13 @@ fn accepted(v: Value, s: Seats, ron: bool) -> Scored
 
 // What a hand that read as sound scores, the answer that document 01 names for it: an inner call of Score and of the game.
 pub fn settle(h: Hand, dealer: u8, wind: u8) -> Scored
-    requires { ⌜ (h .fields .m ≤ 4) × (h .fields .winner ≤ 3) × (dealer ≤ 3) × (wind ≤ 1) ⌝ }
+    requires { ⌜ (h .held .m ≤ 4) × (h .fields .winner ≤ 3) × (dealer ≤ 3) × (wind ≤ 1) ⌝ }
     ensures { λ r. ⌜ Named h dealer wind r ⌝ }
     ensures { λ r. ⌜ r ≡ settledOf h dealer wind ⌝ }
 {
     let t = setting_of(h, dealer, wind);
     let c = hand::concealed_tally(h);
-    let b = best::best_of(t, c, h.fields.m, h.fields.winning);
+    let b = best::best_of(t, c, h.held.m, h.fields.winning);
     if b.seen {
         if b.valued {
             let v = b.value;
@@ -199,12 +201,7 @@ pub fn score(s: &[u8], dealer: u8, wind: u8) -> Scored
     let Answer::Sound(f) = a else {
         return refused(hand_record::refusal(a));
     };
-    let melds = r.melds;
-    let concealed = r.concealed;
-    let h = Hand {
-        fields: f,
-        melds,
-        concealed,
-    };
+    let held = r.held;
+    let h = Hand { fields: f, held };
     settle(h, dealer, wind)
 }

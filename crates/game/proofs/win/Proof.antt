@@ -23,7 +23,7 @@ win-spec =
     let q = refused-read (c .before .before .before .before .before .before .before .before .args .s .now) (c .before .before .before .before .read .result) _ (c .before .refusal .result) (c .before .before .before .before .read .ensures) (c .before .before .enum-told .given .1) (c .before .refusal .ensures) in
     refused-booked (c .before .before .before .before .before .before .before .before .args .g) (win (c .before .before .before .before .before .before .before .before .args .s .now)) (c .before .refusal .result) (c .refused2 .result) (c .refused2 .ensures)
     (win-unread (c .before .before .before .before .before .before .before .before .args .g) (c .before .before .before .before .before .before .before .before .args .s .now) (c .before .refusal .result) (sym (c .before .before .before .before .before .before .not-open .ensures) ∙ c .before .before .before .before .before .if1 .left) (q .0) (q .1)) (q .1))
-    (λ c κs. (open-of (c .before .before .before .before .before .before .before .before .before .args .g) (sym (c .before .before .before .before .before .before .before .not-open .ensures) ∙ c .before .before .before .before .before .before .if1 .left), hand-bounds (c .before .before .before .before .before .before .before .before .before .args .s .now) (c .before .before .before .before .before .read .result) (c .before .before .before .before .before .read .ensures) (c .before .before .before .a .given .0 .0) (c .before .before .before .a .given .1)))
-    (λ c. win-read (c .before .before .before .before .before .before .before .before .before .before .args .g) (c .before .before .before .before .before .before .before .before .before .before .args .s .now) _ (c .win-hand .result .refusal) (c .win-hand .result .game) (sym (c .before .before .before .before .before .before .before .before .not-open .ensures) ∙ c .before .before .before .before .before .before .before .if1 .left)
-    (ap refusalIn (answer-is (c .before .before .before .before .before .before .before .before .before .before .args .s .now) (c .before .before .before .before .before .before .read .result) (c .before .before .before .before .before .before .read .ensures) (c .before .before .before .before .a .given .1)))
-    (hand-is (c .before .before .before .before .before .before .before .before .before .before .args .s .now) (c .before .before .before .before .before .before .read .result) (c .before .before .before .before .before .before .read .ensures) (c .before .before .before .before .a .given .0 .0) (c .before .before .before .before .a .given .1)) (c .win-hand .ensures)))
+    (λ c κs. (open-of (c .before .before .before .before .before .before .before .before .args .g) (sym (c .before .before .before .before .before .before .not-open .ensures) ∙ c .before .before .before .before .before .if1 .left), hand-bounds (c .before .before .before .before .before .before .before .before .args .s .now) (c .before .before .before .before .read .result) (c .before .before .before .before .read .ensures) (c .before .before .a .given .0 .0) (c .before .before .a .given .1)))
+    (λ c. win-read (c .before .before .before .before .before .before .before .before .before .args .g) (c .before .before .before .before .before .before .before .before .before .args .s .now) _ (c .win-hand .result .refusal) (c .win-hand .result .game) (sym (c .before .before .before .before .before .before .before .not-open .ensures) ∙ c .before .before .before .before .before .before .if1 .left)
+    (ap refusalIn (answer-is (c .before .before .before .before .before .before .before .before .before .args .s .now) (c .before .before .before .before .before .read .result) (c .before .before .before .before .before .read .ensures) (c .before .before .before .a .given .1)))
+    (hand-is (c .before .before .before .before .before .before .before .before .before .args .s .now) (c .before .before .before .before .before .read .result) (c .before .before .before .before .before .read .ensures) (c .before .before .before .a .given .0 .0) (c .before .before .before .a .given .1)) (c .win-hand .ensures)))

@@ -8,7 +8,7 @@ use native.Mathlib.Omega.{arith}
 use lib.ListN.{length, getD}
 use Rattle.tiles.specs.Groups.{at}
 use Rattle.tiles.specs.laws.Tally.{more, at-le, tally-bound, more-adds}
-use Rattle.hand.specs.Hand.{meldHolds}
+use Rattle.hand.specs.Held.{meldHolds}
 use Rattle.hand.proofs.add_meld.Statement.{statement}
 use Rattle.hand.proofs.add_meld.Tie as tie
 

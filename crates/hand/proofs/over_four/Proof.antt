@@ -8,6 +8,7 @@ use lib.Dec.{ltb}
 use lib.ListN.{getD}
 use Rattle.tiles.specs.Below.{some}
 use Rattle.tiles.specs.laws.Below.{some-none, some-more, some-stop, some-done}
+use Rattle.hand.specs.Held.{overFour}
 use Rattle.hand.proofs.over_four.Statement.{statement}
 use Rattle.hand.proofs.over_four.Tie as tie
 
@@ -18,6 +19,7 @@ abbrev μ-loop : tie.MeasureT-loop
 μ-loop t k₀ k = 34 - k
 
 pub over-four-spec : {M : Type 1} → statement M
+unfolding overFour
 over-four-spec =
     tie.close
     (tie.spec Inv-loop μ-loop

@@ -18,10 +18,10 @@ abbrev among : List ℕ → ℕ → ℕ → ℕ
 among c i k = number i (λ j. eqb (getD c j 0) k)
 
 abbrev Inv-loop : tie.InvT-loop
-Inv-loop n winning c t₀ i₀ t i = (i ≤ n) × (length t ≡ 34) × ((k : ℕ) → k < 34 → getD t k 0 ≡ among c i k)
+Inv-loop n c t₀ i₀ t i = (i ≤ n) × (length t ≡ 34) × ((k : ℕ) → k < 34 → getD t k 0 ≡ among c i k)
 
 abbrev μ-loop : tie.MeasureT-loop
-μ-loop n winning c t₀ i₀ t i = n - i
+μ-loop n c t₀ i₀ t i = n - i
 
 room : (c t : List ℕ) (i : ℕ) → length t ≡ 34 → i ≤ 13 → ((k : ℕ) → k < 34 → getD t k 0 ≡ among c i k) → (a : ℕ) → getD t a 0 + 1 ≤ 255
 room c t i l h e a =
@@ -46,11 +46,7 @@ tally-of-spec =
     let a = c .before .before .before .args in
     let e = l .inv .1 in
     (search needs, search needs, turn (a .t1) (l .i) (l .t) (c .add .result) e (l .inv .2) (more-adds (l .t) e (c .add .result) (among (a .t1) (l .i)) (getD (a .t1) (l .i) 0) 1 (c .add .ensures) (l .inv .2))))
-    (λ c κs. room (c .before .before .args .t1) (c .before .loop .t) (c .before .loop .i) (c .before .loop .inv .1) (search needs) (c .before .loop .inv .2) _)
     (λ c.
-    let l = c .before .before .loop in
-    let a = c .before .before .before .args in
-    let e = l .inv .1 in
-    let n : l .i ≡ a .n = omega arith in
-    tally-ext (c .add2 .result) _ (search needs)
-    (rw n at (more-adds (l .t) e (c .add2 .result) (among (a .t1) (l .i)) (a .winning) 1 (c .add2 .ensures) (l .inv .2)))))
+    let l = c .before .loop in
+    let n : l .i ≡ c .before .before .args .n = omega arith in
+    rw n at (tally-ext (l .t) (among (c .before .before .args .t1) (l .i)) (l .inv .1) (l .inv .2))))

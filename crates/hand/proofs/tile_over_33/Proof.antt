@@ -1,6 +1,6 @@
 -- `hand::tile_over_33` meets its contract: each call gives its part. Assumes nothing.
 use borrow.Author.Needs.{needs}
-use Rattle.hand.specs.Refusals.{tileOver33}
+use Rattle.hand.specs.Held.{tileOver33}
 use Rattle.hand.proofs.tile_over_33.Statement.{statement}
 use Rattle.hand.proofs.tile_over_33.Tie as tie
 

@@ -1,6 +1,6 @@
 -- `hand::unused_not_zero` meets its contract: each call gives its part. Assumes nothing.
 use borrow.Author.Needs.{needs}
-use Rattle.hand.specs.Refusals.{unusedNotZero}
+use Rattle.hand.specs.Held.{unusedNotZero}
 use Rattle.hand.proofs.unused_not_zero.Statement.{statement}
 use Rattle.hand.proofs.unused_not_zero.Tie as tie
 

@@ -6,4 +6,4 @@ use Rattle.hand.proofs.wrong_fields.Tie as tie
 
 pub wrong-fields-spec : {M : Type 1} → statement M
 unfolding wrongFields
-wrong-fields-spec = tie.close (tie.spec (λ c κs. search needs) (λ c κs. search needs) (λ c κs. search needs) (λ c. cc))
+wrong-fields-spec = tie.close (tie.spec (λ c κs. search needs) (λ c κs. search needs) (λ c. cc))

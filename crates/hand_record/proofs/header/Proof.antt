@@ -1,9 +1,9 @@
--- `hand_record::header` meets its contract: the eight fields of the first 25 bits. Assumes nothing.
+-- `hand_record::header` meets its contract: the eight fields of the first 25 bits.
 use borrow.Author.Needs.{needs}
 use mathlib.Core.Path.{ap}
 use native.Mathlib.Omega.{arith}
 use Rattle.bits.specs.laws.Pack.{below-all}
-use Rattle.hand_record.specs.Record.{head, headerOf, headOf}
+use Rattle.hand_record.specs.Record.{head, headBy, headOf}
 use Rattle.hand_record.proofs.header.Statement.{statement}
 use Rattle.hand_record.proofs.header.Tie as tie
 
@@ -17,4 +17,4 @@ header-spec =
     (omega arith, below-all 9 head (omega arith), p .0, p .1))
     (λ c. search needs) (λ c. search needs) (λ c. search needs) (λ c. search needs)
     (λ c. search needs) (λ c. search needs) (λ c. search needs) (λ c. search needs)
-    (λ c. ap headerOf (c .before .unpack-into .ensures)))
+    (λ c. ap headBy (c .before .unpack-into .ensures)))

@@ -1,4 +1,4 @@
--- `hand_record::melds_in` meets its contract: a run of m widths of 8. Assumes nothing.
+-- `hand_record::melds_in` meets its contract: a run of m widths of 8.
 use borrow.Author.Needs.{needs}
 use mathlib.Core.Path.{sym}
 use native.Mathlib.Omega.{arith}
@@ -18,7 +18,7 @@ melds-in-spec =
     (λ c. search needs)
     (λ c κs.
     let a = c .before .before .before in
-    run-room (a .args .m) 4 8 25 (a .args .b .now) (a .pre .0) (omega arith) (a .pre .1) (a .pre .2))
+    run-room (a .args .m) 4 8 (a .args .at) (a .args .b .now) (a .pre .0) (omega arith) (a .pre .1) (a .pre .2))
     (λ c.
     let a = c .before .before .before .before .before in
-    run-stored (a .args .m) 4 8 25 (a .args .b .now) (a .pre .0) _ (c .before .unpack-into .ensures)))
+    run-stored (a .args .m) 4 8 (a .args .at) (a .args .b .now) (a .pre .0) _ (c .before .unpack-into .ensures)))

@@ -1,4 +1,4 @@
--- `hand_record::spread` meets its contract: bytes are widths of 8. Assumes nothing.
+-- `hand_record::spread` meets its contract: bytes are widths of 8.
 use borrow.Author.Needs.{needs}
 use mathlib.Core.Path.{sym, _∙_}
 use native.Mathlib.Omega.{arith}

@@ -1,4 +1,4 @@
--- `hand_record::tiles_in` meets its contract: a run of n widths of 6. Assumes nothing.
+-- `hand_record::tiles_in` meets its contract: a run of n widths of 6.
 use borrow.Author.Needs.{needs}
 use mathlib.Core.Path.{sym}
 use native.Mathlib.Omega.{arith}

@@ -1,4 +1,4 @@
--- `hand_record::write` meets its contract: what is refused stores nothing, and else the record is stored. Assumes nothing.
+-- `hand_record::write` meets its contract: what is refused stores nothing, and else the record is stored.
 use borrow.Author.Needs.{needs}
 use Prim.Native.Nat.{ℕ, _≤_}
 use mathlib.Core.Path.{_≡_, sym, _∙_}
@@ -20,7 +20,14 @@ accepted e =
     let z : e .before .unwritable .result ≡ 0 = omega arith in
     sym (e .before .unwritable .ensures) ∙ z
 
-few : (e : tie.Else1) → e .before .before .before .args .h .fields .m ≤ 4
+-- the arrays of the tiles held
+melds-4 : (a : tie.Start) → length (a .args .h .held .melds) ≡ 4
+melds-4 a = search needs
+
+tiles-13 : (a : tie.Start) → length (a .args .h .held .concealed) ≡ 13
+tiles-13 a = search needs
+
+few : (e : tie.Else1) → e .before .before .before .args .h .held .m ≤ 4
 few e = few-melds (e .before .before .before .args .h) (accepted e)
 
 pub write-spec : {M : Type 1} → statement M
@@ -43,20 +50,18 @@ write-spec =
     (λ c κs.
     let e = c .before .before .before .before .before .before in
     let h = e .before .before .before .args .h in
-    let n = lengthOf (h .fields .m) in
-    let w = whole (h .fields .m) (few e) in
-    let p = pack (widths (h .fields .m)) (valuesOf h) in
-    let lm : length (h .melds) ≡ 4 = search needs in
-    let lc : length (h .concealed) ≡ 13 = search needs in
-    let lp = length-packed h (few e) (omega arith) (omega arith) in
+    let n = lengthOf (h .held .m) in
+    let w = whole (h .held .m) (few e) in
+    let p = pack (widths (h .held .m)) (valuesOf h) in
+    let s = e .before .before .before in
+    let lp = length-packed h (few e) (omega (arith, melds-4 s)) (omega (arith, tiles-13 s)) in
     rw (c .before .before .before .pack-hand .ensures, take-replicate n 13 8 (w .2))
-    (omega (arith, length-replicate {A = ℕ} n 8), below-replicate 9 n 8 (omega arith), omega (arith, sum-replicate n 8, length-fill 104 p (omega (arith, lp, w))), below-fill 2 104 p (below-pack (widths (h .fields .m)) (valuesOf h))))
+    (omega (arith, length-replicate {A = ℕ} n 8), below-replicate 9 n 8 (omega arith), omega (arith, sum-replicate n 8, length-fill 104 p (omega (arith, lp, w))), below-fill 2 104 p (below-pack (widths (h .held .m)) (valuesOf h))))
     (λ c. search needs)
     (λ c.
     let e = c .before .before .before .before .before .before .before .before .before in
-    let a = e .before .before .before .args in
-    let lm : length (a .h .melds) ≡ 4 = search needs in
-    let lc : length (a .h .concealed) ≡ 13 = search needs in
+    let s = e .before .before .before in
+    let a = s .args in
     let w = wrote-by (a .h) (a .buf .now) (refusal-none (a .h) (a .buf .now) (accepted e) (c .before .before .before .before .before .before .before .if2 .left)) in
     let u = c .before .before .unpack-into in
-    (w .0, stored (a .h) (a .buf .now) (c .before .before .before .before .before .before .pack-hand .result) (u .last .1 .1 .1 .0) (few e) (omega arith) (omega arith) (c .before .before .before .before .before .before .before .if2 .left) (c .before .before .before .before .before .before .pack-hand .ensures) (u .ensures) ∙ w .1)))
+    (w .0, stored (a .h) (a .buf .now) (c .before .before .before .before .before .before .pack-hand .result) (u .last .1 .1 .1 .0) (few e) (omega (arith, melds-4 s)) (omega (arith, tiles-13 s)) (c .before .before .before .before .before .before .before .if2 .left) (c .before .before .before .before .before .before .pack-hand .ensures) (u .ensures) ∙ w .1)))

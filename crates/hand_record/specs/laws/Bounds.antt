@@ -1,4 +1,4 @@
--- The fields of a hand that was read are within their ranges. Assumes nothing.
+-- The fields of a hand that was read are within their ranges.
 use Prim.Native.Nat.{ℕ, zero, suc, _≤_, _<_}
 use native.Mathlib.Omega.{arith}
 use mathlib.Core.Path.{_≡_, ap, sym, _∙_, subst}
@@ -19,7 +19,7 @@ use Rattle.hand_record.specs.laws.Round.{as-read, accepted-back}
 use Rattle.hand_record.specs.laws.Claims.{is-read}
 
 pub record Bounds (h : Hand) : Type 0 where
-  pub few : h .fields .m ≤ 4
+  pub few : h .held .m ≤ 4
   pub winner : h .fields .winner ≤ 3
   pub discarder : h .fields .discarder ≤ 3
   pub winning : h .fields .winning ≤ 33
@@ -29,9 +29,9 @@ pub record Bounds (h : Hand) : Type 0 where
 pub bounds-of : (h : Hand) → Accepted h → Bounds h
 bounds-of h y =
     let f = h .fields in
-    let p = four (ltb 4 (f .m)) (ltb 1 (f .how)) (ltb 3 (f .winner)) (ltb 3 (f .discarder)) (ltb 3 (f .riichi)) (ltb 7 (f .situation)) (y .large) in
+    let p = four (ltb 4 (h .held .m)) (ltb 1 (f .how)) (ltb 3 (f .winner)) (ltb 3 (f .discarder)) (ltb 3 (f .riichi)) (ltb 7 (f .situation)) (y .large) in
     let k = kinds-of h 0 (y .clean .fields) in
-    record { few = ltb-false 4 (f .m) (p .0); winner = ltb-false 3 (f .winner) (p .1); discarder = ltb-false 3 (f .discarder) (p .2); winning = k .winning; indicator = k .indicator }
+    record { few = ltb-false 4 (h .held .m) (p .0); winner = ltb-false 3 (f .winner) (p .1); discarder = ltb-false 3 (f .discarder) (p .2); winning = k .winning; indicator = k .indicator }
   where
     four : (a b c d u v : Bool) → a || b || c || d || u || v ≡ false → (a ≡ false) × (c ≡ false) × (d ≡ false)
     four a b c d u v q =
@@ -51,10 +51,10 @@ module _ (s : List ℕ) (r : HandRead) (e : r ≡ readOf s) where
   pub answer-is : {a : Answer} → r .answer ≡ a → readOf s .answer ≡ a
   answer-is told = ap (λ (x : HandRead). x .answer) (sym e) ∙ told
 
-  pub hand-is : (f : Fields) → r .answer ≡ Sound f → record { fields = f; melds = r .melds; concealed = r .concealed } ≡ handOf (readOf s)
-  hand-is f told = ap (λ (x : Answer). record { fields = fieldsOf x; melds = r .melds; concealed = r .concealed }) (sym told) ∙ ap handOf e
+  pub hand-is : (f : Fields) → r .answer ≡ Sound f → record { fields = f; held = r .held } ≡ handOf (readOf s)
+  hand-is f told = ap (λ (x : Answer). record { fields = fieldsOf x; held = r .held }) (sym told) ∙ ap handOf e
 
-  pub hand-bounds : (f : Fields) → r .answer ≡ Sound f → Bounds (record { fields = f; melds = r .melds; concealed = r .concealed })
+  pub hand-bounds : (f : Fields) → r .answer ≡ Sound f → Bounds (record { fields = f; held = r .held })
   hand-bounds f told = subst (λ (x : Hand). Bounds x) (sym (hand-is f told)) (read-bounds s (ap refusalIn (answer-is told)))
 
 -- a refusal has a number

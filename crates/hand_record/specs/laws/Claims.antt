@@ -1,4 +1,4 @@
--- The proofs of the claims, over plain variables. Assumes nothing.
+-- The proofs of the claims, over plain variables.
 use Prim.Native.Nat.{ℕ, zero, suc, _+_, _*_, _-_, _≤_, _<_}
 use mathlib.Core.Path.{_≡_, refl, sym, ap, _∙_}
 use mathlib.Core.Bool.{Bool, true, false, cond}
@@ -10,7 +10,8 @@ use lib.ListN.{length, take, drop}
 use lib.Seq.{take-at}
 use Rattle.bits.specs.Bits.{sum, Below, bitsOf}
 use Rattle.hand.specs.declared.Hand.{Hand}
-use Rattle.hand.specs.Refusals.{wrongFields, descends, overFour, wrongSituation, refusalOf, unwritable}
+use Rattle.hand.specs.Held.{descends, overFour}
+use Rattle.hand.specs.Refusals.{wrongFields, inRecord, wrongSituation, refusalOf, unwritable}
 use Rattle.hand_record.specs.declared.HandRead.{HandRead}
 use Rattle.hand_record.specs.declared.Written.{Written}
 use Rattle.hand_record.specs.Record.{lengthOf, padOf, widths, wrongLength, countIn, handIn, paddingOf, refusedWith, soundAs, refusalIn, handOf, answerBy, judged, readOf, recordOf, writeRefusal, writtenOf, bufferOf}
@@ -26,7 +27,7 @@ module _ (s : List ℕ) where
   abbrev p : ℕ
   p = paddingOf (countIn s) (bitsOf s)
 
-  pub sound-read : wrongLength (length s) (countIn s) ≡ false → wrongFields x p ≡ false → descends x ≡ false → overFour x ≡ false → wrongSituation x ≡ false → refusalIn (readOf s .answer) ≡ 0
+  pub sound-read : wrongLength (length s) (countIn s) ≡ false → wrongFields x p ≡ false → descends (x .held) ≡ false → overFour (inRecord x) ≡ false → wrongSituation x ≡ false → refusalIn (readOf s .answer) ≡ 0
   sound-read a b c d e =
       ap (λ (r : HandRead). refusalIn (r .answer))
       (as-read s x (record { form = form-of (length s) (countIn s) a; is-hand = refl; unrefused = of-clean x p (record { fields = b; order = c; four = d; situation = e }) }))
@@ -41,7 +42,7 @@ module _ (s : List ℕ) where
   unfolding readOf judged answerBy
   is-given e = given (wrongLength (length s) (countIn s)) (ltb 0 (refusalOf x p)) (refusalOf x p) refl e
 
-  pub read-sound : refusalIn (readOf s .answer) ≡ 0 → (wrongLength (length s) (countIn s) ≡ false) × (wrongFields x p ≡ false) × (descends x ≡ false) × (overFour x ≡ false) × (wrongSituation x ≡ false)
+  pub read-sound : refusalIn (readOf s .answer) ≡ 0 → (wrongLength (length s) (countIn s) ≡ false) × (wrongFields x p ≡ false) × (descends (x .held) ≡ false) × (overFour (inRecord x) ≡ false) × (wrongSituation x ≡ false)
   read-sound e =
       let g = is-given e in
       let c = clean-of x p (g .1) in
@@ -69,7 +70,7 @@ module _ (s buf : List ℕ) (b : Below 256 s) (e : refusalIn (readOf s .answer) 
   abbrev h : Hand
   h = handIn (countIn s) (bitsOf s)
 
-  same-length : lengthOf (h .fields .m) ≡ length s
+  same-length : lengthOf (h .held .m) ≡ length s
   same-length = sym (form-is s h (is-read s e) .right)
 
   same-read : handOf (readOf s) ≡ h
@@ -85,7 +86,7 @@ module _ (s buf : List ℕ) (b : Below 256 s) (e : refusalIn (readOf s .answer) 
   read-write-buffer =
       ap (λ (z : Hand). bufferOf z buf) same-read
       ∙ sym (wrote-by h buf unrefused .1)
-      ∙ ap (λ (z : List ℕ). z ++ drop (lengthOf (h .fields .m)) buf) (same-bytes s h (is-read s e) b)
+      ∙ ap (λ (z : List ℕ). z ++ drop (lengthOf (h .held .m)) buf) (same-bytes s h (is-read s e) b)
       ∙ ap (λ (k : ℕ). s ++ drop k buf) same-length
 
 -- what a write that is not refused says
@@ -93,7 +94,7 @@ wrote : (h : Hand) (buf : List ℕ) → writtenOf h buf .refusal ≡ 0 → (writ
 unfolding writtenOf
 wrote h buf e = go (writeRefusal h buf) (ltb 0 (writeRefusal h buf)) refl e
   where
-    go : (n : ℕ) (b : Bool) → ltb 0 n ≡ b → cond {A = Written} b (record { refusal = n; len = 0 }) (record { refusal = 0; len = lengthOf (h .fields .m) }) .refusal ≡ 0 → n ≡ 0
+    go : (n : ℕ) (b : Bool) → ltb 0 n ≡ b → cond {A = Written} b (record { refusal = n; len = 0 }) (record { refusal = 0; len = lengthOf (h .held .m) }) .refusal ≡ 0 → n ≡ 0
     go n true q e = e
     go n false q e = omega (arith, ltb-false 0 n q)
 
@@ -105,15 +106,15 @@ writable h buf e = go (unwritable h) (ltb 0 (unwritable h)) refl _ e
     go n true q k e = e
     go n false q k e = omega (arith, ltb-false 0 n q)
 
-pub write-read : (h : Hand) (buf : List ℕ) → length (h .melds) ≡ 4 → length (h .concealed) ≡ 13 → Below 256 (h .melds) → writtenOf h buf .refusal ≡ 0
+pub write-read : (h : Hand) (buf : List ℕ) → length (h .held .melds) ≡ 4 → length (h .held .concealed) ≡ 13 → Below 256 (h .held .melds) → writtenOf h buf .refusal ≡ 0
     → readOf (take (writtenOf h buf .len) (bufferOf h buf)) ≡ soundAs h
 write-read h buf lm lc bm e =
     let z = wrote h buf e in
     let w = wrote-by h buf z in
     let u = writable h buf z in
-    let n : writtenOf h buf .len ≡ lengthOf (h .fields .m) = ap (λ (r : Written). r .len) (sym (w .0)) in
+    let n : writtenOf h buf .len ≡ lengthOf (h .held .m) = ap (λ (r : Written). r .len) (sym (w .0)) in
     let t : take (writtenOf h buf .len) (bufferOf h buf) ≡ recordOf h =
     ap (λ (k : ℕ). take k (bufferOf h buf)) n
-    ∙ ap (take (lengthOf (h .fields .m))) (sym (w .1))
-    ∙ take-at (recordOf h) (drop (lengthOf (h .fields .m)) buf) (lengthOf (h .fields .m)) (length-record h u lm lc bm) in
+    ∙ ap (take (lengthOf (h .held .m))) (sym (w .1))
+    ∙ take-at (recordOf h) (drop (lengthOf (h .held .m)) buf) (lengthOf (h .held .m)) (length-record h u lm lc bm) in
     ap readOf t ∙ same-hand h u lm lc bm

@@ -5,16 +5,17 @@ use mathlib.Core.List.{List, [], _∷_}
 use mathlib.Core.Path.{_≡_, refl}
 use Prim.Native.Nat.{ℕ}
 use Rattle.hand.specs.declared.Hand.{Hand}
-use Rattle.hand.specs.Hand.{meldHolds, inMelds, inConcealed, inHand}
-use Rattle.hand.specs.Refusals.{tileOver33, wrongFields, descends, inRecord, overFour, wrongSituation, refusalOf}
+use Rattle.hand.specs.Held.{meldHolds, inMelds, inOthers, inHeld, tileOver33, wrongHeld, descends, overFour}
+use Rattle.hand.specs.Hand.{inHand}
+use Rattle.hand.specs.Refusals.{wrongFields, inRecord, wrongSituation, refusalOf}
 use Rattle.tiles.specs.Below.{every, some, number}
 use Rattle.tiles.specs.Groups.{at}
-use Rattle.hand_record.specs.Record.{headOf, meldsOf, tilesOf, paddingOf, handIn, soundAs, answerBy, judged, readOf, widths, valuesOf, recordOf}
+use Rattle.hand_record.specs.Record.{headOf, meldsOf, tilesOf, heldIn, paddingAfter, handIn, soundAs, answerBy, judged, readOf, widths, valuesOf, recordOf}
 
 -- "indicator North, no riichi, ordinary": how (0 tsumo, 1 ron), winner, discarder, winning tile, m, melds, other concealed tiles
 abbrev pub won : ℕ → ℕ → ℕ → ℕ → ℕ → List ℕ → List ℕ → Hand
 won how winner discarder winning m melds concealed =
-    record { fields = record { how = how; winner = winner; discarder = discarder; riichi = 0; situation = 0; indicator = 30; winning = winning; m = m }; melds = melds; concealed = concealed }
+    record { fields = record { how = how; winner = winner; discarder = discarder; riichi = 0; situation = 0; indicator = 30; winning = winning }; held = record { m = m; melds = melds; concealed = concealed } }
 
 -- a record, and the hand that it is
 pub record Row : Type 0 where
@@ -72,5 +73,5 @@ Table = ReadsBack line1 × ReadsBack line2 × ReadsBack line3 × ReadsBack line4
 
 -- each row reads and writes back
 pub table : Table
-unfolding every some number at meldHolds inMelds inConcealed inHand tileOver33 wrongFields descends inRecord overFour wrongSituation refusalOf headOf meldsOf tilesOf paddingOf handIn answerBy judged readOf widths valuesOf recordOf
+unfolding every some number at meldHolds inMelds inOthers inHeld inHand tileOver33 wrongHeld wrongFields descends inRecord overFour wrongSituation refusalOf headOf meldsOf tilesOf heldIn paddingAfter handIn answerBy judged readOf widths valuesOf recordOf
 table = (record { read = refl; write = refl }, record { read = refl; write = refl }, record { read = refl; write = refl }, record { read = refl; write = refl }, record { read = refl; write = refl }, record { read = refl; write = refl }, record { read = refl; write = refl }, record { read = refl; write = refl }, record { read = refl; write = refl }, record { read = refl; write = refl })

@@ -1,4 +1,4 @@
--- Lists filled with zeros, and the unused places of a hand. Assumes nothing.
+-- Lists filled with zeros, and the unused places of a hand.
 use Prim.Native.Nat.{ℕ, zero, suc, _+_, _*_, _-_, _<_, _≤_}
 use mathlib.Core.Path.{_≡_, refl, sym, _∙_}
 use mathlib.Core.Bool.{Bool, true, false, _||_, not}
@@ -12,8 +12,8 @@ use Rattle.tiles.specs.Below.{all, every}
 use Rattle.tiles.specs.laws.Below.{or-both, every-at, every-of}
 use Rattle.bits.specs.Bits.{fill}
 use Rattle.bits.specs.laws.Pack.{length-fill}
-use Rattle.hand.specs.declared.Hand.{Hand}
-use Rattle.hand.specs.Refusals.{unusedNotZero}
+use Rattle.hand.specs.declared.Held.{Held}
+use Rattle.hand.specs.Held.{unusedNotZero}
 
 pub take-fill : (n m : ℕ) (l : List ℕ) → length l ≡ m → take m (fill n l) ≡ l
 take-fill n m l e = take-at l (replicate (n - length l) 0) m e
@@ -53,20 +53,20 @@ used-or-zero l m i h = go (ltb i m) refl
 zero-past : (l : List ℕ) (m i : ℕ) → ltb i m || eqb (getD l i 0) 0 ≡ true → m ≤ i → getD l i 0 ≡ 0
 zero-past l m i e h = eqb-true (getD l i 0) 0 (rw (le-ltb i m h) at e)
 
-pub unused-of : (h : Hand) → ((i : ℕ) → h .fields .m ≤ i → getD (h .melds) i 0 ≡ 0) → ((i : ℕ) → 13 - 3 * h .fields .m ≤ i → getD (h .concealed) i 0 ≡ 0) → unusedNotZero h ≡ false
+pub unused-of : (x : Held) → ((i : ℕ) → x .m ≤ i → getD (x .melds) i 0 ≡ 0) → ((i : ℕ) → 13 - 3 * x .m ≤ i → getD (x .concealed) i 0 ≡ 0) → unusedNotZero x ≡ false
 unfolding unusedNotZero every
-unused-of h zm zt =
-    let em = every-of (λ i. ltb i (h .fields .m) || eqb (getD (h .melds) i 0) 0) 4 (λ i g. used-or-zero (h .melds) (h .fields .m) i (zm i)) in
-    let et = every-of (λ i. ltb i (13 - 3 * h .fields .m) || eqb (getD (h .concealed) i 0) 0) 13 (λ i g. used-or-zero (h .concealed) (13 - 3 * h .fields .m) i (zt i)) in
+unused-of x zm zt =
+    let em = every-of (λ i. ltb i (x .m) || eqb (getD (x .melds) i 0) 0) 4 (λ i g. used-or-zero (x .melds) (x .m) i (zm i)) in
+    let et = every-of (λ i. ltb i (13 - 3 * x .m) || eqb (getD (x .concealed) i 0) 0) 13 (λ i g. used-or-zero (x .concealed) (13 - 3 * x .m) i (zt i)) in
     nots _ _ em et
   where
     nots : (a b : Bool) → a ≡ true → b ≡ true → not a || not b ≡ false
     nots a b p q = rw (p, q)
 
-pub zeros-of : (h : Hand) → unusedNotZero h ≡ false → ((i : ℕ) → i < 4 → h .fields .m ≤ i → getD (h .melds) i 0 ≡ 0) × ((i : ℕ) → i < 13 → 13 - 3 * h .fields .m ≤ i → getD (h .concealed) i 0 ≡ 0)
+pub zeros-of : (x : Held) → unusedNotZero x ≡ false → ((i : ℕ) → i < 4 → x .m ≤ i → getD (x .melds) i 0 ≡ 0) × ((i : ℕ) → i < 13 → 13 - 3 * x .m ≤ i → getD (x .concealed) i 0 ≡ 0)
 unfolding unusedNotZero every
-zeros-of h e =
-    let p = or-both (not (all 4 (λ i. ltb i (h .fields .m) || eqb (getD (h .melds) i 0) 0))) (not (all 13 (λ i. ltb i (13 - 3 * h .fields .m) || eqb (getD (h .concealed) i 0) 0))) e in (
-      λ i g l. zero-past (h .melds) (h .fields .m) i (every-at (λ j. ltb j (h .fields .m) || eqb (getD (h .melds) j 0) 0) 4 i (not-false _ (p .0)) g) l,
-      λ i g l. zero-past (h .concealed) (13 - 3 * h .fields .m) i (every-at (λ j. ltb j (13 - 3 * h .fields .m) || eqb (getD (h .concealed) j 0) 0) 13 i (not-false _ (p .1)) g) l,
+zeros-of x e =
+    let p = or-both (not (all 4 (λ i. ltb i (x .m) || eqb (getD (x .melds) i 0) 0))) (not (all 13 (λ i. ltb i (13 - 3 * x .m) || eqb (getD (x .concealed) i 0) 0))) e in (
+      λ i g l. zero-past (x .melds) (x .m) i (every-at (λ j. ltb j (x .m) || eqb (getD (x .melds) j 0) 0) 4 i (not-false _ (p .0)) g) l,
+      λ i g l. zero-past (x .concealed) (13 - 3 * x .m) i (every-at (λ j. ltb j (13 - 3 * x .m) || eqb (getD (x .concealed) j 0) 0) 13 i (not-false _ (p .1)) g) l,
     )

@@ -1,4 +1,4 @@
--- What `readOf` comes to, case by case. Assumes nothing.
+-- What `readOf` comes to, case by case.
 use Prim.Native.Nat.{ℕ, zero, suc, _+_, _*_, _-_, _≤_}
 use mathlib.Core.Path.{_≡_, refl, sym, ap, _∙_}
 use mathlib.Core.Bool.{Bool, true, false, _||_, not}
@@ -10,8 +10,8 @@ use lib.ListN.{length, getD}
 use Rattle.tiles.specs.laws.Below.{or-both}
 use Rattle.bits.specs.Bits.{eights, bitsOf, fill}
 use Rattle.bits.specs.laws.Pack.{length-bitsOf, part-fill, sum-replicate}
-use Rattle.hand.specs.declared.Fields.{Fields}
-use Rattle.hand_record.specs.Record.{head, headerOf, sixes, lengthOf, padOf, headOf, meldsOf, tilesOf, paddingOf, handIn, refusedWith, wrongLength, countIn, judged, readOf}
+use Rattle.hand_record.specs.declared.Head.{Head}
+use Rattle.hand_record.specs.Record.{head, headBy, sixes, lengthOf, padOf, headOf, meldsOf, tilesOf, heldIn, paddingAfter, paddingOf, handIn, refusedWith, wrongLength, countIn, judged, readOf}
 
 pub bool-true : (b : Bool) → (b ≡ false → ⊥) → b ≡ true
 bool-true true h = refl
@@ -49,31 +49,31 @@ read-not s h = rw (bool-true (wrongLength (length s) (countIn s)) (λ e. h (form
 -- a record of the right length, read from its bits with zeros after them
 pub head-fill : (s : List ℕ) → 4 ≤ length s → headOf (fill 104 (bitsOf s)) ≡ headOf (bitsOf s)
 unfolding headOf
-head-fill s h = ap headerOf (part-fill 104 0 head (bitsOf s) (omega (arith, length-bitsOf s)))
+head-fill s h = ap headBy (part-fill 104 0 head (bitsOf s) (omega (arith, length-bitsOf s)))
 
 module _ (s : List ℕ) (m : ℕ) (f : Form (length s) m) where
-  melds-fill : meldsOf m (fill 104 (bitsOf s)) ≡ meldsOf m (bitsOf s)
+  melds-fill : meldsOf 25 m (fill 104 (bitsOf s)) ≡ meldsOf 25 m (bitsOf s)
   unfolding meldsOf
   melds-fill = part-fill 104 25 (eights m) (bitsOf s) (omega (arith, sum-replicate m 8, whole m (f .few), length-bitsOf s))
 
-  tiles-fill : tilesOf m (fill 104 (bitsOf s)) ≡ tilesOf m (bitsOf s)
+  tiles-fill : tilesOf 25 m (fill 104 (bitsOf s)) ≡ tilesOf 25 m (bitsOf s)
   unfolding tilesOf
   tiles-fill =
       part-fill 104 (25 + 8 * m) (sixes (13 - 3 * m)) (bitsOf s) (omega (arith, sum-replicate (13 - 3 * m) 6, whole m (f .few), length-bitsOf s))
 
   padding-fill : paddingOf m (fill 104 (bitsOf s)) ≡ paddingOf m (bitsOf s)
-  unfolding paddingOf
+  unfolding paddingAfter
   padding-fill =
       ap (λ (l : List ℕ). getD l 0 0)
       (part-fill 104 (25 + 8 * m + 6 * (13 - 3 * m)) (padOf m ∷ []) (bitsOf s) (omega (arith, whole m (f .few), length-bitsOf s)))
 
   judged-fill : judged m (fill 104 (bitsOf s)) ≡ judged m (bitsOf s)
-  unfolding judged handIn
+  unfolding judged handIn heldIn
   judged-fill = rw (head-fill s (f .four), melds-fill, tiles-fill, padding-fill)
 
 -- over what a reader's calls gave
 pub read-by : (s b : List ℕ) (m : ℕ) → b ≡ fill 104 (bitsOf s) → m ≡ headOf b .m → Form (length s) m → judged m b ≡ readOf s
 unfolding readOf
 read-by s b m eb em form =
-    let e : countIn s ≡ m = sym (em ∙ ap (λ (l : List ℕ). headOf l .m) eb ∙ ap (λ (h : Fields). h .m) (head-fill s (form .four))) in
+    let e : countIn s ≡ m = sym (em ∙ ap (λ (l : List ℕ). headOf l .m) eb ∙ ap (λ (h : Head). h .m) (head-fill s (form .four))) in
     rw (eb, e, form-right (length s) m form) (judged-fill s m form)

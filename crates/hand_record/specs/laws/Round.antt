@@ -1,4 +1,4 @@
--- A sound record read and written back gives the same bytes; an accepted hand written and read gives the same hand. Assumes nothing.
+-- A sound record read and written back gives the same bytes; an accepted hand written and read gives the same hand.
 use Prim.Native.Nat.{ℕ, _+_, _*_, _-_, _<_, _≤_}
 use mathlib.Core.Path.{_≡_, refl, sym, ap, _∙_, subst}
 use mathlib.Core.Bool.{Bool, true, false, _||_, cond}
@@ -13,11 +13,14 @@ use Rattle.tiles.specs.laws.Below.{or-both}
 use Rattle.bits.specs.Bits.{pack, unpack, sum, eights, bitsOf, fill, Below}
 use Rattle.bits.specs.laws.Pack.{FitIn, fieldsOf, unpack-fit, unpack-append, below-pack, below-take, length-unpack, sum-replicate, bytes-fields, fields-bytes, length-bitsOf, fit-cons, fit-nil, fit-all, fit-run, fit-append, app-inj}
 use Rattle.hand.specs.declared.Fields.{Fields}
+use Rattle.hand.specs.declared.Held.{Held}
 use Rattle.hand.specs.declared.Hand.{Hand}
-use Rattle.hand.specs.Refusals.{tooLarge, unusedNotZero, refusalOf, unwritable}
+use Rattle.hand.specs.Held.{unusedNotZero}
+use Rattle.hand.specs.Refusals.{tooLarge, refusalOf, unwritable}
+use Rattle.hand_record.specs.declared.Head.{Head}
 use Rattle.hand_record.specs.declared.HandRead.{HandRead}
 use Rattle.hand_record.specs.declared.Answer.the-variants.{Sound, Refused}
-use Rattle.hand_record.specs.Record.{head, headerOf, headList, sixes, lengthOf, padOf, headOf, meldsOf, tilesOf, paddingOf, handIn, refusedWith, soundAs, wrongLength, countIn, answerBy, judged, readOf, widths, valuesOf, recordOf}
+use Rattle.hand_record.specs.Record.{head, headBy, headList, headFor, sixes, lengthOf, padOf, headOf, meldsOf, tilesOf, heldIn, paddingAfter, paddingOf, handIn, refusedWith, soundAs, wrongLength, countIn, answerBy, judged, readOf, widths, valuesOf, recordOf}
 use Rattle.hand_record.specs.laws.Clean.{clean-of, of-clean, kinds-of, Accepted, accepted-of}
 use Rattle.hand_record.specs.laws.Fill.{take-fill, fill-past, fill-take, unused-of, zeros-of}
 use Rattle.hand_record.specs.laws.Read.{whole, Form, form-of, form-right}
@@ -25,8 +28,8 @@ use Rattle.hand_record.specs.laws.Write.{sum-widths, length-widths, few-
 
 -- ---- the fields of a record's bits, part by part
 
-unpack-widths : (m : ℕ) (b : List ℕ) → unpack (widths m) b ≡ unpack head b ++ (meldsOf m b ++ (tilesOf m b ++ (paddingOf m b ∷ [])))
-unfolding widths meldsOf tilesOf paddingOf
+unpack-widths : (m : ℕ) (b : List ℕ) → unpack (widths m) b ≡ unpack head b ++ (meldsOf 25 m b ++ (tilesOf 25 m b ++ (paddingOf m b ∷ [])))
+unfolding widths meldsOf tilesOf paddingAfter
 unpack-widths m bits =
     let k : ℕ = 13 - 3 * m in
     let b1 : List ℕ = drop 25 bits in
@@ -40,11 +43,11 @@ unpack-widths m bits =
     rw e3 at (unpack-append (sixes k) (padOf m ∷ []) b2) in
     p1 ∙ ap (λ (l : List ℕ). unpack head bits ++ l) (p2 ∙ ap (λ (l : List ℕ). unpack (eights m) b1 ++ l) p3)
 
-melds-length : (m : ℕ) (b : List ℕ) → length (meldsOf m b) ≡ m
+melds-length : (m : ℕ) (b : List ℕ) → length (meldsOf 25 m b) ≡ m
 unfolding meldsOf
 melds-length m b = length-unpack (eights m) (drop 25 b) ∙ length-replicate m 8
 
-tiles-length : (m : ℕ) (b : List ℕ) → length (tilesOf m b) ≡ 13 - 3 * m
+tiles-length : (m : ℕ) (b : List ℕ) → length (tilesOf 25 m b) ≡ 13 - 3 * m
 unfolding tilesOf
 tiles-length m b = length-unpack (sixes (13 - 3 * m)) (drop (25 + 8 * m) b) ∙ length-replicate (13 - 3 * m) 6
 
@@ -52,9 +55,9 @@ head-list : (b : List ℕ) → headList (headOf b) ≡ unpack head b
 unfolding headOf
 head-list b = refl
 
-head-back : (f : Fields) (b : List ℕ) → unpack head b ≡ headList f → headOf b ≡ f
+head-back : (x : Head) (b : List ℕ) → unpack head b ≡ headList x → headOf b ≡ x
 unfolding headOf
-head-back f b e = ap headerOf e
+head-back x b e = ap headBy e
 
 -- ---- what a sound answer says
 
@@ -73,17 +76,14 @@ cond-sound : (b : Bool) (n : ℕ) (x : HandRead) (h : Hand) → cond b (refusedW
 cond-sound true n x h e = absurd (never n h e)
 cond-sound false n x h e = (refl, e)
 
-hand-eq : (x h : Hand) → x .fields ≡ h .fields → x .melds ≡ h .melds → x .concealed ≡ h .concealed → x ≡ h
-hand-eq x h ef em ec =
-    ap (λ (f : Fields). record { fields = f; melds = x .melds; concealed = x .concealed }) ef
-    ∙ ap (λ (l : List ℕ). record { fields = h .fields; melds = l; concealed = x .concealed }) em
-    ∙ ap (λ (l : List ℕ). record { fields = h .fields; melds = h .melds; concealed = l }) ec
+hand-eq : (x h : Hand) → x .fields ≡ h .fields → x .held ≡ h .held → x ≡ h
+hand-eq x h ef eh = ap (λ (f : Fields). record { fields = f; held = x .held }) ef ∙ ap (λ (y : Held). record { fields = h .fields; held = y }) eh
 
 sound-inj : (x h : Hand) → soundAs x ≡ soundAs h → x ≡ h
 sound-inj x h e =
     let a : Sound (x .fields) ≡ Sound (h .fields) = ap (λ (r : HandRead). r .answer) e in
     let ef : x .fields ≡ h .fields = cc in
-    hand-eq x h ef (ap (λ (r : HandRead). r .melds) e) (ap (λ (r : HandRead). r .concealed) e)
+    hand-eq x h ef (ap (λ (r : HandRead). r .held) e)
 
 pub read-as : (s : List ℕ) (h : Hand) → readOf s ≡ soundAs h → ReadAs s h
 unfolding readOf judged answerBy
@@ -106,49 +106,49 @@ as-read s h y =
 
 -- the parts of the hand that was read
 module _ (s : List ℕ) (h : Hand) (y : ReadAs s h) where
-  count-is : h .fields .m ≡ countIn s
-  unfolding handIn
-  count-is = ap (λ (x : Hand). x .fields .m) (y .is-hand)
+  count-is : h .held .m ≡ countIn s
+  unfolding handIn heldIn
+  count-is = ap (λ (x : Hand). x .held .m) (y .is-hand)
 
-  fields-are : headList (h .fields) ≡ unpack head (bitsOf s)
-  unfolding handIn
-  fields-are = ap (λ (x : Hand). headList (x .fields)) (y .is-hand) ∙ head-list (bitsOf s)
+  fields-are : headList (headFor h) ≡ unpack head (bitsOf s)
+  unfolding handIn heldIn
+  fields-are = ap (λ (x : Hand). headList (headFor x)) (y .is-hand) ∙ head-list (bitsOf s)
 
-  melds-are : h .melds ≡ fill 4 (meldsOf (h .fields .m) (bitsOf s))
-  unfolding handIn
-  melds-are = ap (λ (x : Hand). x .melds) (y .is-hand) ∙ ap (λ (m : ℕ). fill 4 (meldsOf m (bitsOf s))) (sym count-is)
+  melds-are : h .held .melds ≡ fill 4 (meldsOf 25 (h .held .m) (bitsOf s))
+  unfolding handIn heldIn
+  melds-are = ap (λ (x : Hand). x .held .melds) (y .is-hand) ∙ ap (λ (m : ℕ). fill 4 (meldsOf 25 m (bitsOf s))) (sym count-is)
 
-  tiles-are : h .concealed ≡ fill 13 (tilesOf (h .fields .m) (bitsOf s))
-  unfolding handIn
-  tiles-are = ap (λ (x : Hand). x .concealed) (y .is-hand) ∙ ap (λ (m : ℕ). fill 13 (tilesOf m (bitsOf s))) (sym count-is)
+  tiles-are : h .held .concealed ≡ fill 13 (tilesOf 25 (h .held .m) (bitsOf s))
+  unfolding handIn heldIn
+  tiles-are = ap (λ (x : Hand). x .held .concealed) (y .is-hand) ∙ ap (λ (m : ℕ). fill 13 (tilesOf 25 m (bitsOf s))) (sym count-is)
 
-  pub form-is : Form (length s) (h .fields .m)
+  pub form-is : Form (length s) (h .held .m)
   form-is = rw count-is (y .form)
 
-  unrefused-is : refusalOf h (paddingOf (h .fields .m) (bitsOf s)) ≡ 0
+  unrefused-is : refusalOf h (paddingOf (h .held .m) (bitsOf s)) ≡ 0
   unrefused-is = ap (λ (m : ℕ). refusalOf h (paddingOf m (bitsOf s))) count-is ∙ y .unrefused
 
-  no-padding : paddingOf (h .fields .m) (bitsOf s) ≡ 0
+  no-padding : paddingOf (h .held .m) (bitsOf s) ≡ 0
   no-padding = kinds-of h _ (clean-of h _ unrefused-is .fields) .padding
 
   -- the values that are written are the record's own
-  values-are : valuesOf h ≡ fieldsOf (widths (h .fields .m)) s
+  values-are : valuesOf h ≡ fieldsOf (widths (h .held .m)) s
   unfolding valuesOf
   values-are =
-      let m : ℕ = h .fields .m in
+      let m : ℕ = h .held .m in
       let b : List ℕ = bitsOf s in
-      let em : take m (h .melds) ≡ meldsOf m b = ap (take m) melds-are ∙ take-fill 4 m (meldsOf m b) (melds-length m b) in
-      let et : take (13 - 3 * m) (h .concealed) ≡ tilesOf m b = ap (take (13 - 3 * m)) tiles-are ∙ take-fill 13 (13 - 3 * m) (tilesOf m b) (tiles-length m b) in
-      ap (λ (l : List ℕ). l ++ (take m (h .melds) ++ (take (13 - 3 * m) (h .concealed) ++ (0 ∷ [])))) fields-are
-      ∙ ap (λ (l : List ℕ). unpack head b ++ (l ++ (take (13 - 3 * m) (h .concealed) ++ (0 ∷ [])))) em
-      ∙ ap (λ (l : List ℕ). unpack head b ++ (meldsOf m b ++ (l ++ (0 ∷ [])))) et
-      ∙ ap (λ (k : ℕ). unpack head b ++ (meldsOf m b ++ (tilesOf m b ++ (k ∷ [])))) (sym no-padding)
+      let em : take m (h .held .melds) ≡ meldsOf 25 m b = ap (take m) melds-are ∙ take-fill 4 m (meldsOf 25 m b) (melds-length m b) in
+      let et : take (13 - 3 * m) (h .held .concealed) ≡ tilesOf 25 m b = ap (take (13 - 3 * m)) tiles-are ∙ take-fill 13 (13 - 3 * m) (tilesOf 25 m b) (tiles-length m b) in
+      ap (λ (l : List ℕ). l ++ (take m (h .held .melds) ++ (take (13 - 3 * m) (h .held .concealed) ++ (0 ∷ [])))) fields-are
+      ∙ ap (λ (l : List ℕ). unpack head b ++ (l ++ (take (13 - 3 * m) (h .held .concealed) ++ (0 ∷ [])))) em
+      ∙ ap (λ (l : List ℕ). unpack head b ++ (meldsOf 25 m b ++ (l ++ (0 ∷ [])))) et
+      ∙ ap (λ (k : ℕ). unpack head b ++ (meldsOf 25 m b ++ (tilesOf 25 m b ++ (k ∷ [])))) (sym no-padding)
       ∙ sym (unpack-widths m b)
 
   pub same-bytes : Below 256 s → recordOf h ≡ s
   unfolding recordOf
   same-bytes bs =
-      let m : ℕ = h .fields .m in
+      let m : ℕ = h .held .m in
       let n : lengthOf m ≡ length s = sym (form-is .right) in
       rw (values-are, n) (bytes-fields (widths m) s bs (sum-widths m (form-is .few) ∙ ap (λ (k : ℕ). 8 * k) n))
 
@@ -159,14 +159,14 @@ module _ (s : List ℕ) (h : Hand) (y : ReadAs s h) where
       let z : refusalOf h 0 ≡ 0 = rw no-padding at unrefused-is in
       rw (not-large, not-unused) z
     where
-      not-large : tooLarge (h .fields) ≡ false
+      not-large : tooLarge h ≡ false
       not-large =
           let b : List ℕ = bitsOf s in
           let l = length-bitsOf s in
           let f = form-is in
-          let g : FitIn head (headList (h .fields)) = subst (λ (x : List ℕ). FitIn head x) (sym fields-are) (unpack-fit head b (below-pack (eights (length s)) s) (omega (arith, f .four))) in
+          let g : FitIn head (headList (headFor h)) = subst (λ (x : List ℕ). FitIn head x) (sym fields-are) (unpack-fit head b (below-pack (eights (length s)) s) (omega (arith, f .four))) in
           rw (
-            le-ltb 4 (h .fields .m) (f .few),
+            le-ltb 4 (h .held .m) (f .few),
             le-ltb 1 (h .fields .how) (omega (arith, g 0)),
             le-ltb 3 (h .fields .winner) (omega (arith, g 1)),
             le-ltb 3 (h .fields .discarder) (omega (arith, g 2)),
@@ -174,10 +174,10 @@ module _ (s : List ℕ) (h : Hand) (y : ReadAs s h) where
             le-ltb 7 (h .fields .situation) (omega (arith, g 4)),
           )
 
-      not-unused : unusedNotZero h ≡ false
-      not-unused = unused-of h
-          (λ i g. rw melds-are (fill-past 4 (meldsOf (h .fields .m) (bitsOf s)) i (omega (arith, melds-length (h .fields .m) (bitsOf s)))))
-          (λ i g. rw tiles-are (fill-past 13 (tilesOf (h .fields .m) (bitsOf s)) i (omega (arith, tiles-length (h .fields .m) (bitsOf s)))))
+      not-unused : unusedNotZero (h .held) ≡ false
+      not-unused = unused-of (h .held)
+          (λ i g. rw melds-are (fill-past 4 (meldsOf 25 (h .held .m) (bitsOf s)) i (omega (arith, melds-length (h .held .m) (bitsOf s)))))
+          (λ i g. rw tiles-are (fill-past 13 (tilesOf 25 (h .held .m) (bitsOf s)) i (omega (arith, tiles-length (h .held .m) (bitsOf s)))))
 
 -- ---- the other way: what is written fits its bits
 
@@ -189,15 +189,15 @@ tiles-below k l h i = go (ltb i k) refl
     go true e = rw (getD-take k l i 0 (ltb-true i k e)) (omega (arith, h i (ltb-true i k e)))
     go false e = rw (List·getD-eq-default (take k l) 0 {n = i} (omega (arith, ltb-false i k e, length-take k l))) (omega arith)
 
-fit-head : (h : Hand) → Accepted h → FitIn head (headList (h .fields))
+fit-head : (h : Hand) → Accepted h → FitIn head (headList (headFor h))
 fit-head h y =
     let f = h .fields in
-    let p = six (ltb 4 (f .m)) (ltb 1 (f .how)) (ltb 3 (f .winner)) (ltb 3 (f .discarder)) (ltb 3 (f .riichi)) (ltb 7 (f .situation)) (y .large) in
+    let p = six (ltb 4 (h .held .m)) (ltb 1 (f .how)) (ltb 3 (f .winner)) (ltb 3 (f .discarder)) (ltb 3 (f .riichi)) (ltb 7 (f .situation)) (y .large) in
     let k = kinds-of h 0 (y .clean .fields) in
-    fit-all head (headList f)
+    fit-all head (headList (headFor h))
     (omega (
       arith,
-      ltb-false 4 (f .m) (p .0),
+      ltb-false 4 (h .held .m) (p .0),
       ltb-false 1 (f .how) (p .1),
       ltb-false 3 (f .winner) (p .2),
       ltb-false 3 (f .discarder) (p .3),
@@ -216,70 +216,71 @@ fit-head h y =
         let q1 = or-both a b (q2 .0) in
         (q1 .0, q1 .1, q2 .1, q3 .1, q4 .1, q5 .1)
 
-module _ (h : Hand) (e : unwritable h ≡ 0) (lm : length (h .melds) ≡ 4) (lc : length (h .concealed) ≡ 13) (bm : Below 256 (h .melds)) where
+module _ (h : Hand) (e : unwritable h ≡ 0) (lm : length (h .held .melds) ≡ 4) (lc : length (h .held .concealed) ≡ 13) (bm : Below 256 (h .held .melds)) where
   y : Accepted h
   y = accepted-of h e
 
-  few : h .fields .m ≤ 4
+  few : h .held .m ≤ 4
   few = few-melds h e
 
-  values-fit : FitIn (widths (h .fields .m)) (valuesOf h)
+  values-fit : FitIn (widths (h .held .m)) (valuesOf h)
   unfolding widths valuesOf
   values-fit =
-      let m : ℕ = h .fields .m in
+      let m : ℕ = h .held .m in
       let k : ℕ = 13 - 3 * m in
-      let em : length (take m (h .melds)) ≡ m = length-take-le m (h .melds) (omega (arith, few)) in
-      let et : length (take k (h .concealed)) ≡ k = length-take-le k (h .concealed) (omega arith) in
-      let t = tiles-below k (h .concealed) (kinds-of h 0 (y .clean .fields) .tiles) in
+      let em : length (take m (h .held .melds)) ≡ m = length-take-le m (h .held .melds) (omega (arith, few)) in
+      let et : length (take k (h .held .concealed)) ≡ k = length-take-le k (h .held .concealed) (omega arith) in
+      let t = tiles-below k (h .held .concealed) (kinds-of h 0 (y .clean .fields) .tiles) in
       let w3 : List ℕ = sixes k ++ (padOf m ∷ []) in
-      let v3 : List ℕ = take k (h .concealed) ++ (0 ∷ []) in
-      fit-append head (headList (h .fields)) (eights m ++ w3) (take m (h .melds) ++ v3) refl (fit-head h y)
-      (fit-append (eights m) (take m (h .melds)) w3 v3 (length-replicate m 8 ∙ sym em) (fit-run m 8 (take m (h .melds)) (omega arith) (below-take 256 m (h .melds) bm))
-      (fit-append (sixes k) (take k (h .concealed)) (padOf m ∷ []) (0 ∷ []) (length-replicate k 6 ∙ sym et) (fit-run k 6 (take k (h .concealed)) (omega arith) t)
+      let v3 : List ℕ = take k (h .held .concealed) ++ (0 ∷ []) in
+      fit-append head (headList (headFor h)) (eights m ++ w3) (take m (h .held .melds) ++ v3) refl (fit-head h y)
+      (fit-append (eights m) (take m (h .held .melds)) w3 v3 (length-replicate m 8 ∙ sym em) (fit-run m 8 (take m (h .held .melds)) (omega arith) (below-take 256 m (h .held .melds) bm))
+      (fit-append (sixes k) (take k (h .held .concealed)) (padOf m ∷ []) (0 ∷ []) (length-replicate k 6 ∙ sym et) (fit-run k 6 (take k (h .held .concealed)) (omega arith) t)
       (fit-cons (padOf m) 0 [] [] (pow-pos (padOf m)) fit-nil)))
 
-  same-fields : fieldsOf (widths (h .fields .m)) (recordOf h) ≡ valuesOf h
+  same-fields : fieldsOf (widths (h .held .m)) (recordOf h) ≡ valuesOf h
   unfolding recordOf
   same-fields =
-      fields-bytes (widths (h .fields .m)) (valuesOf h) (lengthOf (h .fields .m))
-      (length-widths h few (omega arith) (omega arith)) values-fit (sum-widths (h .fields .m) few)
+      fields-bytes (widths (h .held .m)) (valuesOf h) (lengthOf (h .held .m))
+      (length-widths h few (omega arith) (omega arith)) values-fit (sum-widths (h .held .m) few)
 
-  pub length-record : length (recordOf h) ≡ lengthOf (h .fields .m)
+  pub length-record : length (recordOf h) ≡ lengthOf (h .held .m)
   unfolding recordOf
-  length-record = length-unpack (eights (lengthOf (h .fields .m))) (pack (widths (h .fields .m)) (valuesOf h)) ∙ length-replicate (lengthOf (h .fields .m)) 8
+  length-record = length-unpack (eights (lengthOf (h .held .m))) (pack (widths (h .held .m)) (valuesOf h)) ∙ length-replicate (lengthOf (h .held .m)) 8
 
   -- the parts of what is written
   parts-back : (b : List ℕ) → b ≡ bitsOf (recordOf h)
-      → (unpack head b ≡ headList (h .fields)) × (meldsOf (h .fields .m) b ≡ take (h .fields .m) (h .melds))
-      × (tilesOf (h .fields .m) b ≡ take (13 - 3 * h .fields .m) (h .concealed)) × (paddingOf (h .fields .m) b ≡ 0)
+      → (unpack head b ≡ headList (headFor h)) × (meldsOf 25 (h .held .m) b ≡ take (h .held .m) (h .held .melds))
+      × (tilesOf 25 (h .held .m) b ≡ take (13 - 3 * h .held .m) (h .held .concealed)) × (paddingOf (h .held .m) b ≡ 0)
   unfolding valuesOf
   parts-back b eb =
-      let m : ℕ = h .fields .m in
+      let m : ℕ = h .held .m in
       let k : ℕ = 13 - 3 * m in
-      let q : unpack head b ++ (meldsOf m b ++ (tilesOf m b ++ (paddingOf m b ∷ []))) ≡ headList (h .fields) ++ (take m (h .melds) ++ (take k (h .concealed) ++ (0 ∷ []))) =
+      let q : unpack head b ++ (meldsOf 25 m b ++ (tilesOf 25 m b ++ (paddingOf m b ∷ []))) ≡ headList (headFor h) ++ (take m (h .held .melds) ++ (take k (h .held .concealed) ++ (0 ∷ []))) =
       sym (unpack-widths m b) ∙ ap (unpack (widths m)) eb ∙ same-fields in
-      let q1 = app-inj (unpack head b) (headList (h .fields)) _ _ refl q in
-      let q2 = app-inj (meldsOf m b) (take m (h .melds)) _ _ (melds-length m b ∙ sym (length-take-le m (h .melds) (omega (arith, few)))) (q1 .1) in
-      let q3 = app-inj (tilesOf m b) (take k (h .concealed)) _ _ (tiles-length m b ∙ sym (length-take-le k (h .concealed) (omega arith))) (q2 .1) in
+      let q1 = app-inj (unpack head b) (headList (headFor h)) _ _ refl q in
+      let q2 = app-inj (meldsOf 25 m b) (take m (h .held .melds)) _ _ (melds-length m b ∙ sym (length-take-le m (h .held .melds) (omega (arith, few)))) (q1 .1) in
+      let q3 = app-inj (tilesOf 25 m b) (take k (h .held .concealed)) _ _ (tiles-length m b ∙ sym (length-take-le k (h .held .concealed) (omega arith))) (q2 .1) in
       (q1 .0, q2 .0, q3 .0, ap (λ (l : List ℕ). getD l 0 0) (q3 .1))
 
-  hand-back : h ≡ handIn (h .fields .m) (bitsOf (recordOf h))
-  unfolding handIn
+  hand-back : h ≡ handIn (h .held .m) (bitsOf (recordOf h))
+  unfolding handIn heldIn
   hand-back =
-      let m : ℕ = h .fields .m in
+      let m : ℕ = h .held .m in
       let b : List ℕ = bitsOf (recordOf h) in
       let p = parts-back b refl in
-      let z = zeros-of h (y .unused) in
-      sym (hand-eq (handIn m b) h (head-back (h .fields) b (p .0))
-      (ap (fill 4) (p .1) ∙ fill-take 4 m (h .melds) lm few (z .0))
-      (ap (fill 13) (p .2) ∙ fill-take 13 (13 - 3 * m) (h .concealed) lc (omega arith) (z .1)))
+      let z = zeros-of (h .held) (y .unused) in
+      let em : fill 4 (meldsOf 25 m b) ≡ h .held .melds = ap (fill 4) (p .1) ∙ fill-take 4 m (h .held .melds) lm few (z .0) in
+      let et : fill 13 (tilesOf 25 m b) ≡ h .held .concealed = ap (fill 13) (p .2) ∙ fill-take 13 (13 - 3 * m) (h .held .concealed) lc (omega arith) (z .1) in
+      sym (hand-eq (handIn m b) h (ap (λ (x : Head). x .fields) (head-back (headFor h) b (p .0)))
+      (ap (λ (l : List ℕ). record { m = m; melds = l; concealed = fill 13 (tilesOf 25 m b) }) em ∙ ap (λ (l : List ℕ). record { m = m; melds = h .held .melds; concealed = l }) et))
 
   pub same-hand : readOf (recordOf h) ≡ soundAs h
   same-hand =
-      let m : ℕ = h .fields .m in
+      let m : ℕ = h .held .m in
       let b : List ℕ = bitsOf (recordOf h) in
       let p = parts-back b refl in
-      let ec : countIn (recordOf h) ≡ m = ap (λ (f : Fields). f .m) (head-back (h .fields) b (p .0)) in
+      let ec : countIn (recordOf h) ≡ m = ap (λ (x : Head). x .m) (head-back (headFor h) b (p .0)) in
       let w = whole m few in
       let l = length-record in
       let fo : Form (length (recordOf h)) m = record { four = omega (arith, w); few = few; right = l } in

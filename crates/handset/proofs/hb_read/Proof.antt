@@ -6,7 +6,7 @@ use Rattle.handset.proofs.hb_read.Tie as tie
 
 returns : tie.Need-returns
 unfolding readHandOf
-returns c = rw (c .refusal .ensures, c .before .fields-of .ensures, ← c .before .before .before .before .read .ensures)
+returns c = rw (c .refusal .ensures, c .before .fields-of .ensures, ← c .before .before .before .read .ensures)
 
 pub hb-read-spec : {M : Type 1} → statement M
 hb-read-spec = tie.close (tie.spec (λ c κs. search needs) (λ c κs. search needs) (λ c κs. search needs) returns)

@@ -24,12 +24,13 @@ score-spec =
     both (a .s .now) (a .dealer) (a .wind) _
     (found-refused (a .s .now) (a .dealer) (a .wind) (r .read .result) (r .before .if1 .left) (r .read .ensures) _ (c .before .refusal .result) (c .refused2 .result) (c .before .before .enum-told .given .1) (c .before .refusal .ensures) (c .refused2 .ensures)))
     (λ c κs.
-    let a = c .before .before .before .before .before .before .before .before .args in
-    let q = or-both (ltb 3 (a .dealer)) (ltb 1 (a .wind)) (c .before .before .before .before .before .before .if1 .left) in
-    let b = hand-bounds (a .s .now) (c .before .before .before .before .before .read .result) (c .before .before .before .before .before .read .ensures) _ (c .before .before .before .a .given .1) in
+    let r = c .before .before .before .before in
+    let a = r .before .before .before .args in
+    let q = or-both (ltb 3 (a .dealer)) (ltb 1 (a .wind)) (r .before .if1 .left) in
+    let b = hand-bounds (a .s .now) (r .read .result) (r .read .ensures) _ (c .before .before .a .given .1) in
     (b .few, b .winner, ltb-false 3 (a .dealer) (q .0), ltb-false 1 (a .wind) (q .1)))
     (λ c.
-    let r = c .before .before .before .before .before .before in
+    let r = c .before .before .before .before .before in
     let a = r .before .before .before .args in
     both (a .s .now) (a .dealer) (a .wind) _
-    (found-sound (a .s .now) (a .dealer) (a .wind) (r .read .result) (r .before .if1 .left) (r .read .ensures) _ (c .settle .result) (c .before .before .before .before .a .given .1) (c .settle .ensures .1))))
+    (found-sound (a .s .now) (a .dealer) (a .wind) (r .read .result) (r .before .if1 .left) (r .read .ensures) _ (c .settle .result) (c .before .before .before .a .given .1) (c .settle .ensures .1))))

@@ -9,13 +9,16 @@ use Rattle.score.specs.laws.Found.{basic-kept, settled-accepted, settled
 use Rattle.score.proofs.settle.Statement.{statement}
 use Rattle.score.proofs.settle.Tie as tie
 
+-- melds has four places
+four : (c : tie.Start) → length (c .args .h .held .melds) ≡ 4
+four c = search needs
+
 -- what the search kept
 kept : (c : tie.After-best-of) → let a = c .before .before .before .args in c .best-of .result ≡ keptOf (a .h) (a .dealer) (a .wind)
 kept c =
     let start = c .before .before .before in
     let a = start .args in
-    let four : length (a .h .melds) ≡ 4 = search needs in
-    kept-in (a .h) (start .pre .0) four (a .dealer) (a .wind) (c .before .before .setting-of .result) (c .before .concealed-tally .result) (c .best-of .result)
+    kept-in (a .h) (start .pre .0) (four start) (a .dealer) (a .wind) (c .before .before .setting-of .result) (c .before .concealed-tally .result) (c .best-of .result)
     (c .before .before .setting-of .ensures .0) (c .before .concealed-tally .ensures) (c .best-of .ensures)
 
 pub settle-spec : {M : Type 1} → statement M

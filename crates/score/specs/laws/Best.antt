@@ -24,7 +24,7 @@ module _ (h : Hand) (dealer wind : ℕ) where
   over-readings =
       let t = worth h dealer wind in
       let c = concealedTally h in
-      let m = h .fields .m in
+      let m = h .held .m in
       let w = h .fields .winning in
       kept-same t (λ q. Member q (readings c m w)) (IsReadingOf h) _ (λ q n. readings-sound c m w (tally-long h) q n) (λ q n. readings-complete c m w (tally-long h) q n)
       (kept-all t (readings c m w) (readings-ordered c m w (tally-long h)))

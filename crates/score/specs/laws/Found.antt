@@ -70,7 +70,7 @@ module _ (of : Reading → Value) (le : (r : Reading) → of r .basic .0 ≤ 800
 module _ (h : Hand) (dealer wind : ℕ) where
   pub kept-le : keptOf h dealer wind .value .basic .0 ≤ 8000
   unfolding keptOf bestOf noneOf
-  kept-le = judged-le (worth h dealer wind) (worth-le h dealer wind) noneOf (readings (concealedTally h) (h .fields .m) (h .fields .winning)) (omega arith)
+  kept-le = judged-le (worth h dealer wind) (worth-le h dealer wind) noneOf (readings (concealedTally h) (h .held .m) (h .fields .winning)) (omega arith)
 
   module _ (b : Best) (e : b ≡ keptOf h dealer wind) where
     pub basic-kept : b .value .basic .0 ≤ 8000
@@ -107,7 +107,7 @@ module _ (s : List ℕ) (dealer wind : ℕ) (r : HandRead) (q : ltb 3 dealer || 
   unfolding foundBy
   found-refused n w x told why ex = ex ∙ ap refusedWith (why ∙ ap refusalIn told) ∙ by-answer (Refused n) told
 
-  pub found-sound : (f : Fields) (x : Scored) → r .answer ≡ Sound f → x ≡ settledOf (record { fields = f; melds = r .melds; concealed = r .concealed }) dealer wind → x ≡ foundOf s dealer wind
+  pub found-sound : (f : Fields) (x : Scored) → r .answer ≡ Sound f → x ≡ settledOf (record { fields = f; held = r .held }) dealer wind → x ≡ foundOf s dealer wind
   unfolding foundBy
   found-sound f x told ex = ex ∙ ap (λ (y : Hand). settledOf y dealer wind) (hand-is s r e f told) ∙ by-answer (Sound f) told
 

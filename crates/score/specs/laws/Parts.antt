@@ -144,18 +144,18 @@ pub tally-long : (h : Hand) → length (concealedTally h) ≡ 34
 unfolding concealedTally
 tally-long h = length-tally (inConcealed h)
 
-module _ (h : Hand) (few : h .fields .m ≤ 4) (four : length (h .melds) ≡ 4) where
+module _ (h : Hand) (few : h .held .m ≤ 4) (four : length (h .held .melds) ≡ 4) where
   abbrev m : ℕ
-  m = h .fields .m
+  m = h .held .m
 
   groups-in : (r : Reading) → IsReadingOf h r → joined (r .groups) (meldCodes h) ≡ groupsOf h r
   unfolding meldCodes groupsOf
   groups-in r (regular i) =
-      ap (λ (g : List ℕ). joined g (tabulate 4 0 (λ k. cond (ltb k (4 - m)) 68 (meldCode (getD (h .melds) (k - (4 - m)) 0))))) (i .groups)
-      ∙ groups-then-melds m (i .codes) (h .melds) few (i .size) (i .order) four
-      ∙ ap (λ (g : List ℕ). g ++ map meldCode (take m (h .melds))) (sym (ap (take (4 - m)) (i .groups) ∙ take-at (i .codes) (replicate m 68) (4 - m) (i .size)))
-  groups-in r (pairs i) = rw (i .reading) (none-joined (h .melds) m (i .closed))
-  groups-in r (orphans i) = rw (i .reading) (none-joined (h .melds) m (i .closed))
+      ap (λ (g : List ℕ). joined g (tabulate 4 0 (λ k. cond (ltb k (4 - m)) 68 (meldCode (getD (h .held .melds) (k - (4 - m)) 0))))) (i .groups)
+      ∙ groups-then-melds m (i .codes) (h .held .melds) few (i .size) (i .order) four
+      ∙ ap (λ (g : List ℕ). g ++ map meldCode (take m (h .held .melds))) (sym (ap (take (4 - m)) (i .groups) ∙ take-at (i .codes) (replicate m 68) (4 - m) (i .size)))
+  groups-in r (pairs i) = rw (i .reading) (none-joined (h .held .melds) m (i .closed))
+  groups-in r (orphans i) = rw (i .reading) (none-joined (h .held .melds) m (i .closed))
 
   place-in : (r : Reading) → IsReadingOf h r → r .place ≤ 4 - m
   place-in r (regular i) = i .place
@@ -164,7 +164,7 @@ module _ (h : Hand) (few : h .fields .m ≤ 4) (four : length (h .melds) ≡ 4) 
 
   ways-in : (r : Reading) → IsReadingOf h r → waysAt (meldWays h) (isRon (h .fields)) (r .place) ≡ waysOf h r
   unfolding meldWays waysOf
-  ways-in r i = ways-are (h .melds) four (isRon (h .fields)) m (r .place) few (place-in r i)
+  ways-in r i = ways-are (h .held .melds) four (isRon (h .fields)) m (r .place) few (place-in r i)
 
   -- the parts in four places are the parts
   pub parts-in : (dealer wind : ℕ) (r : Reading) → IsReadingOf h r → partsIn (settingOf h dealer wind) r ≡ partsOf h r

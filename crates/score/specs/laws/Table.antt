@@ -8,9 +8,10 @@ use Rattle.tiles.specs.Below.{every, some, number, total}
 use Rattle.tiles.specs.Kinds.{doraOf}
 use Rattle.tiles.specs.Groups.{isGroup, at, uses}
 use Rattle.tiles.specs.Tally.{tallyOf}
-use Rattle.hand.specs.Hand.{meldHolds, inMelds, inConcealed, inHand, concealedTally, handTally}
-use Rattle.hand.specs.Refusals.{tileOver33, wrongFields, descends, inRecord, overFour, wrongSituation, refusalOf}
-use Rattle.hand_record.specs.Record.{headOf, meldsOf, tilesOf, paddingOf, handIn, answerBy, judged as judgedHand, readOf, widths, valuesOf, recordOf}
+use Rattle.hand.specs.Held.{meldHolds, inMelds, inOthers, inHeld, tileOver33, wrongHeld, descends, overFour}
+use Rattle.hand.specs.Hand.{inConcealed, inHand, concealedTally, handTally}
+use Rattle.hand.specs.Refusals.{wrongFields, inRecord, wrongSituation, refusalOf}
+use Rattle.hand_record.specs.Record.{headOf, meldsOf, tilesOf, heldIn, paddingAfter, handIn, answerBy, judged as judgedHand, readOf, widths, valuesOf, recordOf}
 use Rattle.reading.specs.Reading.{holds, isSevenPairs, isOrphans}
 use Rattle.reading.specs.search.Readings.{concatMap, isEmpty, less, fits, without, passes, step, splits, placedAt, placed, paired, shaped, readings}
 use Rattle.reading.specs.search.Judged.{judged}
@@ -32,7 +33,7 @@ line : (hand : Hand) (refusal h fu : ℕ) (changes : List ℤ) → toldOf (found
 line hand refusal h fu changes e = record { told = ap toldOf (sym (found-is-score (recordOf hand) 0 0)) ∙ e }
 
 pub lines : Lines
-unfolding widths valuesOf recordOf every some number total doraOf isGroup at uses tallyOf meldHolds inMelds inConcealed inHand concealedTally handTally tileOver33 wrongFields descends inRecord overFour wrongSituation refusalOf headOf meldsOf tilesOf paddingOf handIn answerBy judgedHand readOf holds isSevenPairs isOrphans concatMap isEmpty less fits without passes step splits placedAt placed paired shaped readings judged littleDragons valueHan earnsWait pinfu twins inThreeAt inThreeSuits straight touches outside concealed kans fourWinds only halfFlush flush gates testsOf isYakuman listed yakuOf hasYaku plain limit ordinary basic hundreds share pays gain change changes hanBy yakuHan hanOf tripletFu groupFu earned added rounded fuOf valueOf beats noneOf judgeOf bestOf wonOf groupsOf waysOf partsOf worth settledBy keptOf settledOf foundBy foundOf
+unfolding widths valuesOf recordOf every some number total doraOf isGroup at uses tallyOf meldHolds inMelds inOthers inHeld inConcealed inHand concealedTally handTally tileOver33 wrongHeld wrongFields descends inRecord overFour wrongSituation refusalOf headOf meldsOf tilesOf heldIn paddingAfter handIn answerBy judgedHand readOf holds isSevenPairs isOrphans concatMap isEmpty less fits without passes step splits placedAt placed paired shaped readings judged littleDragons valueHan earnsWait pinfu twins inThreeAt inThreeSuits straight touches outside concealed kans fourWinds only halfFlush flush gates testsOf isYakuman listed yakuOf hasYaku plain limit ordinary basic hundreds share pays gain change changes hanBy yakuHan hanOf tripletFu groupFu earned added rounded fuOf valueOf beats noneOf judgeOf bestOf wonOf groupsOf waysOf partsOf worth settledBy keptOf settledOf foundBy foundOf
 lines = record {
   line-1 = line _ _ _ _ _ refl;
   line-2 = line _ _ _ _ _ refl;

@@ -15,21 +15,21 @@ use Rattle.score.specs.Named.{wonOf, seatsOf}
 
 -- the meld at place i, behind the "4 − m groups" of a reading
 abbrev pub meldAt : Hand → ℕ → ℕ
-meldAt h i = getD (h .melds) (i - (4 - h .fields .m)) 0
+meldAt h i = getD (h .held .melds) (i - (4 - h .held .m)) 0
 
 -- the group of each, 68 where there is none
 unfoldable pub meldCodes : Hand → List ℕ
-meldCodes h = tabulate 4 0 (λ i. cond (ltb i (4 - h .fields .m)) 68 (meldCode (meldAt h i)))
+meldCodes h = tabulate 4 0 (λ i. cond (ltb i (4 - h .held .m)) 68 (meldCode (meldAt h i)))
 
 -- the way of each, concealed where there is none
 unfoldable pub meldWays : Hand → List ℕ
-meldWays h = tabulate 4 0 (λ i. cond (ltb i (4 - h .fields .m)) 0 (meldWay (meldAt h i)))
+meldWays h = tabulate 4 0 (λ i. cond (ltb i (4 - h .held .m)) 0 (meldWay (meldAt h i)))
 
 -- what is the same in every reading of the hand
 unfoldable pub settingOf : Hand → ℕ → ℕ → Setting
 settingOf h dealer wind = record {
   won = wonOf h dealer wind;
-  tests = tileTestsOf (handTally h) (eqb (h .fields .m) 0);
+  tests = tileTestsOf (handTally h) (eqb (h .held .m) 0);
   seats = seatsOf h dealer;
   dora = doraOf (h .fields .indicator);
   codes = meldCodes h;

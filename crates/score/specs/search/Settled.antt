@@ -20,7 +20,7 @@ settledBy b s ron = cond (b .seen) (cond (b .valued) (acceptedAs (b .value) s ro
 
 -- the best of the readings of a hand
 unfoldable pub keptOf : Hand → ℕ → ℕ → Best
-keptOf h dealer wind = bestOf (worth h dealer wind) (concealedTally h) (h .fields .m) (h .fields .winning)
+keptOf h dealer wind = bestOf (worth h dealer wind) (concealedTally h) (h .held .m) (h .fields .winning)
 
 -- what a sound hand scores
 unfoldable pub settledOf : Hand → ℕ → ℕ → Scored
