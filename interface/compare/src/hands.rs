@@ -1,18 +1,23 @@
 //! Random records and hands through Read, Write and Score.
 
-use scorer::codec::{pack, unpack};
-use scorer::damage::damaged;
-use scorer::deal::themed;
-use scorer::entry::make;
-use scorer::rng::Rng;
-use scorer::score;
+use archive::same;
+use other_scorer::codec::{pack, unpack};
+use other_scorer::damage::damaged;
+use other_scorer::deal::themed;
+use other_scorer::entry::make;
+use other_scorer::notation::hex::to_hex as hex;
+use other_scorer::rng::Rng;
+use other_scorer::score;
 
-use crate::report::{hex, Report};
-use crate::{ffi, same};
+use crate::report::Report;
 
 /// The longest buffer lent to Write; a few bytes more are looked at behind it.
 const BUFFER: usize = 16;
 const BEHIND: usize = 4;
+
+/// In the bytes of a hand: the place of m, and where the concealed tiles begin.
+const M: usize = 7;
+const MELDS_END: usize = 12;
 
 /// Random bytes.
 fn bytes<const N: usize>(rng: &mut Rng) -> [u8; N] {
@@ -20,7 +25,7 @@ fn bytes<const N: usize>(rng: &mut Rng) -> [u8; N] {
 }
 
 /// A record, dealer and wind, and what they score: mostly the generator's, else bytes or damage.
-fn input(rng: &mut Rng, index: usize) -> (Vec<u8>, u8, u8, scorer::Scored) {
+fn input(rng: &mut Rng, index: usize) -> (Vec<u8>, u8, u8, other_scorer::Scored) {
     let record = match rng.below(10) {
         0 => {
             let length = rng.below(21);
@@ -45,50 +50,42 @@ fn input(rng: &mut Rng, index: usize) -> (Vec<u8>, u8, u8, scorer::Scored) {
 }
 
 /// A hand for Write: the record's fields, sound or not, or any bytes; half of them with places altered.
-fn hand(rng: &mut Rng, record: &[u8]) -> ffi::Hand {
+fn hand(rng: &mut Rng, record: &[u8]) -> archive::Hand {
     let mut hand = match unpack(record) {
         Ok((hand, _)) => same::hand(&hand),
         Err(_) if rng.percent(50) => same::hand(&themed(rng)),
         Err(_) => {
-            let [how, winner, discarder, riichi, situation, indicator, winning, m] = bytes(rng);
-            let m = m % 6;
-            let fields = ffi::Fields { how, winner, discarder, riichi, situation, indicator, winning, m };
-            ffi::Hand { fields, melds: bytes(rng), concealed: bytes(rng) }
+            let mut any: [u8; 25] = bytes(rng);
+            any[M] %= 6;
+            archive::Hand::of(any)
         }
     };
     if rng.percent(50) {
         for _ in 0..1 + rng.below(2) {
-            alter(rng, &mut hand);
+            hand = altered(rng, hand);
         }
     }
     hand
 }
 
-/// Puts a random value, small or any, into one place of a hand.
-fn alter(rng: &mut Rng, hand: &mut ffi::Hand) {
+/// A hand with a random value, small or any, in one place.
+fn altered(rng: &mut Rng, hand: archive::Hand) -> archive::Hand {
     let any = rng.next() as u8;
-    let value = rng.pick(&[any, any % 8, any % 36]);
-    let fields = &mut hand.fields;
-    match rng.below(16) {
-        0 => fields.how = value,
-        1 => fields.winner = value,
-        2 => fields.discarder = value,
-        3 => fields.riichi = value,
-        4 => fields.situation = value,
-        5 => fields.indicator = value,
-        6 => fields.winning = value,
-        7 => fields.m = value,
-        8..=11 => hand.melds[rng.below(4)] = value,
-        _ => hand.concealed[rng.below(13)] = value,
-    }
+    let mut bytes = hand.bytes();
+    let at = match rng.below(16) {
+        12.. => MELDS_END + rng.below(25 - MELDS_END),
+        at => at,
+    };
+    bytes[at] = rng.pick(&[any, any % 8, any % 36]);
+    archive::Hand::of(bytes)
 }
 
 /// Compares Write over buffers of every length, to the last byte and behind it.
-fn compare_write(report: &mut Report, rng: &mut Rng, hand: &ffi::Hand) {
+fn compare_write(report: &mut Report, rng: &mut Rng, hand: &archive::Hand) {
     let before: [u8; BUFFER + BEHIND] = bytes(rng);
     for length in 0..=BUFFER {
         let (mut archive, mut other) = (before, before);
-        let got = ffi::write(*hand, &mut archive[..length]);
+        let got = archive::write(*hand, &mut archive[..length]);
         let wanted = same::write(hand, &mut other[..length]);
         report.count("Write by refusal", wanted.refusal);
         report.same("Write", (got, archive), (wanted, other), || {
@@ -100,22 +97,20 @@ fn compare_write(report: &mut Report, rng: &mut Rng, hand: &ffi::Hand) {
 /// Compares the three calls for one input.
 fn compare(report: &mut Report, rng: &mut Rng, index: usize) {
     let (record, dealer, wind, scored) = input(rng, index);
-    let read = ffi::read(&record);
+    let read = archive::read(&record);
     let wanted = same::read(&record);
     report.count("Read by refusal", wanted.refusal);
     report.same("Read", read, wanted, || hex(&record));
     if read.refusal == 0 {
         let mut back = [0; BUFFER];
-        let len = ffi::write(read.hand, &mut back).len;
+        let len = archive::write(read.hand, &mut back).len;
         report.same("Read, then Write", &back[..len.min(BUFFER)], &record[..], || hex(&record));
     }
 
     let wanted = same::scored(&scored);
     report.count("Score by refusal", wanted.refusal);
-    for n in (1..37u16).filter(|&n| wanted.yaku[n as usize] == 1) {
-        report.count("Score by yaku", n);
-    }
-    let got = ffi::score(&record, dealer, wind);
+    wanted.yaku.numbers().iter().for_each(|&n| report.count("Score by yaku", n as u16));
+    let got = archive::score(&record, dealer, wind);
     report.same("Score", got, wanted, || format!("{} dealer {dealer} wind {wind}", hex(&record)));
 
     let hand = hand(rng, &record);

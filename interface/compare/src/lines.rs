@@ -1,21 +1,20 @@
 //! A line of tally in buffers of its length, one less and others.
 
-use scorer::rng::Rng;
+use archive::LINE_MAX;
+use other_scorer::rng::Rng;
 
-use crate::ffi;
 use crate::report::Report;
 
-/// A buffer of so many bytes holds every line (HB_LINE_MAX); a few bytes more are looked at behind it.
-const LONGEST: usize = 83;
+/// So many bytes more are looked at behind a line.
 const BEHIND: usize = 4;
 
 /// Compares a line with its text: written whole where it fits, else nothing.
-pub fn compare(report: &mut Report, rng: &mut Rng, text: &[u8], numbers: (u32, u8, u8), game: ffi::Game) {
+pub fn compare(report: &mut Report, rng: &mut Rng, text: &[u8], numbers: (u32, u8, u8), game: archive::Game) {
     let (entry, letter, refusal) = numbers;
-    let before: Vec<u8> = (0..LONGEST + BEHIND).map(|_| rng.next() as u8).collect();
-    for length in [LONGEST, text.len(), text.len() - 1, rng.below(LONGEST + 1)] {
+    let before: Vec<u8> = (0..LINE_MAX + BEHIND).map(|_| rng.next() as u8).collect();
+    for length in [LINE_MAX, text.len(), text.len() - 1, rng.below(LINE_MAX + 1)] {
         let mut archive = before.clone();
-        let got = ffi::line(&mut archive[..length], entry, letter, refusal, game);
+        let got = archive::line(&mut archive[..length], entry, letter, refusal, game);
         let mut wanted = before.clone();
         let fits = text.len() <= length;
         if fits {
@@ -38,7 +37,7 @@ pub fn run(report: &mut Report, rng: &mut Rng, count: usize) {
         let scores = [(); 4].map(|_| number() as i32);
         let (entry, sticks) = (number(), number());
         let (letter, refusal) = (number() as u8, number() as u8);
-        let game = ffi::Game { scores, sticks, ..ffi::fresh() };
+        let game = archive::Game { scores, sticks, ..archive::fresh() };
         let [a, b, c, d] = scores;
         let start = format!("{entry} ").into_bytes();
         let rest = format!(" {refusal} {a} {b} {c} {d} {sticks}\n").into_bytes();

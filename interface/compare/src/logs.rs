@@ -1,15 +1,16 @@
 //! Random logs through Next entry, the bookings and the lines of tally.
 
-use scorer::damage::noise;
-use scorer::example::{example, End};
-use scorer::game::book;
-use scorer::log::{booking, next, tally_lines, Next, LONGEST};
-use scorer::rng::Rng;
-use scorer::{Booking, Game};
+use archive::{same, Games};
+use other_scorer::damage::noise;
+use other_scorer::example::{example, End};
+use other_scorer::game::book;
+use other_scorer::log::{booking, letter, next, tally_lines, Next, LONGEST};
+use other_scorer::notation::hex::to_hex as hex;
+use other_scorer::rng::Rng;
+use other_scorer::{Booking, Game};
 
-use crate::bookings::{letter, Games};
-use crate::report::{hex, Report};
-use crate::{chance, ffi, games, lines, same};
+use crate::report::Report;
+use crate::{chance, games, lines};
 
 /// Bookings made past the end of a game, and tried in all.
 const PAST: usize = 12;
@@ -17,6 +18,23 @@ const TRIED: usize = 2000;
 
 /// The bookings of a chain in a game of any state.
 const CHAIN: usize = 10;
+
+/// The section that a booking's refusals are counted in.
+fn section(booking: &Booking) -> &'static str {
+    match booking {
+        Booking::Riichi(_) => "Riichi by refusal",
+        Booking::Win(_) => "Win by refusal",
+        Booking::Draw(_) => "Draw by refusal",
+        Booking::Chombo(_) => "Chombo by refusal",
+    }
+}
+
+/// Books in the games kept three ways, counts and gives the refusal.
+fn book_all(report: &mut Report, games: &mut Games, booking: &Booking, input: &dyn Fn() -> String) -> u8 {
+    let refusal = games.book(&mut report.differences, booking, input);
+    report.count(section(booking), refusal);
+    refusal
+}
 
 /// The log of a played game, its refused bookings too, and some past its end; `keep`: mostly to 200 hands.
 fn played(rng: &mut Rng, keep: bool) -> Vec<u8> {
@@ -101,7 +119,7 @@ fn compare_entries(report: &mut Report, log: &[u8]) {
             (0, _) => report.count("no entry (0 end, 14 refused)", 0u8),
             (refusal, _) => report.count("no entry (0 end, 14 refused)", refusal),
         }
-        report.same("Next entry", ffi::next(log, at), wanted, || format!("{} at {at}", hex(log)));
+        report.same("Next entry", archive::next(log, at), wanted, || format!("{} at {at}", hex(log)));
     }
 }
 
@@ -110,11 +128,11 @@ fn compare_walk(report: &mut Report, rng: &mut Rng, log: &[u8]) {
     let log = &log[..log.len().min(LONGEST)];
     let text = tally_lines(log);
     let mut lines_left = text.split_inclusive('\n');
-    let mut games = Games::fresh(report);
+    let mut games = Games::fresh(&mut report.differences);
     let (mut at, mut number) = (0, 0);
     let input = || format!("log {}", hex(log));
     loop {
-        let entry = ffi::next(log, at);
+        let entry = archive::next(log, at);
         if entry.refusal != 0 || entry.end != 0 {
             report.same("the lines after the walk", None, lines_left.next(), input);
             report.count("games walked (1 over, 0 not)", games.other.over);
@@ -127,12 +145,12 @@ fn compare_walk(report: &mut Report, rng: &mut Rng, log: &[u8]) {
             return;
         };
         let booking = booking(entry.kind, entry.argument, part);
-        let refusal = games.book(report, &booking, &input);
+        let refusal = book_all(report, &mut games, &booking, &input);
         report.same("refusal 1 in a log", refusal == 1, false, input);
         number += 1;
         match lines_left.next() {
             Some(line) => {
-                let numbers = (number, letter(&booking).0, refusal);
+                let numbers = (number, letter(&booking) as u8, refusal);
                 lines::compare(report, rng, line.as_bytes(), numbers, games.archive);
             }
             None => {
@@ -151,7 +169,7 @@ fn compare_chain(report: &mut Report, rng: &mut Rng) {
     for _ in 0..CHAIN {
         let keep = rng.percent(50);
         let booking = chance::booking(rng, &games.other, keep);
-        games.book(report, &booking, &String::new);
+        book_all(report, &mut games, &booking, &String::new);
     }
 }
 

@@ -1,24 +1,21 @@
 //! Compares the linked archive with the other scorer: `compare COUNT SEED [LOGS]`.
 //! COUNT hands, LOGS logs (a thousandth of COUNT, at least 64, where not given). Exit 1 if anything differs.
 
-mod bookings;
-mod ffi;
 mod hands;
 mod lines;
 mod logs;
 mod report;
-mod same;
 
 // The generators of random bookings and games that the other scorer's own tests use.
-#[path = "../../../scorer/tests/chance/mod.rs"]
+#[path = "../../../other_scorer/tests/chance/mod.rs"]
 mod chance;
-#[path = "../../../scorer/tests/chance/games.rs"]
+#[path = "../../../other_scorer/tests/chance/games.rs"]
 mod games;
 
 use std::{env, process::ExitCode, time::Instant};
 
 use report::Report;
-use scorer::rng::Rng;
+use other_scorer::rng::Rng;
 
 /// Runs the comparison; whether nothing differs.
 fn run(count: usize, seed: u64, logs: usize) -> bool {

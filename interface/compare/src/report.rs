@@ -3,12 +3,13 @@
 use std::collections::BTreeMap;
 use std::fmt::Debug;
 
-/// Counts under a section's name and a label, and the first difference in words.
+use archive::Differences;
+
+/// Counts under a section's name and a label, and what differs.
 #[derive(Default)]
 pub struct Report {
     counts: BTreeMap<&'static str, BTreeMap<u16, u64>>,
-    differ: u64,
-    first: Option<String>,
+    pub differences: Differences,
 }
 
 impl Report {
@@ -17,7 +18,7 @@ impl Report {
         *self.counts.entry(section).or_default().entry(label.into()).or_default() += 1;
     }
 
-    /// Compares two values and gives whether they are equal; keeps the first difference with its input.
+    /// Compares two values and gives whether they are equal; keeps a difference with its input.
     pub fn same<T: PartialEq + Debug>(
         &mut self,
         what: &str,
@@ -25,32 +26,19 @@ impl Report {
         other: T,
         input: impl FnOnce() -> String,
     ) -> bool {
-        if archive == other {
-            return true;
-        }
-        self.differ += 1;
-        if self.first.is_none() {
-            let input = input();
-            self.first = Some(format!("{what}\n input   {input}\n archive {archive:?}\n scorer  {other:?}"));
-        }
-        false
+        self.differences.same(what, archive, other, input)
     }
 
-    /// Prints the counts, the first difference and, last, how many differ; whether none does.
+    /// Prints the counts, the first differences and, last, how many differ; whether none does.
     pub fn print(&self) -> bool {
         for (section, labels) in &self.counts {
             let list: Vec<String> = labels.iter().map(|(label, n)| format!("{label}: {n}")).collect();
             println!("{section}  {}", list.join(", "));
         }
-        if let Some(first) = &self.first {
-            println!("first difference: {first}");
+        for difference in &self.differences.first {
+            println!("difference: {difference}");
         }
-        println!("{} differ", self.differ);
-        self.differ == 0
+        println!("{} differ", self.differences.count);
+        self.differences.count == 0
     }
-}
-
-/// Bytes as hexadecimal digits.
-pub fn hex(bytes: &[u8]) -> String {
-    scorer::notation::hex::to_hex(bytes)
 }

@@ -1,0 +1,199 @@
+//! The archive's calls (include/herbassolh.h) behind safe functions; nothing else declares them.
+//! Each bool is a u8 here, so that a byte other than 0 or 1 is seen as a difference.
+
+use std::fmt;
+
+pub mod differences;
+pub mod games;
+pub mod same;
+
+pub use differences::Differences;
+pub use games::Games;
+
+#[repr(C)]
+#[derive(Clone, Copy, Debug, Default, PartialEq, Eq)]
+pub struct Fields {
+    pub how: u8,
+    pub winner: u8,
+    pub discarder: u8,
+    pub riichi: u8,
+    pub situation: u8,
+    pub indicator: u8,
+    pub winning: u8,
+    pub m: u8,
+}
+
+#[repr(C)]
+#[derive(Clone, Copy, Debug, Default, PartialEq, Eq)]
+pub struct Hand {
+    pub fields: Fields,
+    pub melds: [u8; 4],
+    pub concealed: [u8; 13],
+}
+
+#[repr(C)]
+#[derive(Clone, Copy, Debug, PartialEq, Eq)]
+pub struct ReadHand {
+    pub refusal: u8,
+    pub hand: Hand,
+}
+
+#[repr(C)]
+#[derive(Clone, Copy, Debug, PartialEq, Eq)]
+pub struct Written {
+    pub refusal: u8,
+    pub len: usize,
+}
+
+/// Yaku n at index n; shown as those that are held.
+#[repr(transparent)]
+#[derive(Clone, Copy, PartialEq, Eq)]
+pub struct Yaku(pub [u8; 37]);
+
+impl Yaku {
+    /// The numbers of the yaku held.
+    pub fn numbers(&self) -> Vec<usize> {
+        (0..self.0.len()).filter(|&n| self.0[n] != 0).collect()
+    }
+}
+
+impl fmt::Debug for Yaku {
+    fn fmt(&self, f: &mut fmt::Formatter) -> fmt::Result {
+        f.debug_map().entries(self.numbers().iter().map(|&n| (n, self.0[n]))).finish()
+    }
+}
+
+#[repr(C)]
+#[derive(Clone, Copy, Debug, PartialEq, Eq)]
+pub struct Scored {
+    pub refusal: u8,
+    pub h: u16,
+    pub fu: u8,
+    pub yaku: Yaku,
+    pub changes: [i32; 4],
+}
+
+#[repr(C)]
+#[derive(Clone, Copy, Debug, PartialEq, Eq)]
+pub struct Game {
+    pub scores: [i32; 4],
+    pub sticks: u32,
+    pub declared: [u8; 4],
+    pub dealer: u8,
+    pub wind: u8,
+    pub hands: u8,
+    pub over: u8,
+}
+
+#[repr(C)]
+#[derive(Clone, Copy, Debug, Default, PartialEq, Eq)]
+pub struct NextEntry {
+    pub refusal: u8,
+    pub end: u8,
+    pub kind: u8,
+    pub argument: u8,
+    pub length: usize,
+}
+
+/// A buffer of so many bytes holds every record (HB_RECORD_MAX).
+pub const RECORD_MAX: usize = 13;
+
+/// A buffer of so many bytes holds every line of tally (HB_LINE_MAX).
+pub const LINE_MAX: usize = 83;
+
+impl Hand {
+    /// A hand from its 25 bytes as they lie in memory.
+    pub fn of(bytes: [u8; 25]) -> Hand {
+        let [how, winner, discarder, riichi, situation, indicator, winning, m, rest @ ..] = bytes;
+        let [a, b, c, d, concealed @ ..] = rest;
+        let fields = Fields { how, winner, discarder, riichi, situation, indicator, winning, m };
+        Hand { fields, melds: [a, b, c, d], concealed }
+    }
+
+    /// The 25 bytes of a hand as they lie in memory.
+    pub fn bytes(&self) -> [u8; 25] {
+        let Fields { how, winner, discarder, riichi, situation, indicator, winning, m } = self.fields;
+        let [a, b, c, d] = self.melds;
+        let mut bytes = [0; 25];
+        bytes[..12].copy_from_slice(&[how, winner, discarder, riichi, situation, indicator, winning, m, a, b, c, d]);
+        bytes[12..].copy_from_slice(&self.concealed);
+        bytes
+    }
+}
+
+extern "C" {
+    fn hb_read(record: *const u8, len: usize) -> ReadHand;
+    fn hb_write(hand: Hand, buffer: *mut u8, len: usize) -> Written;
+    fn hb_score(record: *const u8, len: usize, dealer: u8, wind: u8) -> Scored;
+    fn hb_fresh() -> Game;
+    fn hb_riichi(game: &mut Game, seat: u8) -> u8;
+    fn hb_win(game: &mut Game, record: *const u8, len: usize) -> u8;
+    fn hb_draw(game: &mut Game, bits: u8) -> u8;
+    fn hb_chombo(game: &mut Game, seat: u8) -> u8;
+    fn hb_next(log: *const u8, len: usize, at: usize) -> NextEntry;
+    fn hb_line(buffer: *mut u8, len: usize, entry: u32, letter: u8, refusal: u8, game: Game) -> usize;
+}
+
+/// Stops before a game is lent that no caller may lend.
+fn lendable(game: &Game) {
+    let bools = [game.declared.as_slice(), &[game.over]].concat();
+    assert!(bools.iter().all(|&byte| byte <= 1), "a bool that is neither 0 nor 1: {game:?}");
+}
+
+// SAFETY, for every call below: the pointers and lengths are a slice's, which is never null; the game and the buffer
+// are borrowed alone, so nothing overlaps them; each bool of a game that goes in is 0 or 1 (`lendable`).
+
+/// Read.
+pub fn read(record: &[u8]) -> ReadHand {
+    unsafe { hb_read(record.as_ptr(), record.len()) }
+}
+
+/// Write.
+pub fn write(hand: Hand, buffer: &mut [u8]) -> Written {
+    unsafe { hb_write(hand, buffer.as_mut_ptr(), buffer.len()) }
+}
+
+/// Score.
+pub fn score(record: &[u8], dealer: u8, wind: u8) -> Scored {
+    unsafe { hb_score(record.as_ptr(), record.len(), dealer, wind) }
+}
+
+/// A game at its start.
+pub fn fresh() -> Game {
+    unsafe { hb_fresh() }
+}
+
+/// Riichi.
+pub fn riichi(game: &mut Game, seat: u8) -> u8 {
+    lendable(game);
+    unsafe { hb_riichi(game, seat) }
+}
+
+/// Win.
+pub fn win(game: &mut Game, record: &[u8]) -> u8 {
+    lendable(game);
+    unsafe { hb_win(game, record.as_ptr(), record.len()) }
+}
+
+/// Draw.
+pub fn draw(game: &mut Game, bits: u8) -> u8 {
+    lendable(game);
+    unsafe { hb_draw(game, bits) }
+}
+
+/// Chombo.
+pub fn chombo(game: &mut Game, seat: u8) -> u8 {
+    lendable(game);
+    unsafe { hb_chombo(game, seat) }
+}
+
+/// Next entry.
+pub fn next(log: &[u8], at: usize) -> NextEntry {
+    unsafe { hb_next(log.as_ptr(), log.len(), at) }
+}
+
+/// A line of tally.
+pub fn line(buffer: &mut [u8], entry: u32, letter: u8, refusal: u8, game: Game) -> usize {
+    lendable(&game);
+    unsafe { hb_line(buffer.as_mut_ptr(), buffer.len(), entry, letter, refusal, game) }
+}

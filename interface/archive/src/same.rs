@@ -1,0 +1,100 @@
+//! The other scorer's answers in the archive's form.
+
+use other_scorer::log::Next;
+use other_scorer::record::Meld;
+
+use crate as archive;
+
+/// A hand of the other scorer from the archive's form: a meld is 64 times its kind plus its tile.
+pub fn to_other(hand: &archive::Hand) -> other_scorer::Hand {
+    let [how, winner, discarder, riichi, situation, indicator, winning, m, rest @ ..] = hand.bytes();
+    let [a, b, c, d, concealed @ ..] = rest;
+    let melds = [a, b, c, d].map(|meld| Meld { kind: meld / 64, tile: meld % 64 });
+    other_scorer::Hand { how, winner, discarder, riichi, situation, indicator, winning, m, melds, concealed }
+}
+
+/// A hand in the archive's form.
+pub fn hand(hand: &other_scorer::Hand) -> archive::Hand {
+    let mut bytes = [0; 25];
+    bytes[..8].copy_from_slice(&[
+        hand.how,
+        hand.winner,
+        hand.discarder,
+        hand.riichi,
+        hand.situation,
+        hand.indicator,
+        hand.winning,
+        hand.m,
+    ]);
+    bytes[8..12].copy_from_slice(&hand.melds.map(|meld| 64 * meld.kind + meld.tile));
+    bytes[12..].copy_from_slice(&hand.concealed);
+    archive::Hand::of(bytes)
+}
+
+/// What Read should give (01, Read).
+pub fn read(record: &[u8]) -> archive::ReadHand {
+    match other_scorer::read(record) {
+        Ok(sound) => archive::ReadHand { refusal: 0, hand: hand(&sound) },
+        Err(refusal) => archive::ReadHand { refusal, hand: archive::Hand::default() },
+    }
+}
+
+/// What Write should give, with the buffer then (01, Write).
+pub fn write(hand: &archive::Hand, buffer: &mut [u8]) -> archive::Written {
+    match other_scorer::write(&to_other(hand), buffer) {
+        Ok(len) => archive::Written { refusal: 0, len },
+        Err(refusal) => archive::Written { refusal, len: 0 },
+    }
+}
+
+/// What Score should give (01, Score).
+pub fn scored(scored: &other_scorer::Scored) -> archive::Scored {
+    let mut yaku = [0; 37];
+    for (n, held) in yaku.iter_mut().enumerate() {
+        *held = (scored.yaku >> n & 1) as u8;
+    }
+    archive::Scored {
+        refusal: scored.refusal,
+        h: scored.h as u16,
+        fu: scored.fu,
+        yaku: archive::Yaku(yaku),
+        changes: scored.changes,
+    }
+}
+
+/// A game in the archive's form.
+pub fn game(game: &other_scorer::Game) -> archive::Game {
+    archive::Game {
+        scores: game.scores,
+        sticks: game.sticks,
+        declared: game.declared.map(u8::from),
+        dealer: game.dealer,
+        wind: game.wind,
+        hands: game.hands,
+        over: game.over as u8,
+    }
+}
+
+/// The archive's game as a ledger (01, Ledger).
+pub fn ledger(game: &archive::Game) -> other_scorer::Ledger {
+    other_scorer::Ledger {
+        scores: game.scores.map(i64::from),
+        sticks: game.sticks as i64,
+        declared: (0..4).filter(|&seat| game.declared[seat as usize] != 0).collect(),
+        dealer: game.dealer,
+        wind: game.wind,
+        hands: game.hands as u32,
+        over: game.over != 0,
+    }
+}
+
+/// What Next entry should give (01, Next entry).
+pub fn entry(log: &[u8], at: usize) -> archive::NextEntry {
+    match other_scorer::log::next(log, at) {
+        Next::Entry { kind, argument, part } => {
+            archive::NextEntry { refusal: 0, end: 0, kind, argument, length: part.len() }
+        }
+        Next::End => archive::NextEntry { end: 1, ..archive::NextEntry::default() },
+        Next::Bad(refusal) => archive::NextEntry { refusal, ..archive::NextEntry::default() },
+    }
+}

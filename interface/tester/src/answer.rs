@@ -1,0 +1,126 @@
+//! The core's answer to a record, and how the other scorer comes to it.
+
+use archive::Scored;
+use other_scorer::codec::unpack;
+use other_scorer::notation::hex::to_hex;
+use other_scorer::notation::{print, text};
+use other_scorer::reading::Reading;
+use other_scorer::score::{best, valued, Value, Valued};
+use other_scorer::Hand;
+
+use crate::both::Core;
+use crate::input;
+use crate::names::{count, seat_wind, wind};
+use crate::page::Page;
+use crate::refusals;
+use crate::words::{Bad, Words};
+
+pub struct Answer {
+    pub record: Vec<u8>,
+    pub dealer: u8,
+    pub wind: u8,
+    pub scored: Scored,
+    /// The fields and whether a padding bit is set; none with refusal 1.
+    fields: Option<(Hand, bool)>,
+    /// Every reading with its value, and the place of the reported one; of a record with refusal 0, 6 or 7.
+    pub readings: Vec<Valued>,
+    pub best: Option<usize>,
+}
+
+impl Answer {
+    /// The answer to the words of a command.
+    pub fn of(core: &mut Core, mut words: Words) -> Result<Answer, Bad> {
+        let (dealer, wind) = input::table(&mut words)?;
+        let record = input::record(core, &words)?;
+        core.read(&record);
+        let scored = core.score(&record, dealer, wind);
+        let fields = unpack(&record).ok();
+        let readings = match (scored.refusal, &fields) {
+            (0 | 6 | 7, Some((hand, _))) => valued(hand, dealer, wind),
+            _ => Vec::new(),
+        };
+        let best = best(&readings);
+        Ok(Answer { record, dealer, wind, scored, fields, readings, best })
+    }
+
+    /// The hand of a record that Read accepts.
+    pub fn hand(&self) -> Option<&Hand> {
+        self.fields.as_ref().map(|(hand, _)| hand)
+    }
+
+    /// The reported reading and its value.
+    pub fn reported(&self) -> Option<(&Reading, &Value)> {
+        let (reading, value) = &self.readings[self.best?];
+        Some((reading, value.as_ref()?))
+    }
+
+    /// The notation that gives this very record, if there is one.
+    fn notation(&self) -> Option<String> {
+        self.fields.as_ref().filter(|(_, padding)| !padding).and_then(|(hand, _)| print(hand))
+    }
+
+    /// The conditions that the refusal met.
+    fn met(&self) -> Vec<String> {
+        refusals::of_record(self.scored.refusal, &self.record, self.dealer, self.wind)
+    }
+
+    /// What was asked, and whether it was accepted.
+    pub fn head(&self, page: &mut Page) {
+        let hand = self.hand().map(|hand| print(hand).unwrap_or_else(|| fields(hand)));
+        page.row("hand", hand.unwrap_or("none".into()));
+        let winner = self.hand().filter(|_| self.dealer < 4).map(|hand| hand.winner);
+        let own = winner.map(|winner| format!("; the winner is {}", seat_wind(winner, self.dealer)));
+        let round = if self.wind < 2 { wind(self.wind) } else { self.wind.to_string() };
+        page.row("table", format!("dealer={} wind={round}{}", self.dealer, own.unwrap_or_default()));
+        page.row("record", format!("{}, {}", to_hex(&self.record), count(self.record.len(), "byte")));
+        page.row("answer", refusals::sentence(self.scored.refusal, &self.met()));
+    }
+
+    /// The same for scripts.
+    pub fn plain_head(&self, page: &mut Page) {
+        page.plain("notation", self.notation());
+        page.plain("dealer", [self.dealer]);
+        page.plain("wind", [self.wind]);
+        page.plain("record", [to_hex(&self.record)]);
+        page.plain("refusal", [self.scored.refusal]);
+        self.met().iter().for_each(|why| page.plain("why", [why]));
+    }
+}
+
+/// The fields of a hand that has no notation.
+fn fields(hand: &Hand) -> String {
+    let numbers = |list: &[u8]| list.iter().map(u8::to_string).collect::<Vec<_>>().join(" ");
+    let melds: Vec<String> = hand.melds().iter().map(|meld| format!(", meld {} {}", meld.kind, meld.tile)).collect();
+    format!(
+        "how {}, winner {}, discarder {}, riichi {}, situation {}, indicator {}, winning {}, m {}{}, concealed {}",
+        hand.how,
+        hand.winner,
+        hand.discarder,
+        hand.riichi,
+        hand.situation,
+        hand.indicator,
+        hand.winning,
+        hand.m,
+        melds.concat(),
+        numbers(hand.concealed())
+    )
+}
+
+/// The pair and the groups of a reading; both empty but for a regular one.
+pub fn parts(reading: &Reading) -> (String, Vec<String>) {
+    match reading {
+        Reading::Regular { pair, groups, .. } => {
+            (text(&[*pair; 2]), groups.iter().map(|group| text(&group.tiles())).collect())
+        }
+        _ => Default::default(),
+    }
+}
+
+/// The shape of a reading in a word or two.
+pub fn shape(reading: &Reading) -> &'static str {
+    match reading {
+        Reading::Regular { .. } => "regular",
+        Reading::SevenPairs => "seven pairs",
+        Reading::ThirteenOrphans => "thirteen orphans",
+    }
+}

@@ -1,0 +1,51 @@
+//! The proved core, each answer compared with the other scorer's.
+
+use archive::{same, Differences, NextEntry, ReadHand, Scored, Written, RECORD_MAX};
+use other_scorer::notation::hex::to_hex;
+use other_scorer::{score, Hand};
+
+/// Asks both, answers with the core's, and keeps what differs.
+#[derive(Default)]
+pub struct Core {
+    pub differences: Differences,
+}
+
+impl Core {
+    /// Read.
+    pub fn read(&mut self, record: &[u8]) -> ReadHand {
+        let answer = archive::read(record);
+        self.differences.same("Read", answer, same::read(record), || to_hex(record));
+        answer
+    }
+
+    /// Write, with the record.
+    pub fn write(&mut self, hand: &Hand) -> (Written, [u8; RECORD_MAX]) {
+        let hand = same::hand(hand);
+        let (mut core, mut other) = ([0; RECORD_MAX], [0; RECORD_MAX]);
+        let answer = archive::write(hand, &mut core);
+        let wanted = same::write(&hand, &mut other);
+        self.differences.same("Write", (answer, core), (wanted, other), || to_hex(&hand.bytes()));
+        (answer, core)
+    }
+
+    /// Score.
+    pub fn score(&mut self, record: &[u8], dealer: u8, wind: u8) -> Scored {
+        let answer = archive::score(record, dealer, wind);
+        let wanted = same::scored(&score(record, dealer, wind));
+        let input = || format!("{} dealer {dealer} wind {wind}", to_hex(record));
+        self.differences.same("Score", answer, wanted, input);
+        answer
+    }
+
+    /// Next entry.
+    pub fn next(&mut self, log: &[u8], at: usize) -> NextEntry {
+        let answer = archive::next(log, at);
+        self.differences.same("Next entry", answer, same::entry(log, at), || format!("{} at {at}", to_hex(log)));
+        answer
+    }
+
+    /// Whether nothing has differed so far, in words.
+    pub fn verdict(&self) -> &'static str {
+        if self.differences.count == 0 { "both scorers agree" } else { "THE TWO SCORERS DIFFER" }
+    }
+}

@@ -1,0 +1,88 @@
+//! What --help says.
+
+/// The tool.
+pub const TOOL: &str = "\
+tester COMMAND WORDS: asks the proved core, and compares every answer with the other scorer
+
+  hand       a hand in notation or hexadecimal: its record, refusal, h, fu, yaku, and who pays what
+  readings   every reading of a hand in order, the reported one, and why the others lose
+  log        a text of bookings to the bytes of a log, or back
+  tally      a log's bookings one after the other, and the game after each
+  damage     a record or a log damaged in every way: refusals counted, both scorers compared
+
+  tester COMMAND --help says more of each
+  --plain    output for scripts
+
+Exit status 0: answered (a refusal is an answer); 1: the two scorers differ; 2: bad input, told in one line.
+";
+
+pub const HAND: &str = "\
+tester hand TILES+TILE seat=N tsumo|ron=N [WORDS] [--plain]
+tester hand HEX [dealer=N] [wind=E|S] [--plain]
+
+  TILES+TILE      concealed tiles, then + and the winning tile: 234567m345p67s22s+8s
+                  suits m p s; honours E S W N and P F C for white, hatsu, chun (or 1z to 7z)
+  seat=N          the winner, 0 to 3
+  tsumo, ron=N    drawn, or discarded by seat N
+  chi=234m pon=555p kan=EEEE ankan=9999s     melds; ankan is a closed kan
+  riichi, double                             riichi, double riichi
+  rinshan, chankan, last, first              the situation
+  indicator=TILE  the tile that shows the dora; North if not given
+  dealer=N        the dealer's seat; 0 if not given
+  wind=E|S        the round wind, or 0, 1; East if not given
+  HEX             the record's bytes instead, in one word or more
+
+For scripts: notation, dealer, wind, record, refusal, why, h, fu, yaku, han (of each yaku), fu-items (base, closed ron,
+pair, four groups, wait, tsumo, rounding), changes of seats 0 to 3, differences.
+";
+
+pub const READINGS: &str = "\
+tester readings HAND [dealer=N] [wind=E|S] [--plain]
+
+HAND as for `tester hand`. Lists every reading in document 01's order: pair, groups, place (what the winning tile
+completes: 0 the pair, then the groups from 1), yaku, h, fu and gain. > marks the reported one; each other says why it loses.
+
+For scripts: the lines of `hand` up to why, then reading N SHAPE PAIR GROUPS PLACE YAKU H FU GAIN reported|loses.
+";
+
+pub const LOG: &str = "\
+tester log FILE|-|HEX [to=FILE] [--bytes] [--plain]
+
+A text of bookings gives the bytes of a log; the bytes of a log, or hexadecimal digits, give the text.
+
+  riichi 1                                  seat 1 declares
+  win 234567m345p67s22s+8s seat=1 ron=3     as for `tester hand`, or win HEX; dealer and wind are the game's
+  draw 0 2                                  seats 0 and 2 are ready; draw alone: nobody
+  chombo 3
+  bytes 40 ff                               these bytes as they are
+  # a comment
+
+  to=FILE    writes the bytes, or the text, into FILE
+  --bytes    FILE holds the bytes of a log, even if they look like text
+
+For scripts: the hexadecimal digits in one line, or the text.
+";
+
+pub const TALLY: &str = "\
+tester tally FILE|-|HEX [--words] [--bytes] [--plain]
+
+The game of a log, text or bytes as for `tester log`: a line for each entry with the deal it was made in (E1 to S4),
+its refusal (0 accepted), the scores and sticks after it. Bytes past 65,536 are not read.
+
+  --words    why an entry was refused, below it
+  --bytes    FILE holds the bytes of a log, even if they look like text
+
+For scripts: the lines of the program tally; with --words the refusal in words at the end of its line.
+";
+
+pub const DAMAGE: &str = "\
+tester damage hand HAND [dealer=N] [wind=E|S] [random=N [seed=N]] [--plain]
+tester damage log FILE|-|HEX [--bytes] [random=N [seed=N]] [--plain]
+
+Tries every change of one bit, every cut, and every swap of two bytes; HAND as for `tester hand`, the log as for
+`tester log`. Counts the refusals by number, and shows what the two scorers do not answer alike.
+
+  random=N   N random changes instead; seed=N for others than those of seed 1
+
+For scripts: kind of change, number tried, and how often each of the refusals 0 to 14 was met.
+";

@@ -1,0 +1,73 @@
+//! `log`: the bytes of a text of bookings, or the text of a log's bytes.
+
+use std::fs;
+
+use other_scorer::notation::hex::to_hex;
+
+use crate::both::Core;
+use crate::input;
+use crate::names::count;
+use crate::page::{table, Page};
+use crate::refusals::{of_entry, sentence};
+use crate::text;
+use crate::walk::{whole, Walk};
+use crate::words::{Bad, Words};
+
+/// The other form of a log, printed or written into the file of to=.
+pub fn run(core: &mut Core, mut words: Words) -> Result<String, Bad> {
+    let (plain, raw) = (words.take_flag("--plain"), words.take_flag("--bytes"));
+    let to = words.take("to", |file| match file {
+        "" => Err("the name of a file is missing".to_string()),
+        _ => Ok(file.to_string()),
+    })?;
+    let log = input::log(core, &words, raw)?;
+    let walk = whole(core, &log.bytes);
+    let made = match log.from_text {
+        true => log.bytes.clone(),
+        false => lines(&log.bytes, &walk).into_bytes(),
+    };
+    if let Some(file) = to {
+        fs::write(&file, &made).map_err(|error| Bad::new(format!("{file}: {error}")))?;
+        return Ok(if plain { String::new() } else { format!("{file}: {}\n", count(made.len(), "byte")) });
+    }
+    Ok(match (log.from_text, plain) {
+        (true, true) => to_hex(&log.bytes) + "\n",
+        (true, false) => listing(core, &log.bytes, &walk),
+        (false, _) => lines(&log.bytes, &walk),
+    })
+}
+
+/// The text of a log: bytes that are no entry stand in hexadecimal, so that the text gives the log again.
+fn lines(log: &[u8], walk: &Walk) -> String {
+    let mut page = Page::default();
+    walk.steps.iter().for_each(|step| page.line(text::line(&step.booking)));
+    if let Some(at) = walk.stopped {
+        page.line(format!("bytes {}  # {}", to_hex(&log[at..]), sentence(14, &of_entry(&log[at..]))));
+    }
+    page.finish()
+}
+
+/// Each entry's offset, bytes and booking.
+fn listing(core: &Core, log: &[u8], walk: &Walk) -> String {
+    let heads = ["byte", "entry", "bytes", "booking"].map(String::from).to_vec();
+    let mut rows = vec![heads];
+    for (n, step) in (1..).zip(&walk.steps) {
+        let bytes = to_hex(&step.booking.bytes());
+        rows.push(vec![step.at.to_string(), n.to_string(), bytes, text::line(&step.booking)]);
+    }
+    if let Some(at) = walk.stopped {
+        rows.push(vec![at.to_string(), "-".into(), to_hex(&log[at..]), sentence(14, &of_entry(&log[at..]))]);
+    }
+    let mut page = Page::default();
+    table(&rows, &[0, 1]).iter().for_each(|line| page.line(line));
+    page.line(format!("{}, {}; {}", count(log.len(), "byte"), entries(walk), core.verdict()));
+    page.finish()
+}
+
+/// The number of entries in words.
+pub fn entries(walk: &Walk) -> String {
+    match walk.steps.len() {
+        1 => "1 entry".into(),
+        n => format!("{n} entries"),
+    }
+}

@@ -1,0 +1,80 @@
+//! `tester COMMAND WORDS`: hands, readings, logs, games and damaged bytes, answered by the proved core and compared
+//! with the other scorer. Exit status 0: answered, refusals too; 1: the two differ; 2: bad input, told in one line.
+
+mod answer;
+mod both;
+mod changes;
+mod damage;
+mod fu;
+mod hand;
+mod help;
+mod input;
+mod log;
+mod names;
+mod page;
+mod payments;
+mod readings;
+mod refusals;
+mod tally;
+mod text;
+mod walk;
+mod words;
+
+use std::io::{self, Write};
+use std::process::ExitCode;
+
+use both::Core;
+use words::{Bad, Words};
+
+/// A command: what it asks of the core, and the text it prints.
+type Command = fn(&mut Core, Words) -> Result<String, Bad>;
+
+/// The commands by name, with their help.
+const COMMANDS: [(&str, Command, &str); 5] = [
+    ("hand", hand::run, help::HAND),
+    ("readings", readings::run, help::READINGS),
+    ("log", log::run, help::LOG),
+    ("tally", tally::run, help::TALLY),
+    ("damage", damage::run, help::DAMAGE),
+];
+
+/// Runs the command that the first word names.
+fn run(core: &mut Core, mut words: Words) -> Result<String, Bad> {
+    let wants_help = words.take_flag("--help") | words.take_flag("-h") | words.take_flag("help");
+    let Some(name) = words.take_first() else {
+        return match wants_help {
+            true => Ok(help::TOOL.into()),
+            false => Err(Bad::new("no command: hand, readings, log, tally or damage; --help says more")),
+        };
+    };
+    match COMMANDS.iter().find(|(command, ..)| *command == name) {
+        Some((.., help)) if wants_help => Ok(help.to_string()),
+        Some((_, command, _)) => command(core, words),
+        None => {
+            let why = "no command; there are hand, readings, log, tally and damage";
+            Err(Bad::new(format!("word 1, \"{name}\": {why}")))
+        }
+    }
+}
+
+/// Prints the answer, then what differs, loudly.
+fn main() -> ExitCode {
+    let mut core = Core::default();
+    match run(&mut core, Words::of_command(std::env::args_os().skip(1))) {
+        // A reader that has closed its end wants no more.
+        Ok(text) => drop(io::stdout().write_all(text.as_bytes())),
+        Err(bad) => {
+            eprintln!("tester: {bad}");
+            return ExitCode::from(2);
+        }
+    }
+    let differences = &core.differences;
+    if differences.count == 0 {
+        return ExitCode::SUCCESS;
+    }
+    eprintln!("!!! THE TWO SCORERS DIFFER, {}", names::count(differences.count as usize, "time"));
+    for difference in &differences.first {
+        eprintln!("!!! {}", difference.replace('\n', "\n!!!"));
+    }
+    ExitCode::from(1)
+}

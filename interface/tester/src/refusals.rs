@@ -1,0 +1,115 @@
+//! Each refusal in words, and which of its conditions was met, worked out by the other scorer.
+
+use other_scorer::codec::{length, length_fault, meld_count, unpack, LENGTH_FAULTS};
+use other_scorer::game::is_ready;
+use other_scorer::log::{size, ENTRY_FAULTS};
+use other_scorer::notation::text;
+use other_scorer::score::valued;
+use other_scorer::sound::{field_faults, situation_faults, FIELD_FAULTS, SITUATION_FAULTS};
+use other_scorer::{Booking, Game, Hand};
+
+use crate::names::count;
+
+/// The highest refusal.
+pub const LAST: u8 = 14;
+
+/// A refusal in words (01, each at its place); docs/REFUSALS.md has the same.
+pub fn refusal(number: u8) -> &'static str {
+    match number {
+        0 => "accepted",
+        1 => "the length is wrong or m is over 4",
+        2 => "a field is out of range",
+        3 => "the concealed tiles descend somewhere",
+        4 => "over four of a kind",
+        5 => "riichi or situation does not fit the hand",
+        6 => "no reading",
+        7 => "readings but none with a yaku",
+        8 => "an argument is out of range",
+        9 => "the game is not open",
+        10 => "declared already this hand",
+        11 => "the riichi field and the declaration differ",
+        12 => "a declared seat is not ready",
+        13 => "the buffer is shorter than the record",
+        14 => "the log's entry is bad or cut",
+        _ => "no refusal of document 01",
+    }
+}
+
+/// The refusal with its number, its words and the conditions met.
+pub fn sentence(number: u8, met: &[String]) -> String {
+    match (number, met) {
+        (0, _) => refusal(0).into(),
+        (_, []) => format!("refusal {number}, {}", refusal(number)),
+        _ => format!("refusal {number}, {}: {}", refusal(number), met.join("; ")),
+    }
+}
+
+/// The words of the conditions that hold.
+fn holding(words: &[&str], holds: &[bool]) -> Vec<String> {
+    words.iter().zip(holds).filter(|(_, holds)| **holds).map(|(word, _)| word.to_string()).collect()
+}
+
+/// Where the concealed tiles descend.
+fn descents(hand: &Hand) -> Vec<String> {
+    let two = hand.concealed().windows(2).filter(|two| two[0] > two[1]);
+    two.map(|two| format!("{} after {}", text(&two[1..]), text(&two[..1]))).collect()
+}
+
+/// The kinds seen over four times.
+fn over_four(hand: &Hand) -> Vec<String> {
+    let seen = hand.seen();
+    let times = |kind: u8| seen.iter().filter(|&&tile| tile == kind).count();
+    (0..34).filter(|&kind| times(kind) > 4).map(|kind| format!("{} of {}", times(kind), text(&[kind]))).collect()
+}
+
+/// The conditions met by a record's refusal 1 to 8, for this dealer and wind (01, Read; Score).
+pub fn of_record(refusal: u8, record: &[u8], dealer: u8, wind: u8) -> Vec<String> {
+    if refusal == 8 {
+        let words = [format!("dealer {dealer} over 3"), format!("wind {wind} over 1")];
+        return holding(&words.each_ref().map(String::as_str), &[dealer > 3, wind > 1]);
+    }
+    let Ok((hand, padding)) = unpack(record) else {
+        return match length_fault(record) {
+            Some(2) => {
+                let m = meld_count(record);
+                let melds = count(m as usize, "meld");
+                vec![format!("{}: {} bytes, with {melds} {} are needed", LENGTH_FAULTS[2], record.len(), length(m))]
+            }
+            fault => fault.map(|fault| LENGTH_FAULTS[fault].to_string()).into_iter().collect(),
+        };
+    };
+    match refusal {
+        2 => holding(&FIELD_FAULTS, &[&field_faults(&hand)[..], &[padding]].concat()),
+        3 => descents(&hand),
+        4 => over_four(&hand),
+        5 => holding(&SITUATION_FAULTS, &situation_faults(&hand)),
+        6 => vec!["neither a pair and groups, nor seven pairs, nor thirteen orphans".into()],
+        7 => vec![count(valued(&hand, dealer, wind).len(), "reading")],
+        _ => Vec::new(),
+    }
+}
+
+/// The conditions met by the refusal of a booking in a game (01, The game).
+pub fn of_booking(refusal: u8, booking: &Booking, game: &Game) -> Vec<String> {
+    let seats = |test: &dyn Fn(usize) -> bool| -> Vec<String> {
+        (0..4).filter(|&seat| test(seat)).map(|seat| format!("seat {seat}")).collect()
+    };
+    match (refusal, booking) {
+        (9, _) if game.hands == 200 => vec!["200 hands are finished".into()],
+        (9, _) => vec!["it is over".into()],
+        (8, Booking::Riichi(seat) | Booking::Chombo(seat)) => vec![format!("seat {seat} over 3")],
+        (10, Booking::Riichi(seat)) => vec![format!("seat {seat}")],
+        (12, Booking::Draw(bits)) => seats(&|seat| game.declared[seat] && !is_ready(*bits, seat)),
+        (11, Booking::Win(record)) => unpack(record).map_or(Vec::new(), |(hand, _)| match hand.riichi {
+            0 => vec![format!("seat {} has declared, the record has no riichi", hand.winner)],
+            _ => vec![format!("the record has riichi, seat {} has not declared", hand.winner)],
+        }),
+        (_, Booking::Win(record)) => of_record(refusal, record, game.dealer, game.wind),
+        _ => Vec::new(),
+    }
+}
+
+/// The condition met by refusal 14 at the start of a stretch of a log (01, Next entry).
+pub fn of_entry(rest: &[u8]) -> Vec<String> {
+    size(rest).err().map(|fault| ENTRY_FAULTS[fault].to_string()).into_iter().collect()
+}

@@ -1,0 +1,81 @@
+//! `tally`: a log's bookings one after the other, and the game after each.
+
+use other_scorer::log::{tally_lines, LONGEST};
+use other_scorer::notation::hex::to_hex;
+use other_scorer::Game;
+
+use crate::both::Core;
+use crate::input;
+use crate::log::entries;
+use crate::names::{count, points, wind};
+use crate::page::{table, Page};
+use crate::refusals::{of_booking, of_entry, sentence};
+use crate::text;
+use crate::walk::{whole, Step, Walk};
+use crate::words::{Bad, Words};
+
+/// The game of a log, entry by entry; with --words also why an entry is refused.
+pub fn run(core: &mut Core, mut words: Words) -> Result<String, Bad> {
+    let (plain, raw, why) = (words.take_flag("--plain"), words.take_flag("--bytes"), words.take_flag("--words"));
+    let log = input::log(core, &words, raw)?.bytes;
+    let log = &log[..log.len().min(LONGEST)];
+    let walk = whole(core, log);
+    let lines: Vec<String> = (1..).zip(&walk.steps).map(|(n, step)| step.line(core, n)).collect();
+    core.differences.same("the lines of tally", &lines.concat(), &tally_lines(log), || to_hex(log));
+    if plain {
+        let lines = (1..).zip(&walk.steps).zip(lines);
+        return Ok(lines.map(|((_, step), line)| if why { worded(&line, step) } else { line }).collect());
+    }
+    let mut page = Page::default();
+    let rows = listing(&walk);
+    page.line(&rows[0]);
+    for (step, row) in walk.steps.iter().zip(&rows[1..]) {
+        page.line(row);
+        if why && step.refusal != 0 {
+            page.line(format!("      {}", reason(step)));
+        }
+    }
+    page.line("");
+    if let Some(at) = walk.stopped {
+        page.line(format!("stopped at byte {at}, {:02x}: {}", log[at], sentence(14, &of_entry(&log[at..]))));
+    }
+    let game = walk.steps.last().map_or(Game::fresh(), |step| step.after.other);
+    let refused = walk.steps.iter().filter(|step| step.refusal != 0).count();
+    let state = if game.over { "the game is over".to_string() } else { format!("{} is on", deal(&game)) };
+    let hands = count(game.hands as usize, "hand");
+    page.line(format!("{}, {refused} refused; {hands} finished; {state}", entries(&walk)));
+    page.line(core.verdict());
+    Ok(page.finish())
+}
+
+/// Why an entry was refused.
+fn reason(step: &Step) -> String {
+    sentence(step.refusal, &of_booking(step.refusal, &step.booking, &step.before.other))
+}
+
+/// A line of tally with the refusal in words behind it.
+fn worded(line: &str, step: &Step) -> String {
+    match step.refusal {
+        0 => line.into(),
+        _ => format!("{} {}\n", line.trim_end(), reason(step)),
+    }
+}
+
+/// The deal by its wind and the dealer's number from 1.
+fn deal(game: &Game) -> String {
+    format!("{}{}", wind(game.wind), game.dealer + 1)
+}
+
+/// A line for each entry, after a line of heads.
+fn listing(walk: &Walk) -> Vec<String> {
+    let heads = ["entry", "deal", "refusal", "seat 0", "seat 1", "seat 2", "seat 3", "sticks", "booking"];
+    let mut rows = vec![heads.map(String::from).to_vec()];
+    for (n, step) in (1..).zip(&walk.steps) {
+        let game = &step.after.archive;
+        let mut row = vec![n.to_string(), deal(&step.before.other), step.refusal.to_string()];
+        row.extend(game.scores.map(|score| points(score as i64)));
+        row.extend([game.sticks.to_string(), text::line(&step.booking)]);
+        rows.push(row);
+    }
+    table(&rows, &[0, 1, 2, 3, 4, 5, 6, 7])
+}

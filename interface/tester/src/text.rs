@@ -1,0 +1,93 @@
+//! A log as text: one booking a line, # before a comment.
+
+use other_scorer::codec::unpack;
+use other_scorer::game::is_ready;
+use other_scorer::notation::hex::to_hex;
+use other_scorer::notation::print;
+use other_scorer::Booking;
+
+use crate::both::Core;
+use crate::input;
+use crate::words::{Bad, Words};
+
+/// The bytes of a log's text; `name` is the file's, for messages.
+pub fn log(core: &mut Core, name: &str, text: &str) -> Result<Vec<u8>, Bad> {
+    let mut bytes = Vec::new();
+    // Some editors put a mark at the start of a text.
+    for (number, line) in (1..).zip(text.trim_start_matches('\u{feff}').lines()) {
+        bytes.extend(entry(core, Words::of_line(format!("{name}, line {number}"), line))?);
+    }
+    Ok(bytes)
+}
+
+/// The bytes of a line; none for an empty one.
+fn entry(core: &mut Core, mut words: Words) -> Result<Vec<u8>, Bad> {
+    let first = words.texts().first().map(|word| word.to_ascii_lowercase());
+    let kind = match first.as_deref() {
+        None => return Ok(Vec::new()),
+        Some(kind @ ("riichi" | "win" | "draw" | "chombo" | "bytes")) => kind,
+        Some(_) => {
+            let why = "a line begins with riichi, win, draw, chombo or bytes (--bytes if the file is no text)";
+            return Err(words.bad(0, why));
+        }
+    };
+    words.take_first();
+    let booking = match kind {
+        "riichi" => Booking::Riichi(argument(&words)?),
+        "chombo" => Booking::Chombo(argument(&words)?),
+        "draw" => Booking::Draw(ready(&words)?),
+        "win" => Booking::Win(record(core, &words)?),
+        _ => return input::bytes(&words).unwrap_or_else(|| Err(words.bad(0, "hexadecimal digits are needed"))),
+    };
+    Ok(booking.bytes())
+}
+
+/// The one argument of a riichi or chombo; 4 to 15 have a place in a log, and are refused by the game.
+fn argument(words: &Words) -> Result<u8, Bad> {
+    let texts = words.texts();
+    let Some(text) = texts.first() else { return Err(words.bad(0, "the seat is missing, 0 to 3")) };
+    if texts.len() > 1 {
+        return Err(words.bad(1, "one seat is enough"));
+    }
+    let number = text.parse().ok().filter(|&seat| seat <= 15);
+    number.ok_or_else(|| words.bad(0, "a seat is 0, 1, 2 or 3 (up to 15 to see it refused)"))
+}
+
+/// The four bits of a draw from the seats that are ready.
+fn ready(words: &Words) -> Result<u8, Bad> {
+    let mut bits = 0;
+    for (at, text) in words.texts().iter().enumerate() {
+        let seat = text.parse().ok().filter(|&seat: &u8| seat <= 3);
+        let bit = 8 >> seat.ok_or_else(|| words.bad(at, "a ready seat is 0, 1, 2 or 3"))?;
+        if bits & bit != 0 {
+            return Err(words.bad(at, "this seat is named already"));
+        }
+        bits |= bit;
+    }
+    Ok(bits)
+}
+
+/// The record of a win; dealer and wind are the game's.
+fn record(core: &mut Core, words: &Words) -> Result<Vec<u8>, Bad> {
+    let of_game = |word: &&str| word.starts_with("dealer=") || word.starts_with("wind=");
+    match words.texts().iter().position(of_game) {
+        Some(at) => Err(words.bad(at, "in a log the game says who deals and which wind blows")),
+        None => input::record(core, words),
+    }
+}
+
+/// The line of a booking: a win in notation if that gives this very record, else in hexadecimal.
+pub fn line(booking: &Booking) -> String {
+    match booking {
+        Booking::Riichi(seat) => format!("riichi {seat}"),
+        Booking::Chombo(seat) => format!("chombo {seat}"),
+        Booking::Draw(bits) => {
+            let seats = (0..4).filter(|&seat| is_ready(*bits, seat)).map(|seat| format!(" {seat}"));
+            format!("draw{}", seats.collect::<String>())
+        }
+        Booking::Win(record) => {
+            let notation = unpack(record).ok().filter(|(_, padding)| !padding).and_then(|(hand, _)| print(&hand));
+            format!("win {}", notation.unwrap_or_else(|| to_hex(record)))
+        }
+    }
+}

@@ -1,0 +1,193 @@
+//! Each command on the worked examples of docs/RECORDS.md, and on logs there and back.
+
+mod run;
+
+use std::fs;
+use std::path::Path;
+
+use other_scorer::example::{example, End};
+use other_scorer::log::tally_lines;
+use run::{answer, folder, root, run_in};
+
+const LINE_1: &str = "b81e640210620a31661a9a6bb0";
+const LINE_6: &str = "b81e64808828c51461a72ec0";
+
+#[test]
+fn a_hand_to_its_record_and_back() {
+    for (typed, record, notation) in [
+        ("234567m345p67s22s+8s seat=1 ron=3", LINE_1, "234567m345p2267s+8s seat=1 ron=3 indicator=N"),
+        ("567m456p67s22p+8s chi=234m seat=1 ron=3", LINE_6, "567m22456p67s+8s chi=234m seat=1 ron=3 indicator=N"),
+    ] {
+        let out = answer(&format!("hand {typed} --plain"));
+        assert!(out.contains(&format!("\nrecord {record}\n")), "{out}");
+        assert_eq!(answer(&format!("hand --plain {record}")), out);
+        let first = &out[..out.find('\n').expect("a line")];
+        assert_eq!(first, format!("notation {notation}"));
+        assert_eq!(answer(&format!("hand {notation} --plain")), out);
+    }
+}
+
+#[test]
+fn a_hand_for_reading() {
+    let out = answer("hand 111m333p555s77s99s+7s seat=1 ron=3");
+    for row in [
+        "answer     accepted",
+        "reading *  99s 111m 333p 555s [777s]",
+        "17 four triplets                                  2",
+        "concealed triplet 111m                         8",
+        "open triplet 777s                              2",
+        "A, limit: 3,200 exceeds 2,000              2,000",
+        "seat 1        S child   wins                            +8,000",
+        "seat 3        N child   pays 4 A = 8,000                -8,000",
+        "both scorers agree",
+    ] {
+        assert!(out.contains(row), "{row} in\n{out}");
+    }
+    let south = answer("hand 234567m345p67s22s+8s seat=0 tsumo dealer=3 wind=S");
+    assert!(south.contains("dealer=3 wind=S; the winner is S") && south.contains("pays 2 A"), "{south}");
+    assert_eq!(south, answer("hand 234567m345p67s22s+8s seat=0 tsumo dealer=3 wind=1"));
+}
+
+#[test]
+fn refusals_of_a_hand_say_which_condition_was_met() {
+    let hand = "234567m345p67s22s+8s seat=1";
+    for (words, refusal, why) in [
+        ("b8".to_string(), 1, "under 4 bytes"),
+        (LINE_1.replace("6402", "6782"), 1, "m over 4"),
+        (LINE_1[..24].to_string(), 1, "a length not m's: 12 bytes, with 0 melds 13 are needed"),
+        (format!("{hand} ron=1"), 2, "ron with discarder equal to winner"),
+        (LINE_1.replace("b81e", "be1e"), 2, "riichi 3"),
+        (LINE_1.replace("6bb0", "6bb1"), 2, "a padding bit set"),
+        (LINE_1.replace("b81e", "b822"), 2, "indicator over 33"),
+        (LINE_1.replace("6402", "6422"), 3, "3m after 9p"),
+        ("222234m345p67s22m+8s seat=1 ron=3".into(), 4, "6 of 2m"),
+        (format!("{hand} tsumo chankan"), 5, "chankan on tsumo"),
+        (format!("{hand} ron=3 riichi first"), 5, "first turn with ron"),
+        (format!("{hand} ron=3 riichi first"), 5, "first turn with riichi"),
+        (format!("{hand} ron=3 rinshan"), 5, "rinshan without a kan"),
+        ("1111m44m77m22p55p8p+8p seat=1 ron=3".into(), 6, "neither a pair and groups"),
+        ("456p78s234s99p+9s chi=123m seat=1 ron=3".into(), 7, "1 reading"),
+        (format!("{hand} ron=3 dealer=4"), 8, "dealer 4 over 3"),
+        (format!("{hand} ron=3 wind=2"), 8, "wind 2 over 1"),
+    ] {
+        let out = answer(&format!("hand {words} --plain"));
+        let lines: Vec<&str> = out.lines().collect();
+        assert!(lines.contains(&format!("refusal {refusal}").as_str()), "{words}\n{out}");
+        assert!(out.contains(&format!("why {why}")), "{words}\n{out}");
+        assert!(answer(&format!("hand {words}")).contains(&format!("answer     refusal {refusal}, ")), "{words}");
+    }
+}
+
+#[test]
+fn readings_say_why_they_lose() {
+    for (hand, rows) in [
+        (
+            "112233m778899p5s+5s seat=1 ron=3",
+            [
+                "> 1  55s   123m 123m 789p 789p  0 pair  21    3  40  5,200  REPORTED",
+                "  2        seven pairs                  12    2  25  1,600  3,600 less than 1",
+            ],
+        ),
+        (
+            "2223445m5m678p99s+3m seat=1 ron=2",
+            [
+                "> 1  99s   345m 345m 678p 222m  1 345m  5     1  40  1,300  REPORTED",
+                "  2  99s   345m 345m 678p 222m  2 345m  5     1  40  1,300  equal to 1, which comes first",
+            ],
+        ),
+        ("112233667788sW+W seat=1 ron=3 riichi", ["REPORTED", "same gain as 1, h 6 under 7"]),
+        ("666m3334566p666s+6p seat=3 ron=1 riichi", ["REPORTED", "same gain and h as 2, fu 40 under 50"]),
+        ("789p5566677788s+5s seat=3 ron=1", ["REPORTED", "2 555s  -     -   -      -  no yaku"]),
+    ] {
+        let out = answer(&format!("readings {hand}"));
+        rows.iter().for_each(|row| assert!(out.contains(row), "{row} in\n{out}"));
+    }
+    let plain = answer("readings 112233m778899p5s+5s seat=1 ron=3 --plain");
+    assert!(plain.contains("reading 1 regular 55s 123m,123m,789p,789p 0 21 3 40 5200 reported\n"), "{plain}");
+    assert!(plain.contains("reading 2 seven-pairs - - - 12 2 25 1600 loses\n"), "{plain}");
+    let none = answer("readings 456p78s234s99p+9s chi=123m seat=1 ron=3");
+    assert!(none.contains("refusal 7") && none.contains("no yaku") && !none.contains("REPORTED"), "{none}");
+    assert!(answer("readings 1111m44m77m22p55p8p+8p seat=1 ron=3").contains("readings * 0\n"));
+}
+
+#[test]
+fn the_worked_logs() {
+    let lines = "1 R 0 30000 29000 30000 30000 1\n2 D 0 29000 32000 29000 29000 1\n";
+    assert_eq!(answer("tally 01 24 --plain"), lines);
+    assert_eq!(answer("log 01 24"), "riichi 1\ndraw 1\n");
+    let marked = run_in(Path::new("."), "tally - --plain", "\u{feff}riichi 1\r\n\r\nDRAW 1 # alone\r\n".as_bytes());
+    assert_eq!(marked.out, lines);
+    let second = format!("10 {LINE_1} 04 31 40");
+    let lines = "1 W 0 30000 32000 30000 28000 0\n2 R 8 30000 32000 30000 28000 0\n3 C 0 33000 23000 33000 31000 0\n";
+    assert_eq!(answer(&format!("tally {second} --plain")), lines);
+    let out = answer(&format!("tally {second} --words"));
+    assert!(out.contains("refusal 8, an argument is out of range: seat 4 over 3\n"), "{out}");
+    assert!(out.contains("stopped at byte 16, 40: refusal 14, the log's entry is bad or cut: kind over 3\n"), "{out}");
+    assert!(out.contains("3 entries, 1 refused; 2 hands finished; E2 is on\n"), "{out}");
+}
+
+#[test]
+fn refusals_of_bookings_say_which_condition_was_met() {
+    let text = "riichi 1\nriichi 1\ndraw 0\nwin 234567m345p67s22s+8s seat=1 ron=3\n\
+        WIN 234567m345p67s22s+8s seat=2 ron=3 double # no riichi of seat 2\nwin b822640210620a31661a9a6bb0\nchombo 9\n";
+    let ran = run_in(Path::new("."), "tally - --plain --words", text.as_bytes());
+    let words: Vec<&str> = ran.out.lines().map(|line| line.splitn(9, ' ').nth(8).unwrap_or("")).collect();
+    let wanted = [
+        "",
+        "refusal 10, declared already this hand: seat 1",
+        "refusal 12, a declared seat is not ready: seat 1",
+        "refusal 11, the riichi field and the declaration differ: seat 1 has declared, the record has no riichi",
+        "refusal 11, the riichi field and the declaration differ: the record has riichi, seat 2 has not declared",
+        "refusal 2, a field is out of range: indicator over 33",
+        "refusal 8, an argument is out of range: seat 9 over 3",
+    ];
+    assert_eq!((ran.status, words), (0, wanted.to_vec()), "{}", ran.out);
+    for (deals, why) in [("draw\n".repeat(8), "it is over"), ("draw 0\n".repeat(200), "200 hands are finished")] {
+        let ran = run_in(Path::new("."), "tally - --plain --words", format!("{deals}riichi 0\n").as_bytes());
+        assert!(ran.out.ends_with(&format!(" refusal 9, the game is not open: {why}\n")), "{}", ran.out);
+    }
+}
+
+#[test]
+fn logs_to_text_and_back() {
+    let here = folder("logs");
+    let league = fs::read(root().join("crates/tally/stdin")).expect("the league's log");
+    let logs = (0..6).map(|seed| example(seed, if seed % 2 == 0 { End::Deal } else { End::Hands }));
+    for log in logs.chain([league, vec![], vec![0x10, 1, 2], vec![0x21, 0x30], b"AB".to_vec()]) {
+        fs::write(here.join("a.log"), &log).expect("a file");
+        let made = run_in(&here, "log a.log --bytes to=a.txt", &[]);
+        assert_eq!((made.status, made.err.as_str()), (0, ""));
+        assert_eq!(run_in(&here, "log a.txt to=b.log --plain", &[]).out, "");
+        assert_eq!(fs::read(here.join("b.log")).expect("a file"), log);
+        for line in ["tally a.txt --plain", "tally a.log --bytes --plain"] {
+            assert_eq!(run_in(&here, line, &[]).out, tally_lines(&log), "{line}");
+        }
+        let hex = run_in(&here, "log a.txt --plain", &[]).out;
+        assert_eq!(run_in(&here, "tally - --plain", hex.as_bytes()).out, tally_lines(&log));
+    }
+}
+
+#[test]
+fn damage_counts_refusals() {
+    let out = answer(&format!("damage hand {LINE_1} --plain"));
+    let counts = "bit-changed 104 10 3 18 46 0 2 25 0 0 0 0 0 0 0 0\ncut 13 0 13 0 0 0 0 0 0 0 0 0 0 0 0 0\n\
+        bytes-swapped 78 0 12 40 24 0 0 2 0 0 0 0 0 0 0 0\ndifferences 0\n";
+    assert_eq!(out, counts);
+    let some = answer(&format!("damage hand {LINE_1} random=3000 seed=4 --plain"));
+    assert!(some.starts_with("random 3000 ") && some.ends_with("differences 0\n"), "{some}");
+    assert_eq!(answer(&format!("damage hand {LINE_1} random=3000 seed=4 --plain")), some);
+    assert_ne!(answer(&format!("damage hand {LINE_1} random=3000 --plain")), some);
+    let log = answer(&format!("damage log 01 02 10 {LINE_1} 24 31"));
+    assert!(log.contains("14 ends a walk") && log.ends_with("both scorers agree\n"), "{log}");
+}
+
+#[test]
+fn help_for_the_tool_and_each_command() {
+    let tool = answer("--help");
+    for command in ["hand", "readings", "log", "tally", "damage"] {
+        assert!(tool.contains(&format!("\n  {command} ")));
+        let help = answer(&format!("{command} --help"));
+        assert!(help.starts_with(&format!("tester {command} ")) && help.contains("--plain"));
+        assert_eq!(answer(&format!("help {command}")), help);
+    }
+}

@@ -1,0 +1,82 @@
+//! Bad input: exit status 2 and one line that names the word and its place.
+
+mod run;
+
+use run::{folder, run_in};
+
+/// A command line fails with this line alone.
+fn fails(line: &str, input: &str, message: &str) {
+    let ran = run_in(&folder("errors"), line, input.as_bytes());
+    assert_eq!((ran.status, ran.out.as_str(), ran.err.as_str()), (2, "", format!("tester: {message}\n").as_str()), "{line}");
+}
+
+#[test]
+fn of_the_tool() {
+    fails("", "", "no command: hand, readings, log, tally or damage; --help says more");
+    fails("hands", "", "word 1, \"hands\": no command; there are hand, readings, log, tally and damage");
+}
+
+#[test]
+fn of_a_hand() {
+    let tiles = "234567m345p67s22s+8s";
+    for command in ["hand", "readings"] {
+        for (words, message) in [
+            ("", format!("after word 1, \"{command}\": no hand, such as {tiles} seat=1 ron=3")),
+            ("b81", "word 2, \"b81\": two hexadecimal digits make a byte, one is left over".into()),
+            ("b81g64", "word 2, \"b81g64\": neither tiles with + before the winning one nor hexadecimal digits".into()),
+            (&format!("{tiles} seat=1"), "after word 3, \"seat=1\": tsumo or ron=, such as ron=3, is missing".into()),
+            (&format!("{tiles} ron=3"), "after word 3, \"ron=3\": the winner is missing, such as seat=1".into()),
+            (&format!("{tiles} seat=5 ron=3"), "word 3, \"seat=5\": a seat is 0, 1, 2 or 3".into()),
+            (&format!("{tiles} seat=1 ron=3 dora=4z"), "word 5, \"dora=4z\": the tile turned up is indicator=, dora is the next one".into()),
+            (&format!("{tiles} seat=1 ron=3 --plian"), "word 5, \"--plian\": no option here; --help lists them".into()),
+            (&format!("{tiles} seat=1 ron=3 dealer=x"), "word 5, \"dealer=x\": a number 0 to 3 (up to 255 to see it refused) is needed".into()),
+            (&format!("{tiles} seat=1 ron=3 wind=W"), "word 5, \"wind=W\": E, S, 0 or 1 is needed (a number up to 255 to see it refused)".into()),
+            (&format!("{tiles} dealer=1 seat=1 ron=3 dealer=1"), "word 6, \"dealer=1\": an earlier word has said this already".into()),
+            ("234567m345p67s2s+8s seat=1 ron=3", "word 2, \"234567m345p67s2s+8s\": 12 tiles before +, with 0 melds 13 are needed".into()),
+        ] {
+            fails(&format!("{command} {words}"), "", &message);
+        }
+    }
+}
+
+#[test]
+fn of_a_log() {
+    for command in ["log", "tally", "damage log"] {
+        let n = command.split(' ').count();
+        let last = &command[command.find(' ').map_or(0, |at| at + 1)..];
+        fails(command, "", &format!("after word {n}, \"{last}\": no log: a file, - for standard input, or hexadecimal digits"));
+        fails(&format!("{command} none.txt"), "", &format!("word {}, \"none.txt\": no file of this name, nor hexadecimal digits", n + 1));
+        fails(&format!("{command} 01 2"), "", &format!("word {}, \"2\": two hexadecimal digits make a byte, one is left over", n + 2));
+        fails(&format!("{command} --wordz 01"), "", &format!("word {}, \"--wordz\": no option here; --help lists them", n + 1));
+    }
+    fails("log 01 to=", "", "word 3, \"to=\": the name of a file is missing");
+    fails("log 01 to=none/a", "", "none/a: No such file or directory (os error 2)");
+}
+
+#[test]
+fn of_a_text() {
+    for (line, message) in [
+        ("richi 1", "word 1, \"richi\": a line begins with riichi, win, draw, chombo or bytes (--bytes if the file is no text)"),
+        ("riichi", "after word 1, \"riichi\": the seat is missing, 0 to 3"),
+        ("riichi 1 2", "word 3, \"2\": one seat is enough"),
+        ("chombo 16", "word 2, \"16\": a seat is 0, 1, 2 or 3 (up to 15 to see it refused)"),
+        ("draw 0 4", "word 3, \"4\": a ready seat is 0, 1, 2 or 3"),
+        ("draw 0 0", "word 3, \"0\": this seat is named already"),
+        ("win # nothing", "after word 1, \"win\": no hand, such as 234567m345p67s22s+8s seat=1 ron=3"),
+        ("win 234567m345p67s22s+8s seat=1", "after word 3, \"seat=1\": tsumo or ron=, such as ron=3, is missing"),
+        ("win 234567m345p67s22s+8s seat=1 tsumo wind=E", "word 5, \"wind=E\": in a log the game says who deals and which wind blows"),
+        ("bytes 4", "word 2, \"4\": two hexadecimal digits make a byte, one is left over"),
+        ("bytes xy", "word 2, \"xy\": hexadecimal digits are needed"),
+    ] {
+        let text = format!("# an evening\n\nriichi 1\n{line}\n");
+        fails("tally -", &text, &format!("standard input, line 4, {message}"));
+    }
+}
+
+#[test]
+fn of_damage() {
+    fails("damage", "", "after word 1, \"damage\": what is to be damaged: hand and its notation, or log and its file");
+    fails("damage b8", "", "word 2, \"b8\": what is to be damaged: hand and its notation, or log and its file");
+    fails("damage hand b8 random=x", "", "word 4, \"random=x\": a number of changes, such as 1000, is needed");
+    fails("damage hand b8 seed=2", "", "word 4, \"seed=2\": random=N, the number of changes, is missing");
+}

@@ -1,0 +1,143 @@
+//! What a log covers, counted by walking it with a fresh game (01, The game; Log).
+
+use crate::booking::Booking;
+use crate::codec::read;
+use crate::cover::Cover;
+use crate::game::{book, is_ready, Game};
+use crate::log::{bookings, letter};
+use crate::record::RON;
+use crate::score::score;
+
+const SEATS: [&str; 2] = ["child", "dealer"];
+
+/// The names of all counts and the labels that must be reached.
+fn expected() -> Cover {
+    let mut cover = Cover::default();
+    cover.expect("accepted", &["R", "W", "D", "C"]);
+    cover.expect("refused", &["R", "W", "D", "C"]);
+    cover.expect("refusal", &["2", "3", "4", "5", "6", "7", "8", "9", "10", "11", "12", "14"]);
+    cover.expect("refused after the end", &["R 8", "R 9", "W 9", "D 9", "C 8", "C 9"]);
+    cover.expect("refusal 11", &["field without riichi", "riichi without field"]);
+    cover.expect("win", &["tsumo dealer", "tsumo child", "ron dealer", "ron child"]);
+    cover.expect("win with sticks", &["none", "this hand's", "older"]);
+    cover.expect_numbers("win riichi field", 0, 2);
+    cover.expect_numbers("win situation", 0, 4);
+    cover.expect_numbers("win melds", 0, 4);
+    cover.expect("win meld kind", &["chi", "pon", "open kan", "closed kan"]);
+    cover.expect("win h", &["1-4", "5", "6-7", "8-10", "11 up", "yakuman"]);
+    cover.expect_numbers("win yaku", 1, 36);
+    cover.expect_numbers("draw ready", 0, 4);
+    cover.expect("draw with sticks", &["none", "this hand's", "older"]);
+    cover.expect_numbers("chombo declared", 0, 4);
+    cover.expect("chombo by", &["dealer", "child", "declared seat", "other seat"]);
+    cover.expect("chombo with older sticks", &["yes"]);
+    cover.expect("deal repeats by", &["W", "D", "C"]);
+    cover.expect("deal passes by", &["W", "D"]);
+    cover.expect("wind turns South", &["yes"]);
+    cover.expect("over", &["yes"]);
+    cover.expect("sticks left at the end", &["yes"]);
+    cover.expect("score under 0", &["yes"]);
+    cover
+}
+
+/// Where the sticks of a game come from.
+fn sticks(game: &Game) -> &'static str {
+    let declared = game.declared.iter().filter(|&&seat| seat).count() as u32;
+    match game.sticks {
+        0 => "none",
+        n if n == declared => "this hand's",
+        _ => "older",
+    }
+}
+
+/// Counts an accepted win.
+fn note_win(cover: &mut Cover, before: &Game, record: &[u8]) {
+    let hand = read(record).expect("an accepted win");
+    let scored = score(record, before.dealer, before.wind);
+    let how = if hand.how == RON { "ron" } else { "tsumo" };
+    cover.add("win", format!("{how} {}", SEATS[(hand.winner == before.dealer) as usize]));
+    cover.add("win with sticks", sticks(before));
+    cover.add("win riichi field", hand.riichi);
+    cover.add("win situation", hand.situation);
+    cover.add("win melds", hand.m);
+    for meld in hand.melds() {
+        cover.add("win meld kind", ["chi", "pon", "open kan", "closed kan"][meld.kind as usize]);
+    }
+    cover.add("win h", match scored.h {
+        0 => "yakuman",
+        1..=4 => "1-4",
+        5 => "5",
+        6..=7 => "6-7",
+        8..=10 => "8-10",
+        _ => "11 up",
+    });
+    for n in (1..=36).filter(|n| scored.yaku >> n & 1 == 1) {
+        cover.add("win yaku", n);
+    }
+}
+
+/// Counts an accepted draw.
+fn note_draw(cover: &mut Cover, before: &Game, bits: u8) {
+    cover.add("draw ready", (0..4).filter(|&seat| is_ready(bits, seat)).count());
+    cover.add("draw with sticks", sticks(before));
+}
+
+/// Counts an accepted chombo.
+fn note_chombo(cover: &mut Cover, before: &Game, seat: u8) {
+    let declared = before.declared.iter().filter(|&&seat| seat).count();
+    cover.add("chombo declared", declared);
+    cover.add("chombo by", SEATS[(seat == before.dealer) as usize]);
+    let own = before.declared[seat as usize];
+    cover.add_if(declared > 0, "chombo by", if own { "declared seat" } else { "other seat" });
+    cover.add_if(before.sticks > declared as u32, "chombo with older sticks", "yes");
+}
+
+/// Counts what an accepted booking does to the deal.
+fn note_deal(cover: &mut Cover, before: &Game, after: &Game, letter: char) {
+    let south_3 = (before.dealer, before.wind) == (3, 1);
+    let stays = (before.dealer, before.wind) == (after.dealer, after.wind);
+    let ends = south_3 && after.over && after.hands < 200;
+    let section = if stays && !ends { "deal repeats by" } else { "deal passes by" };
+    cover.add_if(after.hands > before.hands, section, letter);
+    cover.add_if(before.wind < after.wind, "wind turns South", "yes");
+    cover.add_if(after.over, "over", "yes");
+    cover.add_if(after.over && after.sticks > 0, "sticks left at the end", "yes");
+    cover.add_if(after.scores.iter().any(|&score| score < 0), "score under 0", "yes");
+}
+
+/// Counts a refused booking.
+fn note_refused(cover: &mut Cover, before: &Game, booking: &Booking, refusal: u8) {
+    let letter = letter(booking);
+    cover.add("refused", letter);
+    cover.add("refusal", refusal);
+    cover.add_if(before.over, "refused after the end", format!("{letter} {refusal}"));
+    if let (Booking::Win(record), 11) = (booking, refusal) {
+        let field = read(record).is_ok_and(|hand| hand.riichi != 0);
+        cover.add("refusal 11", if field { "field without riichi" } else { "riichi without field" });
+    }
+}
+
+/// The entries, finished hands and counts of a log.
+pub fn survey(log: &[u8]) -> (usize, u8, Cover) {
+    let mut cover = expected();
+    let mut game = Game::fresh();
+    let (list, bad) = bookings(log);
+    for booking in &list {
+        let before = game;
+        let refusal = book(&mut game, booking);
+        if refusal != 0 {
+            note_refused(&mut cover, &before, booking, refusal);
+            continue;
+        }
+        cover.add("accepted", letter(booking));
+        match booking {
+            Booking::Riichi(_) => {}
+            Booking::Win(record) => note_win(&mut cover, &before, record),
+            Booking::Draw(bits) => note_draw(&mut cover, &before, *bits),
+            Booking::Chombo(seat) => note_chombo(&mut cover, &before, *seat),
+        }
+        note_deal(&mut cover, &before, &game, letter(booking));
+    }
+    cover.add_if(bad != 0, "refusal", bad);
+    (list.len(), game.hands, cover)
+}

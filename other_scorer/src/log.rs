@@ -1,0 +1,100 @@
+//! Walking a log, and the lines of program tally (01, Log).
+
+use crate::booking::Booking;
+use crate::codec::{length, meld_count};
+use crate::game::{book, Game};
+
+pub const RIICHI: u8 = 0;
+pub const WIN: u8 = 1;
+pub const DRAW: u8 = 2;
+pub const CHOMBO: u8 = 3;
+
+/// Program tally reads no bytes past this (01, Log).
+pub const LONGEST: usize = 65_536;
+
+/// What stands at an offset of a log; a bad entry carries its refusal, 14 (01, Next entry).
+#[derive(Clone, Copy, Debug, PartialEq, Eq)]
+pub enum Next<'a> {
+    Entry { kind: u8, argument: u8, part: &'a [u8] },
+    End,
+    Bad(u8),
+}
+
+/// The ways to meet refusal 14 in words, by the number that `size` gives (01, Next entry).
+pub const ENTRY_FAULTS: [&str; 4] = ["kind over 3", "win argument not 0", "m over 4", "bytes missing"];
+
+/// The length of the entry that a non-empty stretch starts with; the error is how it is bad (01, Next entry).
+pub fn size(rest: &[u8]) -> Result<usize, usize> {
+    let size = match (rest[0] >> 4, rest[0] & 15) {
+        (RIICHI | DRAW | CHOMBO, _) => 1,
+        (WIN, 0) => match meld_count(rest.get(1..5).ok_or(3usize)?) {
+            5.. => return Err(2),
+            m => 1 + length(m),
+        },
+        (WIN, _) => return Err(1),
+        _ => return Err(0),
+    };
+    if size <= rest.len() { Ok(size) } else { Err(3) }
+}
+
+/// The entry at an offset, that very part of the log, from its header on (01, Next entry).
+pub fn next(log: &[u8], offset: usize) -> Next<'_> {
+    let rest = log.get(offset..).unwrap_or_default();
+    if rest.is_empty() {
+        return Next::End;
+    }
+    match size(rest) {
+        Ok(size) => Next::Entry { kind: rest[0] >> 4, argument: rest[0] & 15, part: &rest[..size] },
+        Err(_) => Next::Bad(14),
+    }
+}
+
+/// The booking of an entry; a win's record follows the header (01, Log).
+pub fn booking(kind: u8, argument: u8, part: &[u8]) -> Booking {
+    match kind {
+        RIICHI => Booking::Riichi(argument),
+        WIN => Booking::Win(part[1..].to_vec()),
+        DRAW => Booking::Draw(argument),
+        _ => Booking::Chombo(argument),
+    }
+}
+
+/// All bookings of a log up to its end or a bad entry, and that entry's refusal, 0 if none (01, Log).
+pub fn bookings(log: &[u8]) -> (Vec<Booking>, u8) {
+    let mut list = Vec::new();
+    let mut offset = 0;
+    loop {
+        match next(log, offset) {
+            Next::Entry { kind, argument, part } => {
+                list.push(booking(kind, argument, part));
+                offset += part.len();
+            }
+            Next::End => return (list, 0),
+            Next::Bad(number) => return (list, number),
+        }
+    }
+}
+
+/// The letter of a booking (01, Log).
+pub fn letter(booking: &Booking) -> char {
+    match booking {
+        Booking::Riichi(_) => 'R',
+        Booking::Win(_) => 'W',
+        Booking::Draw(_) => 'D',
+        Booking::Chombo(_) => 'C',
+    }
+}
+
+/// What program tally prints for a log on standard input (01, Log).
+pub fn tally_lines(log: &[u8]) -> String {
+    let (list, _) = bookings(&log[..log.len().min(LONGEST)]);
+    let mut game = Game::fresh();
+    let mut lines = String::new();
+    for (at, booking) in list.iter().enumerate() {
+        let refusal = book(&mut game, booking);
+        let [a, b, c, d] = game.scores;
+        let (entry, letter, sticks) = (at + 1, letter(booking), game.sticks);
+        lines += &format!("{entry} {letter} {refusal} {a} {b} {c} {d} {sticks}\n");
+    }
+    lines
+}

@@ -1,0 +1,137 @@
+//! Score: every reading valued, the best reported (01, Score).
+
+use crate::reading::{readings, Reading};
+use crate::codec::read;
+use crate::record::Hand;
+use crate::shape::Shape;
+use crate::win::Win;
+use crate::{fu, points, yaku, yakuman};
+
+#[derive(Clone, Copy, Debug, Default, PartialEq, Eq)]
+pub struct Scored {
+    pub refusal: u8,
+    pub h: u8,
+    pub fu: u8,
+    pub yaku: u64,
+    pub changes: [i32; 4],
+    /// The number of readings, for statistics only; the document has no such result.
+    pub readings: usize,
+}
+
+/// What one reading with a yaku is worth.
+#[derive(Clone, Copy, Debug, PartialEq, Eq)]
+pub struct Value {
+    pub gain: i32,
+    pub h: u8,
+    pub fu: u8,
+    pub yaku: u64,
+    pub changes: [i32; 4],
+    /// The han of each yaku at its number, 0 for a yakuman, and the items of fu.
+    pub han: [u8; 37],
+    pub items: fu::Items,
+}
+
+/// A reading and its value; no value where it has no yaku.
+pub type Valued = (Reading, Option<Value>);
+
+/// The four changes for an amount A (01, Fu and points).
+fn changes(win: &Win, a: u32) -> [i32; 4] {
+    let hand = &win.hand;
+    if win.ron {
+        points::ron(a, hand.winner, hand.discarder, win.dealer)
+    } else {
+        points::tsumo(a, hand.winner, win.dealer)
+    }
+}
+
+/// A value from the yaku with their han, the items of fu, h and A (01, Fu and points).
+fn value(win: &Win, list: &[yaku::Yaku], items: fu::Items, h: u8, a: u32) -> Value {
+    let changes = changes(win, a);
+    let mut han = [0; 37];
+    list.iter().for_each(|&(n, of)| han[n as usize] = of);
+    let yaku = list.iter().fold(0, |set, (n, _)| set | 1 << n);
+    Value { gain: changes[win.hand.winner as usize], h, fu: items.total(), yaku, changes, han, items }
+}
+
+/// The yakuman, the yaku with their han, and the items of fu of one reading (01, Yaku; Fu and points).
+fn parts(win: &Win, reading: &Reading) -> (Vec<u8>, Vec<yaku::Yaku>, fu::Items) {
+    let mut yakuman = yakuman::of_winning(win);
+    let mut yaku = yaku::of_winning(win);
+    let fu = match reading {
+        Reading::Regular { pair, groups, place } => {
+            let shape = Shape::new(win, *pair, groups, *place);
+            yakuman.extend(yakuman::of_kinds(win));
+            yakuman.extend(yakuman::of_shape(win, &shape));
+            yaku.extend(yaku::of_kinds(win));
+            yaku.extend(yaku::of_shape(win, &shape));
+            fu::regular(win, &shape)
+        }
+        Reading::SevenPairs => {
+            yakuman.extend(yakuman::of_kinds(win));
+            yaku.extend(yaku::of_kinds(win));
+            yaku.push((12, 2));
+            fu::SEVEN_PAIRS
+        }
+        Reading::ThirteenOrphans => {
+            yakuman.push(36);
+            fu::Items::default()
+        }
+    };
+    (yakuman, yaku, fu)
+}
+
+/// The value of one reading; with a yakuman only yakuman count (01, Yaku; Fu and points).
+pub fn appraise(win: &Win, reading: &Reading) -> Option<Value> {
+    let (yakuman, yaku, items) = parts(win, reading);
+    if !yakuman.is_empty() {
+        let list: Vec<yaku::Yaku> = yakuman.into_iter().map(|n| (n, 0)).collect();
+        return Some(value(win, &list, fu::Items::default(), 0, points::YAKUMAN));
+    }
+    if yaku.is_empty() {
+        return None;
+    }
+    let h = yaku.iter().map(|(_, han)| han).sum::<u8>() + win.dora();
+    Some(value(win, &yaku, items, h, points::basic(h, items.total())))
+}
+
+/// All readings of a sound hand in order, each with its value (01, Readings).
+pub fn valued(hand: &Hand, dealer: u8, wind: u8) -> Vec<Valued> {
+    let win = Win::new(hand, dealer, wind);
+    let all = readings(hand.concealed(), hand.winning);
+    all.into_iter().map(|reading| {
+        let value = appraise(&win, &reading);
+        (reading, value)
+    }).collect()
+}
+
+/// The place in the list of the first reading with the highest gain, then h, then fu (01, Readings).
+pub fn best(all: &[Valued]) -> Option<usize> {
+    let rank = |value: &Value| (value.gain, value.h, value.fu);
+    let top = all.iter().filter_map(|(_, value)| value.as_ref().map(rank)).max()?;
+    all.iter().position(|(_, value)| value.as_ref().map(rank) == Some(top))
+}
+
+/// A refused score: its number, all else zero (01, Score).
+fn refused(refusal: u8) -> Scored {
+    Scored { refusal, ..Scored::default() }
+}
+
+/// Scores a record for a dealer and round wind (01, Score).
+pub fn score(record: &[u8], dealer: u8, wind: u8) -> Scored {
+    if dealer > 3 || wind > 1 {
+        return refused(8);
+    }
+    let hand = match read(record) {
+        Ok(hand) => hand,
+        Err(number) => return refused(number),
+    };
+    let all = valued(&hand, dealer, wind);
+    if all.is_empty() {
+        return refused(6);
+    }
+    let Some(value) = best(&all).and_then(|at| all[at].1) else {
+        return Scored { readings: all.len(), ..refused(7) };
+    };
+    let Value { h, fu, yaku, changes, .. } = value;
+    Scored { refusal: 0, h, fu, yaku, changes, readings: all.len() }
+}

@@ -1,0 +1,57 @@
+//! Random games for the tests.
+
+use other_scorer::game::FLOOR;
+use other_scorer::rng::Rng;
+use other_scorer::Game;
+
+/// A score from the floor up, often at one of a few values.
+fn score(rng: &mut Rng) -> i64 {
+    match rng.below(4) {
+        0 => FLOOR as i64,
+        1 => FLOOR as i64 + rng.below(60_000) as i64,
+        2 => 30_000,
+        _ => FLOOR as i64 + rng.below(39_200_001) as i64,
+    }
+}
+
+/// A random game in form, any of its fields at their ends now and then.
+pub fn in_form(rng: &mut Rng) -> Game {
+    loop {
+        let mut game = Game::fresh();
+        game.sticks = rng.pick(&[0, 1, 4, 5, 39_000]);
+        for seat in 0..4 {
+            game.declared[seat] = game.sticks > seat as u32 && rng.percent(30);
+        }
+        game.dealer = rng.within(0, 3);
+        game.wind = rng.within(0, 1);
+        let any = rng.within(0, 200);
+        game.hands = rng.pick(&[0, 198, 199, 200, any]);
+        game.over = rng.percent(3);
+        let seats = [score(rng), score(rng), score(rng)];
+        let last = 120_000 - 1000 * game.sticks as i64 - seats.iter().sum::<i64>();
+        if last >= FLOOR as i64 {
+            game.scores = [seats[0] as i32, seats[1] as i32, seats[2] as i32, last as i32];
+            game.scores.rotate_left(rng.below(4));
+            return game;
+        }
+    }
+}
+
+/// A game with one field in random disorder.
+pub fn disturbed(rng: &mut Rng) -> Game {
+    let mut game = in_form(rng);
+    let seat = rng.below(4);
+    match rng.below(7) {
+        0 => game.dealer = rng.within(4, 255),
+        1 => game.wind = rng.within(2, 255),
+        2 => game.hands = rng.within(200, 255),
+        3 => game.scores[seat] = game.scores[seat].wrapping_add(rng.within(1, 255) as i32),
+        4 => game.sticks = game.sticks.wrapping_add(rng.pick(&[1, u32::MAX])),
+        5 => game.declared = [true; 4],
+        _ => {
+            game.scores = [(); 4].map(|_| rng.pick(&[i32::MIN, i32::MAX, FLOOR - 1, FLOOR + 1]));
+            game.sticks = rng.pick(&[0, u32::MAX]);
+        }
+    }
+    game
+}

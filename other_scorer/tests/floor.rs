@@ -1,0 +1,71 @@
+//! The lowest score a fresh game can reach (01, The game).
+
+mod chance;
+
+use other_scorer::codec::pack;
+use other_scorer::game::{book, FLOOR};
+use other_scorer::notation::parse;
+use other_scorer::points::{basic, ron, tsumo, YAKUMAN};
+use other_scorer::rng::Rng;
+use other_scorer::{Booking, Game};
+
+/// The dealer's thirteen orphans by ron from seat 1, without riichi: seat 1 pays 48,000.
+fn yakuman() -> Booking {
+    let hand = parse(&["19m19p19s1234677z+5z", "seat=0", "ron=1"]);
+    Booking::Win(pack(&hand.expect("a hand")))
+}
+
+#[test]
+fn the_worst_list_reaches_the_floor() {
+    let win = yakuman();
+    let mut game = Game::fresh();
+    for hand in 1..=200 {
+        assert_eq!(book(&mut game, &Booking::Riichi(1)), 0);
+        assert_eq!(game.scores[1], 30_000 - 49_000 * (hand - 1) - 1000);
+        assert_eq!(book(&mut game, &win), 0);
+        assert_eq!(game.scores[1], 30_000 - 49_000 * hand);
+        assert_eq!(game.total(), 120_000);
+    }
+    assert_eq!(game.scores, [30_000 + 9_800_000, FLOOR, 30_000, 30_000]);
+    assert_eq!((game.hands, game.over, game.dealer, game.wind, game.sticks), (200, true, 0, 0, 0));
+    for booking in [Booking::Riichi(1), win, Booking::Draw(8), Booking::Chombo(1)] {
+        let before = game;
+        assert_eq!(book(&mut game, &booking), 9);
+        assert_eq!(game, before);
+    }
+}
+
+#[test]
+fn no_payment_is_over_48_000() {
+    let amounts = (0..=255).flat_map(|h| (0..=255).map(move |fu| basic(h, fu))).chain([YAKUMAN]);
+    let mut lowest = 0;
+    for a in amounts {
+        for dealer in 0..4 {
+            lowest = lowest.min(*ron(a, 0, 1, dealer).iter().min().expect("four"));
+            lowest = lowest.min(*tsumo(a, 0, dealer).iter().min().expect("four"));
+        }
+    }
+    assert_eq!(lowest, -48_000);
+}
+
+#[test]
+fn no_list_undercuts_the_floor() {
+    let mut rng = Rng::new(31);
+    let win = yakuman();
+    for _ in 0..150 {
+        let mut game = Game::fresh();
+        for _ in 0..500 {
+            let booking = match rng.below(10) {
+                0..=3 => win.clone(),
+                4..=6 => Booking::Riichi(1),
+                _ => chance::booking(&mut rng, &game, true),
+            };
+            book(&mut game, &booking);
+            for (&score, &declared) in game.scores.iter().zip(&game.declared) {
+                let hands = game.hands as i32;
+                assert!(score >= 30_000 - 49_000 * hands - 1000 * declared as i32);
+                assert!(score >= FLOOR);
+            }
+        }
+    }
+}

@@ -1,0 +1,247 @@
+//! The four bookings: refusals in their order, points, deal, wind and mark (01, The game).
+
+use other_scorer::codec::pack;
+use other_scorer::game::{book, chombo, draw, riichi, win, FLOOR};
+use other_scorer::notation::parse;
+use other_scorer::{Booking, Game};
+
+/// A record from notation.
+fn record(words: &[&str]) -> Vec<u8> {
+    pack(&parse(words).expect("notation"))
+}
+
+/// The first hand of document 01's table, won by a seat from another, with more words.
+fn pinfu(seat: u8, from: u8, more: &[&str]) -> Vec<u8> {
+    let (seat, ron) = (format!("seat={seat}"), format!("ron={from}"));
+    record(&[&["234567m345p67s22s+8s", &seat[..], &ron[..]], more].concat())
+}
+
+/// Records that Score refuses with 1 to 7, in this order.
+fn refused() -> Vec<Vec<u8>> {
+    let sound = pinfu(1, 3, &[]);
+    let mut field = sound.clone();
+    field[0] |= 0b110;
+    let mut descends = sound.clone();
+    descends[3] |= 0b0011_0000;
+    vec![
+        sound[..12].to_vec(),
+        field,
+        descends,
+        record(&["2222345m345p67s2m+8s", "seat=1", "ron=3"]),
+        pinfu(1, 3, &["rinshan"]),
+        record(&["1111m44m77m22p55p8p+8p", "seat=1", "ron=3"]),
+        record(&["456p78s234s99p+9s", "chi=123m", "seat=1", "ron=3"]),
+    ]
+}
+
+/// Books on a copy, and checks that a refused booking changes nothing.
+fn number(game: &Game, booking: Booking) -> u8 {
+    let mut after = *game;
+    let number = book(&mut after, &booking);
+    assert_eq!(number != 0, after == *game);
+    number
+}
+
+/// Each way for a game not to be open (01, The game, refusal 9).
+fn not_open() -> Vec<Game> {
+    let fresh = Game::fresh();
+    vec![
+        Game { over: true, ..fresh },
+        Game { hands: 200, ..fresh },
+        Game { dealer: 4, ..fresh },
+        Game { dealer: 255, ..fresh },
+        Game { wind: 2, ..fresh },
+        Game { hands: 201, ..fresh },
+        Game { hands: 255, ..fresh },
+        Game { declared: [true, false, false, false], ..fresh },
+        Game { declared: [true; 4], sticks: 3, scores: [27_000, 30_000, 30_000, 30_000], ..fresh },
+        Game { scores: [FLOOR - 1, 9_860_001, 30_000, 0], ..fresh },
+        Game { scores: [30_000, 30_000, 30_000, 30_001], ..fresh },
+        Game { scores: [29_000, 30_000, 30_000, 30_000], ..fresh },
+        Game { sticks: 1, ..fresh },
+        Game { scores: [i32::MAX; 4], sticks: u32::MAX, declared: [true; 4], ..fresh },
+        Game { scores: [i32::MIN; 4], sticks: u32::MAX, hands: 255, ..fresh },
+    ]
+}
+
+#[test]
+fn fresh_is_open_and_the_floor_itself_is_in_form() {
+    let fresh = Game::fresh();
+    assert!(fresh.is_open());
+    assert!(Game { scores: [FLOOR, 9_860_000, 30_000, 0], ..fresh }.is_open());
+    assert!(Game { hands: 199, dealer: 3, wind: 1, ..fresh }.is_open());
+    let most = Game { scores: [FLOOR; 4], sticks: 39_200, declared: [true; 4], ..fresh };
+    assert!(most.is_open());
+    assert!(not_open().iter().all(|game| !game.is_open()));
+}
+
+#[test]
+fn refusals_1_to_7_are_met_one_by_one() {
+    let numbers: Vec<u8> =
+        refused().into_iter().map(|record| number(&Game::fresh(), Booking::Win(record))).collect();
+    assert_eq!(numbers, vec![1, 2, 3, 4, 5, 6, 7]);
+}
+
+#[test]
+fn riichi_refuses_8_9_10() {
+    for game in not_open() {
+        assert_eq!(number(&game, Booking::Riichi(4)), 8);
+        assert_eq!(number(&game, Booking::Riichi(255)), 8);
+        assert_eq!(number(&game, Booking::Riichi(0)), 9);
+    }
+    let declared = Game { over: true, ..after(&[Booking::Riichi(2)]) };
+    assert_eq!(number(&declared, Booking::Riichi(2)), 9);
+    let open = Game { over: false, ..declared };
+    assert_eq!(number(&open, Booking::Riichi(2)), 10);
+    assert_eq!(number(&open, Booking::Riichi(4)), 8);
+    assert_eq!(number(&open, Booking::Riichi(3)), 0);
+}
+
+#[test]
+fn win_refuses_9_then_1_to_7_then_11() {
+    for game in not_open() {
+        for record in refused() {
+            assert_eq!(number(&game, Booking::Win(record)), 9);
+        }
+        assert_eq!(number(&game, Booking::Win(vec![])), 9);
+        assert_eq!(number(&game, Booking::Win(pinfu(1, 3, &["riichi"]))), 9);
+    }
+    // The refused records carry no riichi field, so with seat 1 declared each meets 11 too.
+    let declared = after(&[Booking::Riichi(1)]);
+    for (at, record) in refused().into_iter().enumerate() {
+        assert_eq!(number(&declared, Booking::Win(record)), at as u8 + 1);
+    }
+    assert_eq!(number(&declared, Booking::Win(pinfu(1, 3, &[]))), 11);
+    assert_eq!(number(&declared, Booking::Win(pinfu(1, 3, &["riichi"]))), 0);
+    assert_eq!(number(&declared, Booking::Win(pinfu(1, 3, &["double"]))), 0);
+    assert_eq!(number(&declared, Booking::Win(pinfu(2, 3, &[]))), 0);
+    assert_eq!(number(&declared, Booking::Win(pinfu(2, 1, &["riichi"]))), 11);
+    assert_eq!(number(&Game::fresh(), Booking::Win(pinfu(1, 3, &["double"]))), 11);
+}
+
+#[test]
+fn draw_refuses_8_9_12() {
+    let declared = after(&[Booking::Riichi(1)]);
+    for game in not_open().into_iter().chain([Game { over: true, ..declared }]) {
+        assert_eq!(number(&game, Booking::Draw(16)), 8);
+        assert_eq!(number(&game, Booking::Draw(255)), 8);
+        assert_eq!(number(&game, Booking::Draw(0)), 9);
+    }
+    for bits in 0..16 {
+        let ready = bits & 0b0100 != 0;
+        assert_eq!(number(&declared, Booking::Draw(bits)), if ready { 0 } else { 12 });
+    }
+    assert_eq!(number(&declared, Booking::Draw(16)), 8);
+}
+
+#[test]
+fn chombo_refuses_8_9() {
+    for game in not_open() {
+        assert_eq!(number(&game, Booking::Chombo(4)), 8);
+        assert_eq!(number(&game, Booking::Chombo(3)), 9);
+    }
+    assert_eq!(number(&Game::fresh(), Booking::Chombo(3)), 0);
+}
+
+/// A fresh game after bookings that are all accepted.
+fn after(list: &[Booking]) -> Game {
+    let mut game = Game::fresh();
+    for booking in list {
+        assert_eq!(book(&mut game, booking), 0, "{booking:?}");
+    }
+    game
+}
+
+#[test]
+fn a_win_takes_all_sticks() {
+    let start = [Booking::Riichi(0), Booking::Draw(8), Booking::Riichi(1), Booking::Riichi(2)];
+    let mut game = after(&start);
+    assert_eq!((game.scores, game.sticks), ([32_000, 28_000, 28_000, 29_000], 3));
+    assert_eq!(game.declared, [false, true, true, false]);
+    assert_eq!(win(&mut game, &pinfu(1, 3, &["riichi"])), 0);
+    assert_eq!((game.scores, game.sticks), ([32_000, 34_900, 28_000, 25_100], 0));
+    assert_eq!((game.declared, game.dealer, game.hands), ([false; 4], 1, 2));
+}
+
+#[test]
+fn draws_pay_3_000_in_all() {
+    for (bits, scores) in [
+        (0b0000, [30_000, 30_000, 30_000, 30_000]),
+        (0b1000, [33_000, 29_000, 29_000, 29_000]),
+        (0b0001, [29_000, 29_000, 29_000, 33_000]),
+        (0b0110, [28_500, 31_500, 31_500, 28_500]),
+        (0b1101, [31_000, 31_000, 27_000, 31_000]),
+        (0b1111, [30_000, 30_000, 30_000, 30_000]),
+    ] {
+        let mut game = Game::fresh();
+        assert_eq!(draw(&mut game, bits), 0);
+        assert_eq!((game.scores, game.hands), (scores, 1));
+        assert_eq!(game.dealer, if bits & 8 == 8 { 0 } else { 1 });
+    }
+}
+
+#[test]
+fn a_chombo_gives_back_only_this_hands_sticks() {
+    let older = [Booking::Riichi(3), Booking::Draw(1)];
+    let mut game = after(&older);
+    assert_eq!((game.scores, game.sticks, game.dealer), ([29_000, 29_000, 29_000, 32_000], 1, 1));
+    assert_eq!((riichi(&mut game, 0), riichi(&mut game, 2)), (0, 0));
+    assert_eq!(chombo(&mut game, 2), 0);
+    assert_eq!((game.scores, game.sticks), ([32_000, 32_000, 20_000, 35_000], 1));
+    assert_eq!((game.declared, game.dealer, game.hands), ([false; 4], 1, 2));
+}
+
+#[test]
+fn the_deal_passes_eight_times() {
+    let mut game = Game::fresh();
+    let mut deals = Vec::new();
+    while !game.over {
+        deals.push((game.dealer, game.wind));
+        let dealer = game.dealer;
+        for keep in [8 >> dealer, 15] {
+            assert_eq!(draw(&mut game, keep), 0);
+        }
+        assert_eq!(chombo(&mut game, dealer), 0);
+        assert_eq!(draw(&mut game, 0), 0);
+    }
+    assert_eq!(deals, [(0, 0), (1, 0), (2, 0), (3, 0), (0, 1), (1, 1), (2, 1), (3, 1)]);
+    assert_eq!((game.dealer, game.wind, game.hands), (3, 1, 32));
+}
+
+#[test]
+fn the_200th_hand_ends_the_game_and_the_deal_passes_as_usual() {
+    for (dealer, wind, next) in [(1, 0, (2, 0)), (3, 0, (0, 1)), (3, 1, (3, 1))] {
+        let start = Game { dealer, wind, hands: 199, ..Game::fresh() };
+        let mut game = start;
+        assert_eq!((riichi(&mut game, 0), game.over), (0, false));
+        assert_eq!(chombo(&mut game, 0), 0);
+        assert_eq!((game.over, game.hands, game.dealer, game.wind), (true, 200, dealer, wind));
+        let mut game = start;
+        assert_eq!(draw(&mut game, 0), 0);
+        assert_eq!((game.over, game.hands, (game.dealer, game.wind)), (true, 200, next));
+        let mut game = start;
+        let child = (dealer + 1) % 4;
+        assert_eq!(win(&mut game, &pinfu(child, (child + 1) % 4, &[])), 0);
+        assert_eq!((game.over, game.hands, (game.dealer, game.wind)), (true, 200, next));
+        assert_eq!(draw(&mut game, 0), 9);
+    }
+}
+
+#[test]
+fn sticks_left_at_the_end_stay() {
+    let mut game = Game { dealer: 3, wind: 1, ..Game::fresh() };
+    assert_eq!((riichi(&mut game, 0), draw(&mut game, 8)), (0, 0));
+    assert_eq!((game.over, game.sticks, game.scores), (true, 1, [32_000, 29_000, 29_000, 29_000]));
+}
+
+#[test]
+fn a_game_may_be_at_the_ends_of_its_range() {
+    let most = Game { scores: [FLOOR; 4], sticks: 39_200, ..Game::fresh() };
+    let mut game = most;
+    assert_eq!(win(&mut game, &pinfu(1, 3, &[])), 0);
+    assert_eq!(game.scores, [FLOOR, FLOOR + 39_200_000 + 2000, FLOOR, FLOOR - 2000]);
+    assert_eq!(riichi(&mut game, 1), 9);
+    let mut game = most;
+    assert_eq!(riichi(&mut game, 0), 0);
+    assert_eq!((game.scores[0], game.sticks, game.is_open()), (FLOOR - 1000, 39_201, false));
+}

@@ -1,0 +1,91 @@
+//! The game against the ledger over random lists of bookings (01, Ledger).
+
+mod chance;
+#[path = "chance/games.rs"]
+mod games;
+
+use other_scorer::game::book;
+use other_scorer::rng::Rng;
+use other_scorer::{Booking, Game, Ledger};
+
+/// A ledger with the fields of a game.
+fn ledger(game: &Game) -> Ledger {
+    Ledger {
+        scores: game.scores.map(i64::from),
+        sticks: game.sticks as i64,
+        declared: (0..4).filter(|&seat| game.declared[seat as usize]).collect(),
+        dealer: game.dealer,
+        wind: game.wind,
+        hands: game.hands as u32,
+        over: game.over,
+    }
+}
+
+/// What the lists have reached.
+#[derive(Default)]
+struct Reached {
+    bookings: usize,
+    numbers: [usize; 13],
+    by_deal: usize,
+    by_hands: usize,
+}
+
+/// Books a random list on a game and on a ledger, comparing after each booking.
+fn compare(rng: &mut Rng, start: Game, length: usize, keep: bool, reached: &mut Reached) {
+    let (mut game, mut kept) = (start, ledger(&start));
+    let was_fresh = start == Game::fresh();
+    let mut list: Vec<Booking> = Vec::new();
+    for _ in 0..length {
+        let booking = chance::booking(rng, &game, keep);
+        let before = game;
+        let number = book(&mut game, &booking);
+        let (next, expected) = kept.after(&booking);
+        assert_eq!(number, expected, "{booking:?} on {before:?}");
+        assert_eq!(ledger(&game), next, "{booking:?} on {before:?}");
+        if number != 0 {
+            assert_eq!(game, before);
+        }
+        if number == 0 || was_fresh {
+            assert_eq!(game.total(), 120_000);
+        }
+        reached.bookings += 1;
+        reached.numbers[number as usize] += 1;
+        if game.over && !before.over {
+            let which = if game.hands == 200 { &mut reached.by_hands } else { &mut reached.by_deal };
+            *which += 1;
+        }
+        kept = next;
+        list.push(booking);
+    }
+    if was_fresh {
+        assert_eq!(Ledger::of(&list).0, ledger(&game));
+    }
+}
+
+#[test]
+fn fresh_games() {
+    let mut rng = Rng::new(21);
+    let mut reached = Reached::default();
+    while reached.bookings < 150_000 {
+        let keep = rng.percent(40);
+        let length = if keep { 700 } else { 60 };
+        compare(&mut rng, Game::fresh(), length, keep, &mut reached);
+    }
+    let missing: Vec<usize> = (0..13).filter(|&n| reached.numbers[n] == 0).collect();
+    assert_eq!(missing, vec![0; 0], "refusals not reached");
+    assert!(reached.by_deal > 100 && reached.by_hands > 20);
+}
+
+#[test]
+fn games_of_any_value() {
+    let mut rng = Rng::new(22);
+    let mut reached = Reached::default();
+    while reached.bookings < 150_000 {
+        let kind = if rng.percent(80) { games::in_form } else { games::disturbed };
+        let start = kind(&mut rng);
+        let (length, keep) = (1 + rng.below(8), rng.percent(50));
+        compare(&mut rng, start, length, keep, &mut reached);
+    }
+    assert!(reached.numbers.iter().all(|&count| count > 20), "{:?}", reached.numbers);
+    assert!(reached.by_deal > 100 && reached.by_hands > 100);
+}

@@ -1,0 +1,118 @@
+//! Walking a log and the lines of program tally (01, Log).
+
+use other_scorer::booking::Booking;
+use other_scorer::codec::pack;
+use other_scorer::deal::themed;
+use other_scorer::example::{example, survey::survey, End};
+use other_scorer::log::{bookings, next, tally_lines, Next, LONGEST, WIN};
+use other_scorer::rng::Rng;
+use other_scorer::Ledger;
+
+#[test]
+fn the_papers_example() {
+    let lines = "1 R 0 30000 29000 30000 30000 1\n2 D 0 29000 32000 29000 29000 1\n";
+    assert_eq!(tally_lines(&[0x01, 0x24]), lines);
+    assert_eq!(tally_lines(&[]), "");
+}
+
+#[test]
+fn entries_are_parts_of_the_log() {
+    let log = [0x03, 0x2F, 0x3E];
+    for (at, kind, argument) in [(0, 0, 3), (1, 2, 15), (2, 3, 14)] {
+        let Next::Entry { kind: k, argument: a, part } = next(&log, at) else { panic!("an entry") };
+        assert_eq!((k, a), (kind, argument));
+        assert!(std::ptr::eq(part, &log[at..at + 1]));
+    }
+    for offset in [3, 4, usize::MAX] {
+        assert_eq!(next(&log, offset), Next::End);
+    }
+    assert_eq!(next(&[], 0), Next::End);
+}
+
+#[test]
+fn wins_of_every_length_and_every_cut() {
+    let mut rng = Rng::new(41);
+    let mut seen = [false; 5];
+    while seen.contains(&false) {
+        let hand = themed(&mut rng);
+        seen[hand.m as usize] = true;
+        let entry = Booking::Win(pack(&hand)).bytes();
+        let log = [&[0x00], entry.as_slice(), &[0x30]].concat();
+        let whole = Next::Entry { kind: WIN, argument: 0, part: &entry };
+        assert_eq!(next(&log, 1), whole);
+        assert_eq!(bookings(&log).0[1], Booking::Win(pack(&hand)));
+        for end in 2..entry.len() + 1 {
+            assert_eq!(next(&log[..end], 1), Next::Bad(14));
+            assert_eq!(tally_lines(&log[..end]).lines().count(), 1);
+        }
+        assert_eq!(next(&log[..entry.len() + 1], 1), whole);
+    }
+}
+
+#[test]
+fn bad_headers_and_melds() {
+    for header in 0..=255u8 {
+        let mut log = [0; 20];
+        log[0] = header;
+        let bad = header >> 4 > 3 || header >> 4 == 1 && header & 15 != 0;
+        assert_eq!(next(&log, 0) == Next::Bad(14), bad, "{header:02x}");
+    }
+    for m in 0..8u8 {
+        let mut log = [0xFF; 20];
+        log[0] = 0x10;
+        log[3] = 0xFC | m >> 1;
+        log[4] = 0x7F | m << 7;
+        let size = [14, 13, 12, 11, 9].get(m as usize);
+        match (next(&log, 0), size) {
+            (Next::Entry { part, .. }, Some(&size)) => assert_eq!(part.len(), size),
+            (other, _) => assert_eq!((other, m > 4), (Next::Bad(14), true)),
+        }
+    }
+}
+
+#[test]
+fn tally_stops_at_14_without_a_line() {
+    let lines = tally_lines(&[0x00, 0x40, 0x00]);
+    assert_eq!(lines, "1 R 0 29000 30000 30000 30000 1\n");
+}
+
+#[test]
+fn tally_reads_65_536_bytes() {
+    let log = vec![0x04; LONGEST + 10];
+    let lines = tally_lines(&log);
+    assert_eq!(lines.lines().count(), LONGEST);
+    assert!(lines.ends_with("65536 R 8 30000 30000 30000 30000 0\n"));
+    let mut cut = vec![0x04; LONGEST - 1];
+    cut.extend(Booking::Win(pack(&themed(&mut Rng::new(1)))).bytes());
+    assert_eq!(tally_lines(&cut).lines().count(), LONGEST - 1);
+}
+
+#[test]
+fn minus_before_negatives() {
+    let lines = tally_lines(&[0x30; 4]);
+    assert!(lines.ends_with("4 C 0 -6000 42000 42000 42000 0\n"));
+}
+
+#[test]
+fn examples_cover_everything_and_agree_with_the_ledger() {
+    for (seed, end) in (0..10).flat_map(|seed| [(seed, End::Deal), (seed, End::Hands)]) {
+        let log = example(seed, end);
+        assert_eq!(log, example(seed, end));
+        let (entries, hands, cover) = survey(&log);
+        assert_eq!(cover.short(1), vec![""; 0], "seed {seed}");
+        assert!((200..600).contains(&entries));
+        assert_eq!(hands == 200, end == End::Hands);
+        let (list, bad) = bookings(&log);
+        assert_eq!(bad, 14);
+        let mut ledger = Ledger::fresh();
+        let mut lines = String::new();
+        for (at, booking) in list.iter().enumerate() {
+            let (next, number) = ledger.after(booking);
+            let ([a, b, c, d], sticks) = (next.scores, next.sticks);
+            let letter = ['R', 'W', 'D', 'C'][(booking.bytes()[0] >> 4) as usize];
+            lines += &format!("{} {letter} {number} {a} {b} {c} {d} {sticks}\n", at + 1);
+            ledger = next;
+        }
+        assert_eq!(tally_lines(&log), lines);
+    }
+}
