@@ -6,10 +6,13 @@ ghost use lib.Dec.{eqb};
 ghost use Rattle.reading.specs.search.Readings.{placed, shaped};
 ghost use Rattle.reading.specs.search.Judged.{judged};
 ghost use Rattle.reading.specs.laws.Fold.{searched};
-ghost use Rattle.best.specs.Best.{joined as joinedOf, partsOf, worth as worthOf};
-ghost use Rattle.best.specs.search.Best.{beats as beatsOf, noneOf, judgeOf, bestOf, Ready};
+ghost use Rattle.best.specs.search.Setting.{joined as joinedOf, partsIn, worthIn, Ready};
+ghost use Rattle.best.specs.search.Best.{beats as beatsOf, noneOf, judgeOf, bestOf};
 use points::Seats;
 use reading::Reading;
+use units::Fu;
+use units::Han;
+use units::Points;
 use value::Value;
 use yaku::Parts;
 use yaku::TileTests;
@@ -52,7 +55,7 @@ fn joined(g: [u8; 4], c: [u8; 4]) -> [u8; 4]
 
 fn parts(t: Setting, r: Reading) -> Parts
     requires { ⌜ r .place ≤ 4 ⌝ }
-    ensures { λ p. ⌜ p ≡ partsOf t r ⌝ }
+    ensures { λ p. ⌜ p ≡ partsIn t r ⌝ }
 {
     let rg = r.groups;
     let mc = t.codes;
@@ -70,7 +73,7 @@ fn parts(t: Setting, r: Reading) -> Parts
 
 fn worth(t: Setting, r: Reading) -> Value
     requires { ⌜ Ready t × (r .place ≤ 4) ⌝ }
-    ensures { λ v. ⌜ v ≡ worthOf t r ⌝ }
+    ensures { λ v. ⌜ v ≡ worthIn t r ⌝ }
 {
     let w = t.won;
     let x = t.tests;
@@ -92,10 +95,10 @@ fn none() -> Best
     let y = [false; 37];
     let v = Value {
         yaku: y,
-        han: points::Han(0),
-        fu: points::Fu(0),
-        basic: points::Points(0),
-        gain: points::Points(0),
+        han: Han(0),
+        fu: Fu(0),
+        basic: Points(0),
+        gain: Points(0),
     };
     Best {
         seen: false,
@@ -107,7 +110,7 @@ fn none() -> Best
 // The better of what is kept and a reading; of equals what is kept.
 fn judge(t: Setting, b: Best, r: Reading) -> Best
     requires { ⌜ Ready t × (r .place ≤ 4) ⌝ }
-    ensures { λ x. ⌜ x ≡ judgeOf t b r ⌝ }
+    ensures { λ x. ⌜ x ≡ judgeOf (worthIn t) b r ⌝ }
 {
     let kept = b.value;
     let v = worth(t, r);
@@ -129,7 +132,7 @@ fn judge(t: Setting, b: Best, r: Reading) -> Best
 // Each place of a pair and groups that holds the winning kind.
 fn places(h: Setting, pair: u8, groups: [u8; 4], size: u8, win: u8, best: Best) -> Best
     requires { ⌜ Ready h × (size ≤ 4) ⌝ }
-    ensures { λ r. ⌜ r ≡ judged (judgeOf h) best (placed size win pair groups) ⌝ }
+    ensures { λ r. ⌜ r ≡ judged (judgeOf (worthIn h)) best (placed size win pair groups) ⌝ }
 {
     let mut b = best;
     let mut p: u8 = 0;
@@ -164,7 +167,7 @@ fn split(
     best: Best,
 ) -> Best
     requires { ⌜ Ready h × (left ≤ size) × (size ≤ 4) ⌝ }
-    ensures { λ r. ⌜ r ≡ searched (judgeOf h) size win pair so left code t best ⌝ }
+    ensures { λ r. ⌜ r ≡ searched (judgeOf (worthIn h)) size win pair so left code t best ⌝ }
 {
     if left == 0 {
         if reading::is_empty(t) {
@@ -201,7 +204,7 @@ fn split(
 // The forms without groups.
 fn shapes(h: Setting, t: [u8; 34], m: u8, best: Best) -> Best
     requires { ⌜ Ready h ⌝ }
-    ensures { λ r. ⌜ r ≡ judged (judgeOf h) best (shaped t m) ⌝ }
+    ensures { λ r. ⌜ r ≡ judged (judgeOf (worthIn h)) best (shaped t m) ⌝ }
 {
     if m != 0 {
         return best;
@@ -219,7 +222,7 @@ fn shapes(h: Setting, t: [u8; 34], m: u8, best: Best) -> Best
 // The best of every reading of the tally t with m melds, won by the kind win.
 pub fn best_of(h: Setting, t: [u8; 34], m: u8, win: u8) -> Best
     requires { ⌜ Ready h × (m ≤ 4) ⌝ }
-    ensures { λ r. ⌜ r ≡ bestOf h t m win ⌝ }
+    ensures { λ r. ⌜ r ≡ bestOf (worthIn h) t m win ⌝ }
 {
     let mut b = none();
     for k in 0..34 {

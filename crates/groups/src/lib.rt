@@ -1,11 +1,13 @@
-// The groups of a hand with its melds, and what the yaku and fu ask of them. Assumes nothing of the codes.
+// The groups of a hand with its melds, and what the yaku and fu ask of them, whatever the codes.
 ghost use mathlib.Core.Path.{_≡_};
 ghost use mathlib.Core.Bool.{cond};
 ghost use Prim.Native.Nat.{_<_, _≤_, _-_, _%_};
 ghost use lib.Dec.{ltb};
 ghost use lib.ListN.{getD};
-ghost use Rattle.groups.specs.Melds.{meldCode, meldWay, waysAt};
+ghost use Rattle.groups.specs.Melds.{meldCode, meldWay};
+ghost use Rattle.groups.specs.search.Ways.{waysAt};
 ghost use Rattle.groups.specs.Tests.{has as hasOf, isValue, dragons as dragonsOf, winds as windsOf, littleDragons, valueHan, earnsWait, pinfu as pinfuOf, twins as twinsOf, inThreeAt, inThreeSuits, straight as straightOf, touches as touchesOf, outside as outsideOf, triplets as tripletsOf, isConcealed, concealed as concealedOf, kans as kansOf, fourWinds};
+use units::Han;
 
 // The group of a meld byte, 64 * kind + tile.
 pub fn meld_code(meld: u8) -> u8
@@ -79,15 +81,19 @@ pub fn little_dragons(g: [u8; 4], pair: u8) -> bool
     (dragons(g) == 2) & ((31 <= pair) & (pair <= 33))
 }
 
-// What yaku 3 counts; `little` is yaku 24.
-pub fn value_han(g: [u8; 4], round: u8, own: u8, little: bool) -> u8
+// The han that yaku 3 counts: 1 for each triplet of dragons, of the round wind, of the own wind. `little` is yaku 24.
+pub fn value_han(g: [u8; 4], round: u8, own: u8, little: bool) -> Han
     requires { ⌜ (round < 34) × (own < 34) ⌝ }
-    ensures { λ r. ⌜ r ≡ valueHan g round own little ⌝ }
-    ensures { λ r. ⌜ r ≤ 5 ⌝ }
+    ensures { λ r. ⌜ r .0 ≡ valueHan g round own little ⌝ }
+    ensures { λ r. ⌜ r .0 ≤ 5 ⌝ }
 {
     let d = dragons(g);
     let winds = one_has(g, 34 + round) + one_has(g, 34 + own);
-    if little { winds } else { d + winds }
+    if little {
+        units::han_of(winds)
+    } else {
+        units::han_of(d + winds)
+    }
 }
 
 // The wait earns fu, where the winning tile completes the pair (place 0) or the group c.

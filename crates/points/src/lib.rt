@@ -1,16 +1,12 @@
-// Han, fu and points are three units, and a figure in one is never passed where another belongs.
-// From han and fu to the basic points, the payments, the winner's gain and the four changes.
+// From han and fu to the basic points, the payments, the winner's gain and the four changes (01, Fu and points).
 ghost use mathlib.Core.Path.{_≡_};
 ghost use mathlib.Core.Bool.{cond};
 ghost use Prim.Native.Nat.{_<_, _≤_};
 ghost use lib.IntN.{pos, _-ℤ_};
 ghost use Rattle.points.specs.Points.{plain as plainOf, limit as limitOf, ordinary as ordinaryOf, basic as basicOf, hundreds as hundredsOf, share as shareOf, pays as paysOf, gain as gainOf, changes as changesOf};
-
-pub struct Han(pub u16);
-
-pub struct Fu(pub u8);
-
-pub struct Points(pub u32);
+use units::Fu;
+use units::Han;
+use units::Points;
 
 // Who won, who deals, and who discarded the winning tile.
 pub struct Seats {
@@ -19,12 +15,14 @@ pub struct Seats {
     pub discarder: u8,
 }
 
+// Han as a number to shift by.
 fn wide_han(h: Han) -> u32
     ensures { λ r. ⌜ r ≡ h .0 ⌝ }
 {
     h.0 as u32
 }
 
+// Fu as a number that is shifted.
 fn wide_fu(f: Fu) -> u32
     ensures { λ r. ⌜ r ≡ f .0 ⌝ }
     ensures { λ r. ⌜ r < 256 ⌝ }
@@ -41,6 +39,7 @@ fn plain(h: Han, f: Fu) -> Points
     Points(wide_fu(f) << (n + 2))
 }
 
+// What A is from 5 han or 2,000 on.
 fn limit(h: Han) -> Points
     ensures { λ r. ⌜ r .0 ≡ limitOf (h .0) ⌝ }
     ensures { λ r. ⌜ r .0 ≤ 6000 ⌝ }
@@ -56,6 +55,7 @@ fn limit(h: Han) -> Points
     }
 }
 
+// A without a yakuman.
 fn ordinary(h: Han, f: Fu) -> Points
     ensures { λ r. ⌜ r .0 ≡ ordinaryOf (h .0) (f .0) ⌝ }
     ensures { λ r. ⌜ r .0 ≤ 6000 ⌝ }
@@ -68,7 +68,7 @@ fn ordinary(h: Han, f: Fu) -> Points
     if 2000 < a { limit(h) } else { Points(a) }
 }
 
-// The basic points A that payments are multiples of.
+// The basic points A that payments are multiples of: by h and fu up to the limits, 8,000 with a yakuman.
 pub fn basic(yakuman: bool, h: Han, f: Fu) -> Points
     ensures { λ r. ⌜ r .0 ≡ basicOf yakuman (h .0) (f .0) ⌝ }
     ensures { λ r. ⌜ r .0 ≤ 8000 ⌝ }
@@ -80,6 +80,7 @@ pub fn basic(yakuman: bool, h: Han, f: Fu) -> Points
     }
 }
 
+// A payment rounded up to hundreds.
 fn hundreds(p: Points) -> Points
     requires { ⌜ p .0 ≤ 48000 ⌝ }
     ensures { λ r. ⌜ r .0 ≡ hundredsOf (p .0) ⌝ }
@@ -121,7 +122,7 @@ fn pays(s: Seats, ron: bool, a: Points, seat: u8) -> Points
     hundreds(Points(share(s, ron, seat) * n))
 }
 
-// What the winner gains.
+// What the winner gains for basic points a: all that the other seats pay.
 pub fn gain(s: Seats, ron: bool, a: Points) -> Points
     requires { ⌜ a .0 ≤ 8000 ⌝ }
     ensures { λ r. ⌜ r .0 ≡ gainOf s ron (a .0) ⌝ }
@@ -142,7 +143,7 @@ fn change(wins: bool, got: Points, paid: Points) -> i32
     if wins { got.0 as i32 } else { -(paid.0 as i32) }
 }
 
-// The changes of the four seats.
+// What seats 0 to 3 get or pay for basic points a; a loss is negative, so these are no `Points`.
 pub fn changes(s: Seats, ron: bool, a: Points) -> [i32; 4]
     requires { ⌜ a .0 ≤ 8000 ⌝ }
     ensures { λ r. ⌜ r ≡ changesOf s ron (a .0) ⌝ }

@@ -1,10 +1,12 @@
 -- Named    what document 01 names as the score of a sound hand
--- search   how the code finds it
--- Score    what a record scores
+-- IsScore  what Score answers, for every record, dealer and round wind
+-- Score    there is exactly one such answer: the score
 -- Table    lines 1 to 12 of the table of hands
--- Claims   the theorems: Score answers what is named, and only that; its changes sum to 0; the table
+-- Claims   the theorems: what is named of a hand, that the changes sum to 0, the table
+-- search   how the code finds it
 -- laws     what they stand on, and what the game needs of the changes
 pub mod Named
+pub mod IsScore
 pub mod search
 pub mod Score
 pub mod Table

@@ -1,11 +1,11 @@
 -- What document 01 names as the score of a sound hand (01, Readings and Score). Nothing here says how it is found.
-use mathlib.Core.Bool.{Bool, true, false, cond}
-use mathlib.Core.List.{List}
+use mathlib.Core.Bool.{Bool, true, false, _&&_, cond}
+use mathlib.Core.List.{List, _++_, map}
 use mathlib.Core.Path.{_≡_}
 use Prim.Native.Nat.{ℕ, _+_, _-_, _%_}
-use lib.Dec.{ltb, eqb}
+use lib.Dec.{eqb}
 use lib.IntN.{pos}
-use lib.ListN.{getD, replicate}
+use lib.ListN.{take, replicate}
 use Rattle.tiles.specs.Below.{tabulate}
 use Rattle.tiles.specs.Kinds.{doraOf}
 use Rattle.hand.specs.declared.Hand.{Hand}
@@ -15,12 +15,12 @@ use Rattle.reading.specs.declared.Reading.{Reading}
 use Rattle.reading.specs.Reading.{IsReading}
 use Rattle.groups.specs.Melds.{meldCode, meldWay}
 use Rattle.yaku.specs.declared.Won.{Won}
-use Rattle.yaku.specs.search.TileTests.{tileTestsOf}
+use Rattle.yaku.specs.declared.Parts.{Parts}
 use Rattle.points.specs.declared.Seats.{Seats}
 use Rattle.points.specs.Points.{changes}
 use Rattle.value.specs.declared.Value.{Value}
-use Rattle.best.specs.declared.Setting.{Setting}
-use Rattle.best.specs.Best.{worth, withYaku, Over}
+use Rattle.value.specs.Value.{valueOf}
+use Rattle.best.specs.Best.{withYaku, Over}
 use Rattle.score.specs.declared.Scored.{Scored}
 
 -- ---- the hand at the table
@@ -43,28 +43,24 @@ wonOf h dealer wind = record {
 abbrev pub seatsOf : Hand → ℕ → Seats
 seatsOf h dealer = record { winner = h .fields .winner; dealer = dealer; discarder = h .fields .discarder }
 
--- the melds stand in the last m of four places, behind the "4 − m groups" of a reading: the meld at place i
-abbrev pub meldAt : Hand → ℕ → ℕ
-meldAt h i = getD (h .held .melds) (i - (4 - h .held .m)) 0
+-- ---- what a reading is worth
 
--- the group of each (01, Readings: "run: lowest kind; triplet: 34 + kind"), 68 where there is none
-unfoldable pub meldCodes : Hand → List ℕ
-meldCodes h = tabulate 4 0 (λ i. cond (ltb i (4 - h .held .m)) 68 (meldCode (meldAt h i)))
+-- the groups that yaku and fu go by: the "4 − m groups" of the reading in its order, then those of the m melds in the record's
+-- ("run: lowest kind; triplet: 34 + kind")
+unfoldable pub groupsOf : Hand → Reading → List ℕ
+groupsOf h r = take (4 - h .held .m) (r .groups) ++ map meldCode (take (h .held .m) (h .held .melds))
 
--- whether each is concealed, open, an open or a closed kan (01, Fu and points)
-unfoldable pub meldWays : Hand → List ℕ
-meldWays h = tabulate 4 0 (λ i. cond (ltb i (4 - h .held .m)) 0 (meldWay (meldAt h i)))
+-- the way of each: "A triplet completed by ron is open; other concealed triplets and closed kans are concealed" (0 concealed, 1 open, 2 open kan, 3 closed kan)
+unfoldable pub waysOf : Hand → Reading → List ℕ
+waysOf h r = tabulate (4 - h .held .m) 0 (λ i. cond (isRon (h .fields) && eqb (r .place) (i + 1)) 1 0) ++ map meldWay (take (h .held .m) (h .held .melds))
 
--- what is the same in every reading of the hand; "Dora is the kind after the indicator"
-unfoldable pub settingOf : Hand → ℕ → ℕ → Setting
-settingOf h dealer wind = record {
-  won = wonOf h dealer wind;
-  tests = tileTestsOf (handTally h) (eqb (h .held .m) 0);
-  seats = seatsOf h dealer;
-  dora = doraOf (h .fields .indicator);
-  codes = meldCodes h;
-  ways = meldWays h;
-}
+-- the reading with the melds
+unfoldable pub partsOf : Hand → Reading → Parts
+partsOf h r = record { shape = r .shape; pair = r .pair; groups = groupsOf h r; ways = waysOf h r; place = r .place }
+
+-- its yaku, h, fu and "winner's gain" (01, Yaku; Fu and points); "Dora is the kind after the indicator"
+unfoldable pub worth : Hand → ℕ → ℕ → Reading → Value
+worth h dealer wind r = valueOf (wonOf h dealer wind) (partsOf h r) (doraOf (h .fields .indicator)) (seatsOf h dealer)
 
 -- ---- what is answered
 
@@ -85,20 +81,20 @@ IsReadingOf h r = IsReading (concealedTally h) (h .held .m) (h .fields .winning)
 module _ (h : Hand) (dealer wind : ℕ) where
   -- r is one "of the readings with a yaku"
   abbrev pub ReadsWithYaku : Reading → Type 0
-  ReadsWithYaku r = IsReadingOf h r × (withYaku (settingOf h dealer wind) r ≡ true)
+  ReadsWithYaku r = IsReadingOf h r × (withYaku (worth h dealer wind) r ≡ true)
 
   -- "Of the readings with a yaku, the first with the highest winner's gain, then highest h, then fu, is reported"
   pub record IsReported (r : Reading) : Type 0 where
     pub yaku : ReadsWithYaku r
-    pub first : (q : Reading) → ReadsWithYaku q → Over (settingOf h dealer wind) r q
+    pub first : (q : Reading) → ReadsWithYaku q → Over (worth h dealer wind) r q
 
   -- the winner's gain in r (01, Fu and points: "A reading's gain")
   abbrev pub gainIn : Reading → ℕ
-  gainIn r = worth (settingOf h dealer wind) r .gain .0
+  gainIn r = worth h dealer wind r .gain .0
 
   -- r reported: its h, fu, yaku and changes
   abbrev pub scoredAs : Reading → Scored
-  scoredAs r = acceptedAs (worth (settingOf h dealer wind) r) (seatsOf h dealer) (isRon (h .fields))
+  scoredAs r = acceptedAs (worth h dealer wind r) (seatsOf h dealer) (isRon (h .fields))
 
   -- accepted; "6, no reading"; "7, readings but none with a yaku"
   pub data Named : Scored → Type 0 where

@@ -1,21 +1,26 @@
--- Score (01, Score).
-use mathlib.Core.Bool.{_||_, cond}
+-- Score: for every record, dealer and round wind there is exactly one answer that document 01 names, and that is the score.
 use mathlib.Core.List.{List}
+use mathlib.Core.Path.{_≡_}
 use Prim.Native.Nat.{ℕ}
-use lib.Dec.{ltb}
-use Rattle.hand.specs.declared.Hand.{Hand}
-use Rattle.hand_record.specs.declared.Answer.{Answer}
-use Rattle.hand_record.specs.declared.Answer.the-variants.{Sound, Refused}
-use Rattle.hand_record.specs.Record.{handOf, readOf}
 use Rattle.score.specs.declared.Scored.{Scored}
-use Rattle.score.specs.Named.{refusedWith}
-use Rattle.score.specs.search.Settled.{settledOf}
+use Rattle.score.specs.IsScore.{IsScore}
+use Rattle.score.specs.laws.Exact as laws
 
--- "A record that fails to read ends scoring there": its refusal, or what is named for its hand (`named`, `only-one` of Claims)
-unfoldable pub scoredBy : Answer → Hand → ℕ → ℕ → Scored
-scoredBy (Refused n) h dealer wind = refusedWith n
-scoredBy (Sound f) h dealer wind = settledOf h dealer wind
+-- there is an answer, and every answer is that one
+pub exactly-one : (s : List ℕ) (dealer wind : ℕ) → (a : Scored) × IsScore s dealer wind a × ((b : Scored) → IsScore s dealer wind b → b ≡ a)
+exactly-one = laws.exactly-one
 
--- "Refusals: 8, dealer over 3 or wind over 1; 1 to 5; 6; 7"
+-- the score: that one answer
 unfoldable pub scoreOf : List ℕ → ℕ → ℕ → Scored
-scoreOf s dealer wind = cond (ltb 3 dealer || ltb 1 wind) (refusedWith 8) (scoredBy (readOf s .answer) (handOf (readOf s)) dealer wind)
+scoreOf s dealer wind = exactly-one s dealer wind .0
+
+module _ (s : List ℕ) (dealer wind : ℕ) where
+  -- it is an answer
+  pub is-score : IsScore s dealer wind (scoreOf s dealer wind)
+  unfolding scoreOf
+  is-score = exactly-one s dealer wind .1
+
+  -- and the only one
+  pub one-score : (b : Scored) → IsScore s dealer wind b → b ≡ scoreOf s dealer wind
+  unfolding scoreOf
+  one-score = exactly-one s dealer wind .2

@@ -8,6 +8,7 @@ use lib.IntN.{ℤ, pos, negsuc}
 use Rattle.points.specs.Points.{basic, gain}
 use Rattle.hand.specs.declared.Hand.{Hand}
 use Rattle.hand_record.specs.Record.{recordOf}
+use Rattle.score.specs.declared.Scored.{Scored}
 use Rattle.score.specs.Score.{scoreOf}
 
 -- "indicator North, no riichi, ordinary": how (0 tsumo, 1 ron), winner, discarder, winning tile, m, melds, other concealed tiles
@@ -15,9 +16,13 @@ abbrev won : ℕ → ℕ → ℕ → ℕ → ℕ → List ℕ → List ℕ → H
 won how winner discarder winning m melds concealed =
     record { fields = record { how = how; winner = winner; discarder = discarder; riichi = 0; situation = 0; indicator = 30; winning = winning }; held = record { m = m; melds = melds; concealed = concealed } }
 
--- what a hand's record scores by "Dealer 0, East": refusal, h, fu and the four changes
-abbrev pub Scores : Hand → ℕ → ℕ → ℕ → List ℤ → Type 0
-Scores hand refusal h fu changes = _≡_ {A = ℕ × ℕ × ℕ × List ℤ} (scoreOf (recordOf hand) 0 0 .refusal, scoreOf (recordOf hand) 0 0 .h, scoreOf (recordOf hand) 0 0 .fu, scoreOf (recordOf hand) 0 0 .changes) (refusal, h, fu, changes)
+-- what a line speaks of: refusal, h, fu and the four changes
+abbrev pub toldOf : Scored → ℕ × ℕ × ℕ × List ℤ
+toldOf a = (a .refusal, a .h, a .fu, a .changes)
+
+-- what a hand's record scores by "Dealer 0, East"
+pub record Scores (hand : Hand) (refusal h fu : ℕ) (changes : List ℤ) : Type 0 where
+  pub told : toldOf (scoreOf (recordOf hand) 0 0) ≡ (refusal, h, fu, changes)
 
 -- what seat 1, a "child", gains by ron from seat 3 with h and fu
 abbrev childRon : ℕ → ℕ → ℕ

@@ -1,7 +1,9 @@
-pub mod Settled
+pub mod Parts
+pub mod Found
 pub mod Best
 pub mod Named
+pub mod Exact
+pub mod Settled
 pub mod Z
 pub mod Changes
 pub mod Table
-pub mod Melds

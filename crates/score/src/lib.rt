@@ -5,9 +5,11 @@ ghost use Prim.Native.Nat.{_-_, _<_, _≤_};
 ghost use lib.Dec.{ltb};
 ghost use lib.ListN.{getD};
 ghost use Rattle.groups.specs.Melds.{meldCode, meldWay};
-ghost use Rattle.best.specs.search.Best.{Ready};
-ghost use Rattle.score.specs.Named.{wonOf, meldCodes, meldWays, settingOf, refusedWith, acceptedAs};
+ghost use Rattle.best.specs.search.Setting.{Ready};
+ghost use Rattle.score.specs.Named.{wonOf, refusedWith, acceptedAs, Named};
+ghost use Rattle.score.specs.search.Setting.{meldCodes, meldWays, settingOf};
 ghost use Rattle.score.specs.search.Settled.{settledOf};
+ghost use Rattle.score.specs.IsScore.{IsScore};
 ghost use Rattle.score.specs.Score.{scoreOf};
 use best::Setting;
 use hand::Hand;
@@ -26,6 +28,7 @@ pub struct Scored {
     pub changes: [i32; 4],
 }
 
+// How the hand was won.
 fn won_of(h: Hand, dealer: u8, wind: u8) -> Won
     requires { ⌜ (h .fields .winner ≤ 3) × (dealer ≤ 3) × (wind ≤ 1) ⌝ }
     ensures { λ r. ⌜ r ≡ wonOf h dealer wind ⌝ }
@@ -72,6 +75,7 @@ fn way_at(d: [u8; 4], m: u8, i: u8) -> u8
     }
 }
 
+// The groups of the melds, in the last of four places.
 fn meld_codes(h: Hand) -> [u8; 4]
     requires { ⌜ h .held .m ≤ 4 ⌝ }
     ensures { λ r. ⌜ r ≡ meldCodes h ⌝ }
@@ -87,6 +91,7 @@ fn meld_codes(h: Hand) -> [u8; 4]
     ]
 }
 
+// The ways of the melds, in the last of four places.
 fn meld_ways(h: Hand) -> [u8; 4]
     requires { ⌜ h .held .m ≤ 4 ⌝ }
     ensures { λ r. ⌜ r ≡ meldWays h ⌝ }
@@ -127,6 +132,7 @@ fn setting_of(h: Hand, dealer: u8, wind: u8) -> Setting
     }
 }
 
+// A refusal, and all else zero.
 fn refused(n: u8) -> Scored
     ensures { λ r. ⌜ r ≡ refusedWith n ⌝ }
 {
@@ -141,6 +147,7 @@ fn refused(n: u8) -> Scored
     }
 }
 
+// An accepted hand by the value of its reported reading.
 fn accepted(v: Value, s: Seats, ron: bool) -> Scored
     requires { ⌜ v .basic .0 ≤ 8000 ⌝ }
     ensures { λ r. ⌜ r ≡ acceptedAs v s ron ⌝ }
@@ -157,9 +164,10 @@ fn accepted(v: Value, s: Seats, ron: bool) -> Scored
     }
 }
 
-// What a hand that read as sound scores: an inner call of Score and of the game.
+// What a hand that read as sound scores, the answer that document 01 names for it: an inner call of Score and of the game.
 pub fn settle(h: Hand, dealer: u8, wind: u8) -> Scored
     requires { ⌜ (h .held .m ≤ 4) × (h .fields .winner ≤ 3) × (dealer ≤ 3) × (wind ≤ 1) ⌝ }
+    ensures { λ r. ⌜ Named h dealer wind r ⌝ }
     ensures { λ r. ⌜ r ≡ settledOf h dealer wind ⌝ }
 {
     let t = setting_of(h, dealer, wind);
@@ -180,8 +188,9 @@ pub fn settle(h: Hand, dealer: u8, wind: u8) -> Scored
     refused(6)
 }
 
-// Score.
+// Score: what the record of a won hand is worth and who pays what, by the best of its readings; or why it is refused.
 pub fn score(s: &[u8], dealer: u8, wind: u8) -> Scored
+    ensures { λ r. ⌜ IsScore (now (s .entry)) dealer wind r ⌝ }
     ensures { λ r. ⌜ r ≡ scoreOf (now (s .entry)) dealer wind ⌝ }
 {
     if (3 < dealer) | (1 < wind) {

@@ -8,7 +8,7 @@ use Rattle.tiles.specs.Groups.{isTriplet}
 use Rattle.groups.specs.Tests.{isValue, earnsWait, pinfu}
 use Rattle.yaku.specs.declared.Won.{Won}
 use Rattle.yaku.specs.declared.Parts.{Parts}
-use Rattle.points.specs.declared.Fu.{Fu}
+use Rattle.units.specs.declared.Fu.{Fu}
 use Rattle.value.specs.declared.Items.{Items}
 
 -- "Han, fu and points are the rules' three units": n fu

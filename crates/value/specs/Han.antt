@@ -16,13 +16,13 @@ closedHan = 0 ∷ 1 ∷ 1 ∷ 0 ∷ 1 ∷ 1 ∷ 1 ∷ 1 ∷ 1 ∷ 1 ∷ 1 ∷ 2 
 abbrev pub openHan : List ℕ
 openHan = 0 ∷ 0 ∷ 1 ∷ 0 ∷ 0 ∷ 0 ∷ 1 ∷ 1 ∷ 1 ∷ 1 ∷ 0 ∷ 0 ∷ 0 ∷ 1 ∷ 1 ∷ 1 ∷ 2 ∷ 2 ∷ 2 ∷ 2 ∷ 2 ∷ 0 ∷ 2 ∷ 2 ∷ 4 ∷ 5 ∷ 0 ∷ 0 ∷ 0 ∷ 0 ∷ 0 ∷ 0 ∷ 0 ∷ 0 ∷ 0 ∷ 0 ∷ 0 ∷ []
 
--- "yaku han" by a table: the sum over the listed yaku
-unfoldable pub tableHan : List Bool → List ℕ → ℕ
-tableHan y table = total 37 (λ n. cond (getD y n false) (getD table n 0) 0)
+-- "yaku han" where each yaku n has the han at place n: the sum over the listed ones
+unfoldable pub hanBy : List Bool → List ℕ → ℕ
+hanBy y han = total 37 (λ n. cond (getD y n false) (getD han n 0) 0)
 
 -- "yaku han": closed or open, with what yaku 3 counts
 unfoldable pub yakuHan : List Bool → Bool → ℕ → ℕ
-yakuHan y closed values = tableHan y (cond closed closedHan openHan) + cond (getD y 3 false) values 0
+yakuHan y closed values = hanBy y (cond closed closedHan openHan) + cond (getD y 3 false) values 0
 
 -- "h = yaku han plus dora"; "each one held, kans whole, adds 1"; with a yakuman "h and fu are 0"
 unfoldable pub hanOf : Won → Parts → ℕ → Bool → ℕ

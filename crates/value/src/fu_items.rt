@@ -4,26 +4,27 @@ ghost use mathlib.Core.Bool.{cond};
 ghost use Prim.Native.Nat.{_≤_};
 ghost use Rattle.value.specs.Fu.{fu, tripletFu, groupFu, earned as earnedOf, added as addedOf, rounded as roundedOf, baseAlone, itemsOf};
 use crate::Items;
-use points::Fu;
+use units::Fu;
 use yaku::Parts;
 use yaku::Won;
 
-// A triplet of simples.
-fn triplet_fu(way: u8) -> u8
-    ensures { λ r. ⌜ r ≡ tripletFu way ⌝ }
-    ensures { λ r. ⌜ r ≤ 16 ⌝ }
+// The fu of a triplet of simples, by its way.
+fn triplet_fu(way: u8) -> Fu
+    ensures { λ r. ⌜ r .0 ≡ tripletFu way ⌝ }
+    ensures { λ r. ⌜ r .0 ≤ 16 ⌝ }
 {
     if way == 0 {
-        4
+        Fu(4)
     } else if way == 1 {
-        2
+        Fu(2)
     } else if way == 2 {
-        8
+        Fu(8)
     } else {
-        16
+        Fu(16)
     }
 }
 
+// The fu of a group: twice that for yaochu, none for a run.
 fn group_fu(c: u8, way: u8) -> Fu
     ensures { λ r. ⌜ r ≡ fu (groupFu c way) ⌝ }
     ensures { λ r. ⌜ r .0 ≤ 32 ⌝ }
@@ -34,27 +35,29 @@ fn group_fu(c: u8, way: u8) -> Fu
     let n = triplet_fu(way);
     if c < 68 {
         if tiles::is_yaochu(c - 34) {
-            Fu(2 * n)
+            Fu(2 * n.0)
         } else {
-            Fu(n)
+            n
         }
     } else {
         Fu(0)
     }
 }
 
-fn fu_if(b: bool, n: u8) -> Fu
-    ensures { λ r. ⌜ r ≡ fu (cond b n 0) ⌝ }
-    ensures { λ r. ⌜ r .0 ≤ n ⌝ }
+// n fu where b holds, else none.
+fn fu_if(b: bool, n: Fu) -> Fu
+    ensures { λ r. ⌜ r ≡ fu (cond b (n .0) 0) ⌝ }
+    ensures { λ r. ⌜ r .0 ≤ n .0 ⌝ }
 {
-    if b { Fu(n) } else { Fu(0) }
+    if b { n } else { Fu(0) }
 }
 
-fn base_alone(n: u8) -> Items
-    ensures { λ i. ⌜ i ≡ baseAlone n ⌝ }
+// A base of n fu and nothing else.
+fn base_alone(n: Fu) -> Items
+    ensures { λ i. ⌜ i ≡ baseAlone (n .0) ⌝ }
 {
     Items {
-        base: Fu(n),
+        base: n,
         ron: Fu(0),
         pair: Fu(0),
         g0: Fu(0),
@@ -76,17 +79,17 @@ fn earned(w: Won, p: Parts) -> Items
     let g = p.groups;
     let ways = p.ways;
     let pinfu = groups::pinfu(w.closed, g, p.pair, p.place, w.win, w.round, w.own);
-    let ron = fu_if(w.closed & w.ron, 10);
-    let pair = fu_if(groups::is_value(w.round, w.own, p.pair), 2);
+    let ron = fu_if(w.closed & w.ron, Fu(10));
+    let pair = fu_if(groups::is_value(w.round, w.own, p.pair), Fu(2));
     let g0 = group_fu(g[0], ways[0]);
     let g1 = group_fu(g[1], ways[1]);
     let g2 = group_fu(g[2], ways[2]);
     let g3 = group_fu(g[3], ways[3]);
     let wait = fu_if(
         groups::earns_wait(p.place, groups::placed(g, p.place), w.win),
-        2,
+        Fu(2),
     );
-    let tsumo = fu_if(!w.ron & !pinfu, 2);
+    let tsumo = fu_if(!w.ron & !pinfu, Fu(2));
     Items {
         base: Fu(20),
         ron,
@@ -101,7 +104,7 @@ fn earned(w: Won, p: Parts) -> Items
     }
 }
 
-// The sum of the items.
+// The fu of a reading: the sum of its items.
 pub fn added(i: Items) -> Fu
     requires { ⌜ addedOf i ≤ 255 ⌝ }
     ensures { λ r. ⌜ r .0 ≡ addedOf i ⌝ }
@@ -130,7 +133,7 @@ fn rounded(closed: bool, f: Fu) -> Fu
     if !closed & (n == 20) { Fu(30) } else { Fu(n) }
 }
 
-// The items of a reading.
+// The items of a reading: a base of 25 alone for seven pairs, only zeros with a yakuman.
 pub fn items_of(w: Won, p: Parts, yakuman: bool) -> Items
     requires { ⌜ p .place ≤ 4 ⌝ }
     ensures { λ i. ⌜ i ≡ itemsOf w p yakuman ⌝ }
@@ -138,10 +141,10 @@ pub fn items_of(w: Won, p: Parts, yakuman: bool) -> Items
 {
     let shape = p.shape;
     if yakuman {
-        return base_alone(0);
+        return base_alone(Fu(0));
     }
     if shape == 1 {
-        return base_alone(25);
+        return base_alone(Fu(25));
     }
     let mut i = earned(w, p);
     let n = added(i);

@@ -5,10 +5,10 @@ ghost use Rattle.yaku.specs.search.TileTests.{tileTestsOf};
 ghost use Rattle.yaku.specs.Yaku.{yakuOf};
 ghost use Rattle.value.specs.Han.{hanOf};
 ghost use Rattle.value.specs.Value.{valueOf};
-use points::Fu;
-use points::Han;
-use points::Points;
 use points::Seats;
+use units::Fu;
+use units::Han;
+use units::Points;
 use yaku::Parts;
 use yaku::TileTests;
 use yaku::Won;
@@ -52,7 +52,7 @@ fn hand_han(w: Won, p: Parts, y: [bool; 37], dora: u8, yakuman: bool) -> Han
     }
     let v = groups::value_han(g, w.round, w.own, groups::little_dragons(g, p.pair));
     let d = t[dora as usize];
-    yaku_han::han(y, w.closed, v, d)
+    yaku_han::han(y, w.closed, v, units::han_of(d))
 }
 
 // The value of a reading. `dora` is the kind of the dora.

@@ -2,9 +2,9 @@
 ghost use mathlib.Core.Path.{_≡_};
 ghost use mathlib.Core.Bool.{cond};
 ghost use Prim.Native.Nat.{_+_, _/_, _%_, _<_, _≤_};
-ghost use Rattle.value.specs.Han.{tableHan, yakuHan};
+ghost use Rattle.value.specs.Han.{hanBy, yakuHan};
 ghost use Rattle.value.specs.laws.Han.{hanFor};
-use points::Han;
+use units::Han;
 
 // The han of each yaku: in a closed hand, then in an open one, so that 0x21 is the paper's 2−1 and 0x10 its c1. Yakuman have none.
 const HAN: [u8; 37] = [
@@ -47,48 +47,48 @@ const HAN: [u8; 37] = [
     0x00,
 ];
 
-fn wide(x: u8) -> u16
-    ensures { λ r. ⌜ r ≡ x ⌝ }
-    ensures { λ r. ⌜ r < 256 ⌝ }
+// The han where the yaku is listed, else none.
+fn han_if(listed: bool, han: Han) -> Han
+    ensures { λ r. ⌜ r .0 ≡ cond listed (han .0) 0 ⌝ }
+    ensures { λ r. ⌜ r .0 ≤ han .0 ⌝ }
 {
-    x as u16
+    if listed { han } else { Han(0) }
 }
 
-fn worth(listed: bool, han: u8) -> u8
-    ensures { λ r. ⌜ r ≡ cond listed han 0 ⌝ }
-    ensures { λ r. ⌜ r ≤ han ⌝ }
-{
-    if listed { han } else { 0 }
-}
-
-// Of the two han of a listed yaku the one that goes for the hand.
-fn han_for(listed: bool, closed: bool, both: u8) -> u8
-    ensures { λ r. ⌜ r ≡ cond listed (cond closed (both / 16) (both % 16)) 0 ⌝ }
+// Of the two han of a listed yaku, packed in one byte, the one that goes for the hand.
+fn han_for(listed: bool, closed: bool, both: u8) -> Han
+    ensures { λ r. ⌜ r .0 ≡ cond listed (cond closed (both / 16) (both % 16)) 0 ⌝ }
 {
     if listed {
-        if closed { both / 16 } else { both % 16 }
+        if closed {
+            units::han_of(both / 16)
+        } else {
+            units::han_of(both % 16)
+        }
     } else {
-        0
+        Han(0)
     }
 }
 
-fn table_han(y: [bool; 37], closed: bool) -> u8
-    ensures { λ r. ⌜ r ≡ tableHan y (hanFor closed) ⌝ }
-    ensures { λ r. ⌜ r ≤ 222 ⌝ }
+// The han of the listed yaku, without what yaku 3 counts.
+fn han_by(y: [bool; 37], closed: bool) -> Han
+    ensures { λ r. ⌜ r .0 ≡ hanBy y (hanFor closed) ⌝ }
+    ensures { λ r. ⌜ r .0 ≤ 222 ⌝ }
 {
     // copied once: a constant that is read in a loop is copied in every turn
-    let table = HAN;
-    let mut n: u8 = 0;
+    let each = HAN;
+    let mut n: u16 = 0;
     for i in 0..37 {
-        n += han_for(y[i], closed, table[i]);
+        n += han_for(y[i], closed, each[i]).0;
     }
-    n
+    Han(n)
 }
 
-// `values` is what yaku 3 counts, `dora` how many dora are held.
-pub fn han(y: [bool; 37], closed: bool, values: u8, dora: u8) -> Han
-    ensures { λ r. ⌜ r .0 ≡ yakuHan y closed values + dora ⌝ }
-    ensures { λ r. ⌜ r .0 ≤ 477 + values ⌝ }
+// h: the han of the listed yaku, where yaku 3 has `values`, and of the dora.
+pub fn han(y: [bool; 37], closed: bool, values: Han, dora: Han) -> Han
+    requires { ⌜ (values .0 ≤ 5) × (dora .0 < 256) ⌝ }
+    ensures { λ r. ⌜ r .0 ≡ yakuHan y closed (values .0) + dora .0 ⌝ }
+    ensures { λ r. ⌜ r .0 ≤ 482 ⌝ }
 {
-    Han(wide(table_han(y, closed)) + wide(worth(y[3], values)) + wide(dora))
+    Han(han_by(y, closed).0 + han_if(y[3], values).0 + dora.0)
 }

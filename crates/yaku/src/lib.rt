@@ -89,7 +89,7 @@ pub fn tests(w: Won, x: TileTests, p: Parts) -> [bool; 37]
         false,
         closed & !ron,
         x.simples,
-        0 < groups::value_han(g, round, own, little),
+        0 < groups::value_han(g, round, own, little).0,
         groups::pinfu(closed, g, pair, place, win, round, own),
         closed & (twin == 1),
         situation == 2,

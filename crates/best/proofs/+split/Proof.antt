@@ -1,10 +1,11 @@
--- The proof of the cycle of calls {split}. A call has one group less to take; the codes from c on give what is left. Assumes nothing.
+-- The proof of the cycle of calls {split}. A call has one group less to take; the codes from c on give what is left.
 use borrow.Author.Tests.{not-true, not-false}
 use mathlib.Core.Path.{_≡_, refl, sym, _∙_}
 use mathlib.Core.Logic.{⊎-elim}
 use Prim.Native.Nat.{ℕ, _-_, _<_}
 use native.Mathlib.Omega.{arith}
 use Rattle.reading.specs.laws.Fold.{searched, foundAt, searched-leaf, searched-over, searched-end, searched-next, searched-stop, found-with, found-none}
+use Rattle.best.specs.search.Setting.{worthIn}
 use Rattle.best.specs.search.Best.{judgeOf}
 use borrow.Fn.Kinds.{In}
 use borrow.Fn.PlainCycle.{Measures, is, falls, and}
@@ -29,7 +30,7 @@ abbrev split-below : ℕ → In 0 split-kinds.ps
 split-below t = and 0 split-kinds.ps (falls 0 split-kinds.ps _<_ μ-split t) split.Pre
 
 abbrev Inv-loop : split-lts.InvT-loop
-Inv-loop h t code left so size win pair found₀ c₀ found c = searched (judgeOf h) size win pair so left c t found ≡ searched (judgeOf h) size win pair so left code t found₀
+Inv-loop h t code left so size win pair found₀ c₀ found c = searched (judgeOf (worthIn h)) size win pair so left c t found ≡ searched (judgeOf (worthIn h)) size win pair so left code t found₀
 
 abbrev μ-loop : split-lts.MeasureT-loop
 μ-loop h t code left so size win pair found₀ c₀ found c = 68 - c
@@ -55,7 +56,7 @@ module _ (t : ℕ) (c : split-lts.Joined3 (claims t) (split-at t) split.Post Inv
   abbrev a : split-lts.Args (claims t) (split-at t) split.Post Inv-loop μ-loop
   a = c .before .before .before .before .before .args
 
-  found : c .if3 .found ≡ foundAt (judgeOf (a .h)) (a .size) (a .win) (a .pair) (a .so) (a .left) (c .before .before .before .loop .c) (a .t) (c .before .before .before .loop .found)
+  found : c .if3 .found ≡ foundAt (judgeOf (worthIn (a .h))) (a .size) (a .win) (a .pair) (a .so) (a .left) (c .before .before .before .loop .c) (a .t) (c .before .before .before .loop .found)
   found =
       ⊎-elim
       (λ w. w .3 ∙ found-with (judgeOf _) _ _ _ _ _ _ _ _ _ _ (sym (c .before .fits2 .ensures) ∙ w .0 .taken) (w .1 .ensures) (w .2 .ensures))

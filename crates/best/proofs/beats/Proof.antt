@@ -1,4 +1,4 @@
--- `best::beats` meets its contract. Assumes nothing.
+-- `best::beats` meets its contract.
 use mathlib.Core.Path.{refl}
 use Rattle.best.specs.search.Best.{beats}
 use Rattle.best.proofs.beats.Statement.{statement}

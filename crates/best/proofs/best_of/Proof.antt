@@ -1,4 +1,4 @@
--- `best::best_of` meets its contract: the pairs of kinds from k on give what is left, and then the forms without groups. Assumes nothing.
+-- `best::best_of` meets its contract: the pairs of kinds from k on give what is left, and then the forms without groups.
 use mathlib.Core.Path.{_≡_, refl, _∙_}
 use mathlib.Core.Logic.{⊎-elim}
 use Prim.Native.Nat.{_-_, _≤_}
@@ -6,12 +6,13 @@ use native.Mathlib.Omega.{arith}
 use borrow.Author.Needs.{needs}
 use Rattle.reading.specs.search.Readings.{paired}
 use Rattle.reading.specs.laws.Fold.{ranged, ranged-turn, ranged-done, paired-with, paired-none, readings-with}
+use Rattle.best.specs.search.Setting.{worthIn}
 use Rattle.best.specs.search.Best.{judgeOf, bestOf}
 use Rattle.best.proofs.best_of.Statement.{statement}
 use Rattle.best.proofs.best_of.Tie as tie
 
 abbrev Inv-loop : tie.InvT-loop
-Inv-loop h m win t b₀ k₀ b k = (k ≤ 34) × (ranged (judgeOf h) (paired t m win) 34 k b ≡ ranged (judgeOf h) (paired t m win) 34 0 b₀)
+Inv-loop h m win t b₀ k₀ b k = (k ≤ 34) × (ranged (judgeOf (worthIn h)) (paired t m win) 34 k b ≡ ranged (judgeOf (worthIn h)) (paired t m win) 34 0 b₀)
 
 abbrev μ-loop : tie.MeasureT-loop
 μ-loop h m win t b₀ k₀ b k = 34 - k

@@ -1,6 +1,6 @@
--- `best::joined` meets its contract: each place is picked. Assumes nothing.
+-- `best::joined` meets its contract: each place is picked.
 use borrow.Author.Needs.{needs}
-use Rattle.best.specs.Best.{joined}
+use Rattle.best.specs.search.Setting.{joined}
 use Rattle.best.proofs.joined.Statement.{statement}
 use Rattle.best.proofs.joined.Tie as tie
 

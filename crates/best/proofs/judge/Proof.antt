@@ -1,4 +1,4 @@
--- `best::judge` meets its contract: by whether the reading has a yaku and beats what is kept. Assumes nothing.
+-- `best::judge` meets its contract: by whether the reading has a yaku and beats what is kept.
 use borrow.Author.Needs.{needs}
 use mathlib.Core.Path.{_≡_, ap, sym, _∙_}
 use mathlib.Core.Bool.{Bool, true, false, _&&_, _||_, not}
@@ -7,20 +7,20 @@ use Rattle.yaku.specs.Yaku.{hasYaku}
 use Rattle.value.specs.declared.Value.{Value}
 use Rattle.best.specs.declared.Setting.{Setting}
 use Rattle.best.specs.declared.Best.{Best}
-use Rattle.best.specs.Best.{worth}
+use Rattle.best.specs.search.Setting.{worthIn}
 use Rattle.best.specs.search.Best.{beats, judgeOf}
 use Rattle.best.proofs.judge.Statement.{statement}
 use Rattle.best.proofs.judge.Tie as tie
 
-module _ (t : Setting) (b : Best) (r : Reading) (v : Value) (x y : Bool) (ev : v ≡ worth t r) (ex : x ≡ hasYaku (v .yaku)) (ey : y ≡ beats v (b .value)) where
-  test : x && (not (b .valued) || y) ≡ hasYaku (worth t r .yaku) && (not (b .valued) || beats (worth t r) (b .value))
+module _ (t : Setting) (b : Best) (r : Reading) (v : Value) (x y : Bool) (ev : v ≡ worthIn t r) (ex : x ≡ hasYaku (v .yaku)) (ey : y ≡ beats v (b .value)) where
+  test : x && (not (b .valued) || y) ≡ hasYaku (worthIn t r .yaku) && (not (b .valued) || beats (worthIn t r) (b .value))
   test = rw (← ev, ← ex, ← ey)
 
-  taken : x && (not (b .valued) || y) ≡ true → record { seen = true; valued = true; value = v } ≡ judgeOf t b r
+  taken : x && (not (b .valued) || y) ≡ true → record { seen = true; valued = true; value = v } ≡ judgeOf (worthIn t) b r
   unfolding judgeOf
   taken e = rw (sym test ∙ e) (ap (λ (z : Value). record { seen = true; valued = true; value = z }) ev)
 
-  left : x && (not (b .valued) || y) ≡ false → record { seen = true; valued = b .valued; value = b .value } ≡ judgeOf t b r
+  left : x && (not (b .valued) || y) ≡ false → record { seen = true; valued = b .valued; value = b .value } ≡ judgeOf (worthIn t) b r
   unfolding judgeOf
   left e = rw (sym test ∙ e)
 

@@ -1,4 +1,4 @@
--- `best::none` meets its contract. Assumes nothing.
+-- `best::none` meets its contract.
 use mathlib.Core.Path.{refl}
 use Rattle.best.specs.search.Best.{noneOf}
 use Rattle.best.proofs.none.Statement.{statement}

@@ -1,4 +1,4 @@
--- `best::pick` meets its contract. Assumes nothing.
+-- `best::pick` meets its contract.
 use borrow.Author.Tests.{eq-eqb, ne-eqb}
 use Rattle.best.proofs.pick.Statement.{statement}
 use Rattle.best.proofs.pick.Tie as tie

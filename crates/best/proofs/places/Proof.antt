@@ -1,4 +1,4 @@
--- `best::places` meets its contract: the places from p on give what is left. Assumes nothing.
+-- `best::places` meets its contract: the places from p on give what is left.
 use mathlib.Core.Path.{_≡_, sym, _∙_}
 use mathlib.Core.Logic.{⊎-elim}
 use Prim.Native.Nat.{_+_, _-_, _≤_}
@@ -7,12 +7,13 @@ use borrow.Author.Needs.{needs}
 use Rattle.reading.specs.search.Judged.{judged}
 use Rattle.reading.specs.search.Readings.{placedAt, placed}
 use Rattle.reading.specs.laws.Fold.{ranged, ranged-turn, ranged-done, placed-all, judged-with, judged-none}
+use Rattle.best.specs.search.Setting.{worthIn}
 use Rattle.best.specs.search.Best.{judgeOf}
 use Rattle.best.proofs.places.Statement.{statement}
 use Rattle.best.proofs.places.Tie as tie
 
 abbrev Inv-loop : tie.InvT-loop
-Inv-loop h pair groups size win b₀ p₀ b p = (p ≤ size + 1) × (ranged (judgeOf h) (placedAt win pair groups) (size + 1) p b ≡ judged (judgeOf h) b₀ (placed size win pair groups))
+Inv-loop h pair groups size win b₀ p₀ b p = (p ≤ size + 1) × (ranged (judgeOf (worthIn h)) (placedAt win pair groups) (size + 1) p b ≡ judged (judgeOf (worthIn h)) b₀ (placed size win pair groups))
 
 abbrev μ-loop : tie.MeasureT-loop
 μ-loop h pair groups size win b₀ p₀ b p = size + 1 - p

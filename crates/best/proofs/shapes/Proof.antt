@@ -1,4 +1,4 @@
--- `best::forms` meets its contract: each form where its test holds. Assumes nothing.
+-- `best::shapes` meets its contract: each form where its test holds.
 use mathlib.Core.Path.{_≡_, sym, ap, _∙_}
 use mathlib.Core.Logic.{⊎-elim}
 use mathlib.Core.List.{[], _∷_}
@@ -10,11 +10,12 @@ use Rattle.reading.specs.Reading.{isSevenPairs, ofShape}
 use Rattle.reading.specs.search.Judged.{judged}
 use Rattle.reading.specs.search.Readings.{when}
 use Rattle.reading.specs.laws.Fold.{judged-with, judged-none, shaped-with, shaped-none}
+use Rattle.best.specs.search.Setting.{worthIn}
 use Rattle.best.specs.search.Best.{judgeOf}
 use Rattle.best.proofs.shapes.Statement.{statement}
 use Rattle.best.proofs.shapes.Tie as tie
 
-paired : (c : tie.Joined2) → c .if2 .b ≡ judged (judgeOf (c .before .before .before .args .h)) (c .before .before .before .args .best) (when (isSevenPairs (c .before .before .before .args .t)) (λ _. ofShape 1 ∷ []))
+paired : (c : tie.Joined2) → c .if2 .b ≡ judged (judgeOf (worthIn (c .before .before .before .args .h))) (c .before .before .before .args .best) (when (isSevenPairs (c .before .before .before .args .t)) (λ _. ofShape 1 ∷ []))
 paired c =
     ⊎-elim
     (λ w. w .3 ∙ judged-with (judgeOf _) _ _ _ _ (sym (c .before .is-seven-pairs .ensures) ∙ w .0 .taken) (w .2 .ensures ∙ ap (judgeOf _ _) (w .1 .ensures)))

@@ -1,20 +1,20 @@
--- `best::worth` meets its contract: the parts of the reading are valued. Assumes nothing.
+-- `best::worth` meets its contract: the parts of the reading are valued.
 use Prim.Native.Nat.{_≤_}
 use mathlib.Core.Path.{_≡_, ap, _∙_}
 use Rattle.reading.specs.declared.Reading.{Reading}
 use Rattle.yaku.specs.declared.Parts.{Parts}
 use Rattle.value.specs.Value.{valueOf}
 use Rattle.best.specs.declared.Setting.{Setting}
-use Rattle.best.specs.Best.{partsOf, worth}
+use Rattle.best.specs.search.Setting.{partsIn, worthIn}
 use Rattle.best.proofs.worth.Statement.{statement}
 use Rattle.best.proofs.worth.Tie as tie
 
-place-kept : (t : Setting) (r : Reading) (p : Parts) → p ≡ partsOf t r → r .place ≤ 4 → p .place ≤ 4
-unfolding partsOf
+place-kept : (t : Setting) (r : Reading) (p : Parts) → p ≡ partsIn t r → r .place ≤ 4 → p .place ≤ 4
+unfolding partsIn
 place-kept t r p e h = rw e h
 
 pub worth-spec : {M : Type 1} → statement M
-unfolding worth
+unfolding worthIn
 worth-spec =
     tie.close
     (tie.spec (λ c κs. c .before .before .before .pre .1)

@@ -1,4 +1,4 @@
--- The search keeps the first of those readings with a yaku that no other beats. Assumes nothing.
+-- The search keeps the first of those readings with a yaku that no other beats.
 use mathlib.Core.Bool.{Bool, true, false, _&&_, _||_, not, cond, false≢true}
 use mathlib.Core.List.{List, [], _∷_, List·Memᴰ as Member, List·Memᴰ·head, List·Memᴰ·tail, List·Memᴰ·cases-cons, List·Memᴰ·not-nil}
 use mathlib.Core.Logic.{_⊎_, inl, inr, ⊎-elim}
@@ -13,10 +13,10 @@ use Rattle.reading.specs.Order.{Lex, Before}
 use Rattle.reading.specs.search.Ordered.{Pairwise, first}
 use Rattle.reading.specs.search.Judged.{judged}
 use Rattle.reading.specs.laws.Lists.{each-member}
+use Rattle.yaku.specs.Yaku.{hasYaku}
 use Rattle.value.specs.declared.Value.{Value}
-use Rattle.best.specs.declared.Setting.{Setting}
 use Rattle.best.specs.declared.Best.{Best}
-use Rattle.best.specs.Best.{worth, withYaku, figures, Over}
+use Rattle.best.specs.Best.{withYaku, figures, Over}
 use Rattle.best.specs.search.Best.{beats, noneOf, judgeOf}
 
 -- ---- the order of values: gain, then h, then fu
@@ -73,94 +73,94 @@ lex-trans (x ∷ a) (y ∷ b) (z ∷ c) h g =
 -- ---- what is kept
 
 -- the first of the readings S with a yaku that no other beats, or none
-pub record Kept (t : Setting) (S : Reading → Type 0) (b : Best) : Type 0 where
+pub record Kept (worth : Reading → Value) (S : Reading → Type 0) (b : Best) : Type 0 where
   pub unseen : b .seen ≡ false → (q : Reading) → S q → ⊥
   pub seen : b .seen ≡ true → (r : Reading) × S r
-  pub worthless : b .valued ≡ false → (q : Reading) → S q → withYaku t q ≡ false
-  pub best : b .valued ≡ true → (r : Reading) × S r × (withYaku t r ≡ true) × (b .value ≡ worth t r) × ((q : Reading) → S q → withYaku t q ≡ true → Over t r q)
+  pub worthless : b .valued ≡ false → (q : Reading) → S q → withYaku worth q ≡ false
+  pub best : b .valued ≡ true → (r : Reading) × S r × (withYaku worth r ≡ true) × (b .value ≡ worth r) × ((q : Reading) → S q → withYaku worth q ≡ true → Over worth r q)
 
 abbrev With : (Reading → Type 0) → Reading → Reading → Type 0
 With S x q = S q ⊎ (q ≡ x)
 
-module _ (t : Setting) (S : Reading → Type 0) (b : Best) (x : Reading) (k : Kept t S b) (later : (q : Reading) → S q → Before q x) where
+module _ (worth : Reading → Value) (S : Reading → Type 0) (b : Best) (x : Reading) (k : Kept worth S b) (later : (q : Reading) → S q → Before q x) where
   -- the reading that is kept, where x does not beat it or has no yaku
-  keeps : (r : Reading) → ((q : Reading) → S q → withYaku t q ≡ true → Over t r q) → (withYaku t x ≡ true → Over t r x) → (q : Reading) → With S x q → withYaku t q ≡ true → Over t r q
+  keeps : (r : Reading) → ((q : Reading) → S q → withYaku worth q ≡ true → Over worth r q) → (withYaku worth x ≡ true → Over worth r x) → (q : Reading) → With S x q → withYaku worth q ≡ true → Over worth r q
   keeps r o ox q m v = ⊎-elim (λ s. o q s v) (λ e. rw e (ox (rw e at v))) m
 
   -- x is taken: it beats what was kept, or nothing was
-  taken : withYaku t x ≡ true → (not (b .valued) || beats (worth t x) (b .value)) ≡ true → Kept t (With S x) (record { seen = true; valued = true; value = worth t x })
+  taken : withYaku worth x ≡ true → (not (b .valued) || beats (worth x) (b .value)) ≡ true → Kept worth (With S x) (record { seen = true; valued = true; value = worth x })
   taken vx e = record {
     unseen = λ z. absurd (false≢true (sym z));
     seen = λ _. (x, inr refl);
     worthless = λ z. absurd (false≢true (sym z));
-    best = λ _. (x, inr refl, vx, refl, λ q m v. ⊎-elim (λ s. over q s v (b .valued) refl) (λ z. inr (ap (λ (y : Reading). figures (worth t y)) z, inl (sym z))) m);
+    best = λ _. (x, inr refl, vx, refl, λ q m v. ⊎-elim (λ s. over q s v (b .valued) refl) (λ z. inr (ap (λ (y : Reading). figures (worth y)) z, inl (sym z))) m);
   }
     where
-      above : (r : Reading) → b .value ≡ worth t r → beats (worth t x) (b .value) ≡ true → Lex (figures (worth t r)) (figures (worth t x))
-      above r e1 e2 = beats-lex (worth t x) (worth t r) (rw e1 at e2)
+      above : (r : Reading) → b .value ≡ worth r → beats (worth x) (b .value) ≡ true → Lex (figures (worth r)) (figures (worth x))
+      above r e1 e2 = beats-lex (worth x) (worth r) (rw e1 at e2)
 
-      beyond : (q r : Reading) → Over t r q → Lex (figures (worth t r)) (figures (worth t x)) → Over t x q
-      beyond q r o l = ⊎-elim (λ h. inl (lex-trans (figures (worth t q)) (figures (worth t r)) (figures (worth t x)) h l)) (λ h. inl (subst (λ (z : List ℕ). Lex z (figures (worth t x))) (sym (h .0)) l)) o
+      beyond : (q r : Reading) → Over worth r q → Lex (figures (worth r)) (figures (worth x)) → Over worth x q
+      beyond q r o l = ⊎-elim (λ h. inl (lex-trans (figures (worth q)) (figures (worth r)) (figures (worth x)) h l)) (λ h. inl (subst (λ (z : List ℕ). Lex z (figures (worth x))) (sym (h .0)) l)) o
 
-      over : (q : Reading) → S q → withYaku t q ≡ true → (c : Bool) → b .valued ≡ c → Over t x q
+      over : (q : Reading) → S q → withYaku worth q ≡ true → (c : Bool) → b .valued ≡ c → Over worth x q
       over q s v false z = absurd (false≢true (sym (k .worthless z q s) ∙ v))
       over q s v true z =
           let y = k .best z in
-          let h : beats (worth t x) (b .value) ≡ true = rw z at e in
+          let h : beats (worth x) (b .value) ≡ true = rw z at e in
           beyond q (y .0) (y .4 q s v) (above (y .0) (y .3) h)
 
   -- x is not taken: it has no yaku, or does not beat what is kept
-  passed : (withYaku t x ≡ true → (b .valued ≡ true) × (beats (worth t x) (b .value) ≡ false)) → Kept t (With S x) (record { seen = true; valued = b .valued; value = b .value })
+  passed : (withYaku worth x ≡ true → (b .valued ≡ true) × (beats (worth x) (b .value) ≡ false)) → Kept worth (With S x) (record { seen = true; valued = b .valued; value = b .value })
   passed h = record {
     unseen = λ z. absurd (false≢true (sym z));
     seen = λ _. (x, inr refl);
-    worthless = λ z q m. ⊎-elim (λ s. k .worthless z q s) (λ e. rw e (no-yaku z (withYaku t x) refl)) m;
+    worthless = λ z q m. ⊎-elim (λ s. k .worthless z q s) (λ e. rw e (no-yaku z (withYaku worth x) refl)) m;
     best = λ z.
         let y = k .best z in
         (y .0, inl (y .1), y .2, y .3, keeps (y .0) (y .4) (λ v. behind (y .0) (y .1) (y .3) (h v .1)));
   }
     where
-      no-yaku : b .valued ≡ false → (c : Bool) → withYaku t x ≡ c → withYaku t x ≡ false
+      no-yaku : b .valued ≡ false → (c : Bool) → withYaku worth x ≡ c → withYaku worth x ≡ false
       no-yaku z true e = absurd (false≢true (sym z ∙ h e .0))
       no-yaku z false e = e
 
-      behind : (r : Reading) → S r → b .value ≡ worth t r → beats (worth t x) (b .value) ≡ false → Over t r x
-      behind r s e1 e2 = ⊎-elim (λ l. inl l) (λ q. inr (q, inr (later r s))) (not-beats-lex (worth t x) (worth t r) (rw e1 at e2))
+      behind : (r : Reading) → S r → b .value ≡ worth r → beats (worth x) (b .value) ≡ false → Over worth r x
+      behind r s e1 e2 = ⊎-elim (λ l. inl l) (λ q. inr (q, inr (later r s))) (not-beats-lex (worth x) (worth r) (rw e1 at e2))
 
-  kept-step : Kept t (With S x) (judgeOf t b x)
+  kept-step : Kept worth (With S x) (judgeOf worth b x)
   unfolding judgeOf
-  kept-step = go (withYaku t x) (b .valued) (beats (worth t x) (b .value)) refl refl refl
+  kept-step = go (withYaku worth x) (b .valued) (beats (worth x) (b .value)) refl refl refl
     where
-      go : (v w z : Bool) → withYaku t x ≡ v → b .valued ≡ w → beats (worth t x) (b .value) ≡ z
-          → Kept t (With S x) (cond (v && (not w || z)) (record { seen = true; valued = true; value = worth t x }) (record { seen = true; valued = b .valued; value = b .value }))
+      go : (v w z : Bool) → withYaku worth x ≡ v → b .valued ≡ w → beats (worth x) (b .value) ≡ z
+          → Kept worth (With S x) (cond (v && (not w || z)) (record { seen = true; valued = true; value = worth x }) (record { seen = true; valued = b .valued; value = b .value }))
       go false w z ev ew ez = passed (λ e. absurd (false≢true (sym ev ∙ e)))
       go true false z ev ew ez = taken ev (rw ew refl)
       go true true true ev ew ez = taken ev (rw (ew, ez) refl)
       go true true false ev ew ez = passed (λ _. (ew, ez))
 
-pub kept-same : (t : Setting) (S T : Reading → Type 0) (b : Best) → ((q : Reading) → S q → T q) → ((q : Reading) → T q → S q) → Kept t S b → Kept t T b
-kept-same t S T b to from k = record {
+pub kept-same : (worth : Reading → Value) (S T : Reading → Type 0) (b : Best) → ((q : Reading) → S q → T q) → ((q : Reading) → T q → S q) → Kept worth S b → Kept worth T b
+kept-same worth S T b to from k = record {
   unseen = λ z q s. k .unseen z q (from q s);
   seen = λ z. let y = k .seen z in (y .0, to (y .0) (y .1));
   worthless = λ z q s. k .worthless z q (from q s);
   best = λ z. let y = k .best z in (y .0, to (y .0) (y .1), y .2, y .3, λ q s v. y .4 q (from q s) v);
 }
 
-kept-fold : (t : Setting) (rs : List Reading) (S : Reading → Type 0) (b : Best) → Kept t S b → ((q r : Reading) → S q → Member r rs → Before q r) → Pairwise Before rs
-    → Kept t (λ q. S q ⊎ Member q rs) (judged (judgeOf t) b rs)
+kept-fold : (worth : Reading → Value) (rs : List Reading) (S : Reading → Type 0) (b : Best) → Kept worth S b → ((q r : Reading) → S q → Member r rs → Before q r) → Pairwise Before rs
+    → Kept worth (λ q. S q ⊎ Member q rs) (judged (judgeOf worth) b rs)
 unfolding judged
-kept-fold t [] S b k later p = kept-same t S (λ q. S q ⊎ Member q []) b (λ q s. inl s) (λ q m. ⊎-elim (λ s. s) (λ n. absurd (List·Memᴰ·not-nil n)) m) k
-kept-fold t (x ∷ rs) S b k later (first e p) =
-    kept-same t (λ q. With S x q ⊎ Member q rs) (λ q. S q ⊎ Member q (x ∷ rs)) _
+kept-fold worth [] S b k later p = kept-same worth S (λ q. S q ⊎ Member q []) b (λ q s. inl s) (λ q m. ⊎-elim (λ s. s) (λ n. absurd (List·Memᴰ·not-nil n)) m) k
+kept-fold worth (x ∷ rs) S b k later (first e p) =
+    kept-same worth (λ q. With S x q ⊎ Member q rs) (λ q. S q ⊎ Member q (x ∷ rs)) _
     (λ q m. ⊎-elim (λ w. ⊎-elim (λ s. inl s) (λ z. inr (List·Memᴰ·head z)) w) (λ n. inr (List·Memᴰ·tail n)) m)
     (λ q m. ⊎-elim (λ s. inl (inl s)) (λ n. ⊎-elim (λ z. inl (inr z)) (λ o. inr o) (List·Memᴰ·cases-cons n)) m)
-    (kept-fold t rs (With S x) (judgeOf t b x) (kept-step t S b x k (λ q s. later q x s (List·Memᴰ·head refl)))
+    (kept-fold worth rs (With S x) (judgeOf worth b x) (kept-step worth S b x k (λ q s. later q x s (List·Memᴰ·head refl)))
     (λ q r w m. ⊎-elim (λ s. later q r s (List·Memᴰ·tail m)) (λ z. rw z (each-member e m)) w) p)
 
 -- before any reading
-kept-none : (t : Setting) → Kept t (λ q. ⊥) noneOf
+kept-none : (worth : Reading → Value) → Kept worth (λ q. ⊥) noneOf
 unfolding noneOf
-kept-none t = record {
+kept-none worth = record {
   unseen = λ z q s. s;
   seen = λ z. absurd (false≢true z);
   worthless = λ z q s. absurd s;
@@ -168,7 +168,21 @@ kept-none t = record {
 }
 
 -- after a list in order: each of it was held against the others
-pub kept-all : (t : Setting) (rs : List Reading) → Pairwise Before rs → Kept t (λ q. Member q rs) (judged (judgeOf t) noneOf rs)
-kept-all t rs p =
-    kept-same t (λ q. ⊥ ⊎ Member q rs) (λ q. Member q rs) _ (λ q m. ⊎-elim (λ z. absurd z) (λ n. n) m) (λ q m. inr m)
-    (kept-fold t rs (λ q. ⊥) noneOf (kept-none t) (λ q r z m. absurd z) p)
+pub kept-all : (worth : Reading → Value) (rs : List Reading) → Pairwise Before rs → Kept worth (λ q. Member q rs) (judged (judgeOf worth) noneOf rs)
+kept-all worth rs p =
+    kept-same worth (λ q. ⊥ ⊎ Member q rs) (λ q. Member q rs) _ (λ q m. ⊎-elim (λ z. absurd z) (λ n. n) m) (λ q m. inr m)
+    (kept-fold worth rs (λ q. ⊥) noneOf (kept-none worth) (λ q r z m. absurd z) p)
+
+-- ---- two ways to say what a reading is worth
+
+judge-same : (f g : Reading → Value) (b : Best) (r : Reading) → f r ≡ g r → judgeOf f b r ≡ judgeOf g b r
+unfolding judgeOf
+judge-same f g b r e =
+    ap (λ (v : Value). cond (hasYaku (v .yaku) && (not (b .valued) || beats v (b .value))) (record { seen = true; valued = true; value = v }) (record { seen = true; valued = b .valued; value = b .value })) e
+
+-- where they agree on each reading of a list, the same is kept
+pub judged-same : (f g : Reading → Value) (b : Best) (rs : List Reading) → ((q : Reading) → Member q rs → f q ≡ g q) → judged (judgeOf f) b rs ≡ judged (judgeOf g) b rs
+unfolding judged
+judged-same f g b [] h = refl
+judged-same f g b (r ∷ rs) h =
+    ap (λ (x : Best). judged (judgeOf f) x rs) (judge-same f g b r (h r (List·Memᴰ·head refl))) ∙ judged-same f g (judgeOf g b r) rs (λ q m. h q (List·Memᴰ·tail m))

@@ -1,4 +1,4 @@
--- Of two readings at most one is reported rather than the other. Assumes nothing.
+-- Of two readings at most one is reported rather than the other.
 use mathlib.Core.List.{List}
 use mathlib.Core.Logic.{inl, inr}
 use mathlib.Core.Path.{_≡_, sym, subst}
@@ -6,8 +6,8 @@ use Prim.Native.Nat.{ℕ}
 use Rattle.reading.specs.declared.Reading.{Reading}
 use Rattle.reading.specs.Order.{Lex, keyOf}
 use Rattle.reading.specs.laws.Readings.{lex-irreflexive}
-use Rattle.best.specs.declared.Setting.{Setting}
-use Rattle.best.specs.Best.{worth, figures, Over}
+use Rattle.value.specs.declared.Value.{Value}
+use Rattle.best.specs.Best.{figures, Over}
 use Rattle.best.specs.laws.First.{lex-trans}
 
 -- neither of two comes before the other
@@ -17,10 +17,10 @@ lex-one-way a b h g = lex-irreflexive a (lex-trans a b a h g)
 lex-differ : (a b : List ℕ) → Lex a b → a ≡ b → ⊥
 lex-differ a b h e = lex-irreflexive b (subst (λ (z : List ℕ). Lex z b) e h)
 
-pub over-same : (t : Setting) (r q : Reading) → Over t r q → Over t q r → r ≡ q
-over-same t r q (inl h) (inl g) = absurd (lex-one-way (figures (worth t q)) (figures (worth t r)) h g)
-over-same t r q (inl h) (inr g) = absurd (lex-differ (figures (worth t q)) (figures (worth t r)) h (sym (g .0)))
-over-same t r q (inr h) (inl g) = absurd (lex-differ (figures (worth t r)) (figures (worth t q)) g (sym (h .0)))
-over-same t r q (inr (e, inl p)) (inr g) = p
-over-same t r q (inr (e, inr p)) (inr (f, inl g)) = sym g
-over-same t r q (inr (e, inr p)) (inr (f, inr g)) = absurd (lex-one-way (keyOf r) (keyOf q) p g)
+pub over-same : (worth : Reading → Value) (r q : Reading) → Over worth r q → Over worth q r → r ≡ q
+over-same worth r q (inl h) (inl g) = absurd (lex-one-way (figures (worth q)) (figures (worth r)) h g)
+over-same worth r q (inl h) (inr g) = absurd (lex-differ (figures (worth q)) (figures (worth r)) h (sym (g .0)))
+over-same worth r q (inr h) (inl g) = absurd (lex-differ (figures (worth r)) (figures (worth q)) g (sym (h .0)))
+over-same worth r q (inr (e, inl p)) (inr g) = p
+over-same worth r q (inr (e, inr p)) (inr (f, inl g)) = sym g
+over-same worth r q (inr (e, inr p)) (inr (f, inr g)) = absurd (lex-one-way (keyOf r) (keyOf q) p g)

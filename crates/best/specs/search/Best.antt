@@ -1,18 +1,16 @@
--- How the code finds the reported reading: it holds each of a list against the best so far. What it finds is stated by `named` and `only-one` of score/specs/Claims.
+-- How the code finds the reported reading: it holds each of a list against the best so far, where `worth` says what each is worth.
+-- What it finds is stated by `Named` of score/specs.
 use mathlib.Core.Bool.{Bool, true, false, _&&_, _||_, not, cond}
 use mathlib.Core.List.{List}
-use mathlib.Core.Path.{_≡_}
-use Prim.Native.Nat.{ℕ, _<_}
+use Prim.Native.Nat.{ℕ}
 use lib.Dec.{ltb, eqb}
 use lib.ListN.{replicate}
 use Rattle.reading.specs.declared.Reading.{Reading}
 use Rattle.reading.specs.search.Readings.{readings}
 use Rattle.reading.specs.search.Judged.{judged}
-use Rattle.yaku.specs.search.TileTests.{tileTestsOf}
 use Rattle.value.specs.declared.Value.{Value}
-use Rattle.best.specs.declared.Setting.{Setting}
 use Rattle.best.specs.declared.Best.{Best}
-use Rattle.best.specs.Best.{worth, withYaku}
+use Rattle.best.specs.Best.{withYaku}
 
 -- "the highest winner's gain, then highest h, then fu": v is above w
 unfoldable pub beats : Value → Value → Bool
@@ -29,19 +27,12 @@ unfoldable pub noneOf : Best
 noneOf = record { seen = false; valued = false; value = nothing }
 
 -- "the first": a later reading has to beat the one that is kept
-unfoldable pub judgeOf : Setting → Best → Reading → Best
-judgeOf t b r =
-    cond (withYaku t r && (not (b .valued) || beats (worth t r) (b .value)))
-    (record { seen = true; valued = true; value = worth t r })
+unfoldable pub judgeOf : (Reading → Value) → Best → Reading → Best
+judgeOf worth b r =
+    cond (withYaku worth r && (not (b .valued) || beats (worth r) (b .value)))
+    (record { seen = true; valued = true; value = worth r })
     (record { seen = true; valued = b .valued; value = b .value })
 
 -- what is kept after all readings of a tally, in their order
-unfoldable pub bestOf : Setting → List ℕ → ℕ → ℕ → Best
-bestOf t tally m win = judged (judgeOf t) noneOf (readings tally m win)
-
--- what a table has that was made for a hand: the tests are those of its tiles, winds and dora are kinds
-pub record Ready (t : Setting) : Type 0 where
-  pub tests : t .tests ≡ tileTestsOf (t .won .tally) (t .won .bare)
-  pub round : t .won .round < 34
-  pub own : t .won .own < 34
-  pub dora : t .dora < 34
+unfoldable pub bestOf : (Reading → Value) → List ℕ → ℕ → ℕ → Best
+bestOf worth tally m win = judged (judgeOf worth) noneOf (readings tally m win)

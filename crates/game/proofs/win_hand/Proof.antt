@@ -12,9 +12,9 @@ win-hand-spec =
     tie.close
     (tie.spec
     (λ c κs. search needs) (λ c κs. search needs)
-    (λ c. won-unscored (c .before .before .before .before .args .g) (c .before .before .before .before .args .h) (c .before .before .before .settle .result) (c .before .before .before .settle .ensures) (c .refused .result) (c .before .if1 .taken) (c .refused .ensures))
+    (λ c. won-unscored (c .before .before .before .before .args .g) (c .before .before .before .before .args .h) (c .before .before .before .settle .result) (c .before .before .before .settle .ensures .1) (c .refused .result) (c .before .if1 .taken) (c .refused .ensures))
     (λ c. search needs) (λ c. search needs) (λ c κs. search needs) (λ c κs. search needs)
-    (λ c. won-mismatch (c .before .before .before .before .before .before .before .args .g) (c .before .before .before .before .before .before .before .args .h) (c .before .before .before .before .before .before .settle .result) (c .before .before .before .before .before .before .settle .ensures) (c .refused2 .result) (c .before .before .before .before .if1 .left) (sym (c .before .before .mismatch .ensures) ∙ c .before .if2 .taken) (c .refused2 .ensures))
-    (λ c κs. (λ i. rw (c .before .before .before .before .before .before .settle .ensures) (changes-within (c .before .before .before .before .before .before .before .args .h) (c .before .before .before .before .before .before .before .args .g .dealer) (c .before .before .before .before .before .before .before .args .g .wind) i), few-sticks (c .before .before .before .before .before .before .before .args .g) (c .before .before .before .before .before .before .before .pre .0 .form)))
+    (λ c. won-mismatch (c .before .before .before .before .before .before .before .args .g) (c .before .before .before .before .before .before .before .args .h) (c .before .before .before .before .before .before .settle .result) (c .before .before .before .before .before .before .settle .ensures .1) (c .refused2 .result) (c .before .before .before .before .if1 .left) (sym (c .before .before .mismatch .ensures) ∙ c .before .if2 .taken) (c .refused2 .ensures))
+    (λ c κs. (λ i. rw (c .before .before .before .before .before .before .settle .ensures .1) (changes-within (c .before .before .before .before .before .before .before .args .h) (c .before .before .before .before .before .before .before .args .g .dealer) (c .before .before .before .before .before .before .before .args .g .wind) i), few-sticks (c .before .before .before .before .before .before .before .args .g) (c .before .before .before .before .before .before .before .pre .0 .form)))
     (λ c κs. search needs)
-    (λ c. won-taken (c .before .before .before .before .before .before .before .before .before .before .args .g) (c .before .before .before .before .before .before .before .before .before .before .args .h) (c .before .before .before .before .before .before .before .before .before .settle .result) (c .before .before .before .before .before .before .before .before .before .settle .ensures) (c .finish .result) (c .before .before .winnings .result) (c .before .before .before .before .before .before .before .if1 .left) (sym (c .before .before .before .before .before .mismatch .ensures) ∙ c .before .before .before .before .if2 .left) (c .before .before .winnings .ensures .0) (c .finish .ensures)))
+    (λ c. won-taken (c .before .before .before .before .before .before .before .before .before .before .args .g) (c .before .before .before .before .before .before .before .before .before .before .args .h) (c .before .before .before .before .before .before .before .before .before .settle .result) (c .before .before .before .before .before .before .before .before .before .settle .ensures .1) (c .finish .result) (c .before .before .winnings .result) (c .before .before .before .before .before .before .before .if1 .left) (sym (c .before .before .before .before .before .mismatch .ensures) ∙ c .before .before .before .before .if2 .left) (c .before .before .winnings .ensures .0) (c .finish .ensures)))

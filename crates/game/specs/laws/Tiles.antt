@@ -9,7 +9,8 @@ use borrow.Author.Tests.{ltb-false}
 use lib.Dec.{ltb}
 use Rattle.hand_record.specs.Claims.{IsSound, sound}
 use Rattle.score.specs.Named.{Named}
-use Rattle.score.specs.laws.Named.{scored, accepted, best, most, for-tiles}
+use Rattle.score.specs.laws.Settled.{scored}
+use Rattle.score.specs.laws.Named.{accepted, best, most, for-tiles}
 use Rattle.game.specs.declared.Game.{Game}
 use Rattle.game.specs.Booking.{win}
 use Rattle.game.specs.Ledger.{notOpen, handFor, scoredFor, riichiMismatch, refusalFor}

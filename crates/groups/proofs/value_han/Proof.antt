@@ -1,4 +1,4 @@
--- `groups::value_han` meets its contract. Assumes nothing.
+-- `groups::value_han` meets its contract.
 use borrow.Author.Needs.{needs}
 use native.Mathlib.Omega.{arith}
 use Rattle.groups.specs.Tests.{valueHan}
@@ -11,5 +11,6 @@ value-han-spec =
     tie.close
     (tie.spec
     (λ c κs. search needs) (λ c. search needs) (λ c κs. search needs) (λ c. search needs) (λ c κs. search needs)
-    (λ c. search needs) (λ c. search needs) (λ c. (rw (c .if1 .taken) (omega arith), omega arith))
-    (λ c. (rw (c .if1 .left) (omega arith), omega arith)))
+    (λ c. search needs) (λ c κs. search needs) (λ c. search needs) (λ c κs. search needs)
+    (λ c. (rw (c .before .if1 .taken) (omega arith), omega arith))
+    (λ c. (rw (c .before .if1 .left) (omega arith), omega arith)))

@@ -1,7 +1,7 @@
--- `groups::ways_at` meets its contract. Assumes nothing.
+-- `groups::ways_at` meets its contract.
 use borrow.Author.Needs.{needs}
 use borrow.Author.Tests.{lt-ltb, le-ltb}
-use Rattle.groups.specs.Melds.{waysAt}
+use Rattle.groups.specs.search.Ways.{waysAt}
 use Rattle.groups.proofs.ways_at.Statement.{statement}
 use Rattle.groups.proofs.ways_at.Tie as tie
 

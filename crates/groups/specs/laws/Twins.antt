@@ -1,4 +1,4 @@
--- Twin runs by the groups in turn (`twins`): a run makes one where an odd number of equal ones is before it. Assumes nothing.
+-- Twin runs by the groups in turn (`twins`): a run makes one where an odd number of equal ones is before it.
 use mathlib.Core.Path.{_≡_, refl}
 use mathlib.Core.Bool.{Bool, true, false, cond}
 use Prim.Native.Nat.{ℕ, zero, suc, _+_, _/_, _%_}

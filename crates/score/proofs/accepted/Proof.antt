@@ -1,4 +1,4 @@
--- `score::accepted` meets its contract. Assumes nothing.
+-- `score::accepted` meets its contract.
 use borrow.Author.Needs.{needs}
 use Rattle.score.proofs.accepted.Statement.{statement}
 use Rattle.score.proofs.accepted.Tie as tie

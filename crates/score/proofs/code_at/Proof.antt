@@ -1,4 +1,4 @@
--- `score::code_at` meets its contract. Assumes nothing.
+-- `score::code_at` meets its contract.
 use borrow.Author.Needs.{needs}
 use borrow.Author.Tests.{lt-ltb, le-ltb}
 use Rattle.score.proofs.code_at.Statement.{statement}

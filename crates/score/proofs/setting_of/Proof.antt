@@ -1,4 +1,4 @@
--- `score::setting_of` meets its contract: what each call gives, and that it is ready for the search. Assumes nothing.
+-- `score::setting_of` meets its contract: what each call gives, and that it is ready for the search.
 use borrow.Author.Needs.{needs}
 use Prim.Native.Nat.{ℕ, _≤_, _<_}
 use mathlib.Core.List.{List}
@@ -9,7 +9,8 @@ use Rattle.hand.specs.declared.Hand.{Hand}
 use Rattle.yaku.specs.declared.Won.{Won}
 use Rattle.yaku.specs.declared.TileTests.{TileTests}
 use Rattle.yaku.specs.search.TileTests.{tileTestsOf}
-use Rattle.score.specs.Named.{wonOf, seatsOf, meldCodes, meldWays, settingOf}
+use Rattle.score.specs.Named.{wonOf, seatsOf}
+use Rattle.score.specs.search.Setting.{meldCodes, meldWays, settingOf}
 use Rattle.score.proofs.setting_of.Statement.{statement}
 use Rattle.score.proofs.setting_of.Tie as tie
 

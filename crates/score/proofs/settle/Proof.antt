@@ -1,24 +1,46 @@
--- `score::settle` meets its contract, by what the search kept. Assumes nothing.
+-- `score::settle` meets its contract, by what the search kept.
 use borrow.Author.Needs.{needs}
-use mathlib.Core.Path.{_∙_}
-use Rattle.score.specs.laws.Settled.{basic-kept, settled-accepted, settled-seven, settled-six}
+use mathlib.Core.Path.{_≡_, _∙_}
+use lib.ListN.{length}
+use Rattle.score.specs.search.Settled.{keptOf}
+use Rattle.score.specs.laws.Named.{settled-named}
+use Rattle.score.specs.laws.Parts.{kept-in}
+use Rattle.score.specs.laws.Found.{basic-kept, settled-accepted, settled-seven, settled-six}
 use Rattle.score.proofs.settle.Statement.{statement}
 use Rattle.score.proofs.settle.Tie as tie
+
+-- melds has four places
+four : (c : tie.Start) → length (c .args .h .held .melds) ≡ 4
+four c = search needs
+
+-- what the search kept
+kept : (c : tie.After-best-of) → let a = c .before .before .before .args in c .best-of .result ≡ keptOf (a .h) (a .dealer) (a .wind)
+kept c =
+    let start = c .before .before .before in
+    let a = start .args in
+    kept-in (a .h) (start .pre .0) (four start) (a .dealer) (a .wind) (c .before .before .setting-of .result) (c .before .concealed-tally .result) (c .best-of .result)
+    (c .before .before .setting-of .ensures .0) (c .before .concealed-tally .ensures) (c .best-of .ensures)
 
 pub settle-spec : {M : Type 1} → statement M
 settle-spec =
     tie.close
     (tie.spec (λ c κs. search needs) (λ c κs. search needs)
     (λ c κs. (c .before .setting-of .ensures .1, c .before .before .pre .0))
-    (λ c κs. basic-kept (c .before .before .before .before .best-of .result) (c .before .before .before .before .before .before .setting-of .result) (c .before .before .before .before .before .concealed-tally .result) _ _ (c .before .before .before .before .best-of .ensures))
+    (λ c κs.
+    let b = c .before .before .before .before in
+    let a = b .before .before .before .args in
+    basic-kept (a .h) (a .dealer) (a .wind) (b .best-of .result) (kept b))
     (λ c.
-    let a = c .before .before .before .before .before .before .before .before .args in
-    c .accepted .ensures ∙ settled-accepted (a .h) (a .dealer) (a .wind) (c .before .before .before .before .before .before .before .setting-of .result) (c .before .before .before .before .before .before .concealed-tally .result) (c .before .before .before .before .before .best-of .result) (c .before .before .before .before .before .before .before .setting-of .ensures .0) (c .before .before .before .before .before .before .concealed-tally .ensures) (c .before .before .before .before .before .best-of .ensures) (c .before .before .before .before .if1 .taken) (c .before .before .before .if2 .taken))
+    let b = c .before .before .before .before .before in
+    let a = b .before .before .before .args in
+    settled-named (a .h) (a .dealer) (a .wind) _ (c .accepted .ensures ∙ settled-accepted (a .h) (a .dealer) (a .wind) (b .best-of .result) (kept b) (c .before .before .before .before .if1 .taken) (c .before .before .before .if2 .taken)))
     (λ c κs. search needs)
     (λ c.
-    let a = c .before .before .before .before .before .before .args in
-    c .refused .ensures ∙ settled-seven (a .h) (a .dealer) (a .wind) (c .before .before .before .before .before .setting-of .result) (c .before .before .before .before .concealed-tally .result) (c .before .before .before .best-of .result) (c .before .before .before .before .before .setting-of .ensures .0) (c .before .before .before .before .concealed-tally .ensures) (c .before .before .before .best-of .ensures) (c .before .before .if1 .taken) (c .before .if2 .left))
+    let b = c .before .before .before in
+    let a = b .before .before .before .args in
+    settled-named (a .h) (a .dealer) (a .wind) _ (c .refused .ensures ∙ settled-seven (a .h) (a .dealer) (a .wind) (b .best-of .result) (kept b) (c .before .before .if1 .taken) (c .before .if2 .left)))
     (λ c κs. search needs)
     (λ c.
-    let a = c .before .before .before .before .before .args in
-    c .refused2 .ensures ∙ settled-six (a .h) (a .dealer) (a .wind) (c .before .before .before .before .setting-of .result) (c .before .before .before .concealed-tally .result) (c .before .before .best-of .result) (c .before .before .before .before .setting-of .ensures .0) (c .before .before .before .concealed-tally .ensures) (c .before .before .best-of .ensures) (c .before .if1 .left)))
+    let b = c .before .before in
+    let a = b .before .before .before .args in
+    settled-named (a .h) (a .dealer) (a .wind) _ (c .refused2 .ensures ∙ settled-six (a .h) (a .dealer) (a .wind) (b .best-of .result) (kept b) (c .before .if1 .left))))

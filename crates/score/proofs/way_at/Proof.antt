@@ -1,4 +1,4 @@
--- `score::way_at` meets its contract. Assumes nothing.
+-- `score::way_at` meets its contract.
 use borrow.Author.Needs.{needs}
 use borrow.Author.Tests.{lt-ltb, le-ltb}
 use Rattle.score.proofs.way_at.Statement.{statement}

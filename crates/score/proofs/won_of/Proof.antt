@@ -1,4 +1,4 @@
--- `score::won_of` meets its contract. Assumes nothing.
+-- `score::won_of` meets its contract.
 use borrow.Author.Needs.{needs}
 use Rattle.score.specs.Named.{wonOf}
 use Rattle.score.proofs.won_of.Statement.{statement}

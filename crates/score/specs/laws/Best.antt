@@ -1,38 +1,33 @@
--- What the search kept of a hand's readings, over all that are readings. Assumes nothing.
+-- What the search kept of a hand's readings, over all that are readings.
 use Prim.Native.Nat.{ℕ}
 use mathlib.Core.Path.{_≡_, refl}
 use mathlib.Core.Bool.{Bool, true, false}
 use mathlib.Core.List.{List·Memᴰ as Member}
-use lib.ListN.{length}
-use Rattle.tiles.specs.laws.Tally.{length-tally}
 use Rattle.hand.specs.declared.Hand.{Hand}
-use Rattle.hand.specs.Hand.{isRon, inConcealed, concealedTally}
+use Rattle.hand.specs.Hand.{isRon, concealedTally}
 use Rattle.reading.specs.search.Readings.{readings}
 use Rattle.reading.specs.search.Claims.{readings-sound, readings-complete, readings-ordered}
 use Rattle.best.specs.declared.Best.{Best}
 use Rattle.best.specs.search.Best.{bestOf}
 use Rattle.best.specs.laws.First.{Kept, kept-all, kept-same}
-use Rattle.score.specs.Named.{settingOf, seatsOf, IsReadingOf, refusedWith, acceptedAs}
-use Rattle.score.specs.search.Settled.{settledBy, settledOf}
+use Rattle.score.specs.Named.{worth, seatsOf, IsReadingOf, refusedWith, acceptedAs}
+use Rattle.score.specs.laws.Parts.{tally-long}
+use Rattle.score.specs.search.Settled.{settledBy, keptOf, settledOf}
 
 module _ (h : Hand) (dealer wind : ℕ) where
-  long : length (concealedTally h) ≡ 34
-  unfolding concealedTally
-  long = length-tally (inConcealed h)
-
   abbrev kept : Best
-  kept = bestOf (settingOf h dealer wind) (concealedTally h) (h .held .m) (h .fields .winning)
+  kept = keptOf h dealer wind
 
   -- the search held each reading of the hand against the others
-  pub over-readings : Kept (settingOf h dealer wind) (IsReadingOf h) kept
-  unfolding bestOf
+  pub over-readings : Kept (worth h dealer wind) (IsReadingOf h) kept
+  unfolding bestOf keptOf
   over-readings =
-      let t = settingOf h dealer wind in
+      let t = worth h dealer wind in
       let c = concealedTally h in
       let m = h .held .m in
       let w = h .fields .winning in
-      kept-same t (λ q. Member q (readings c m w)) (IsReadingOf h) _ (λ q n. readings-sound c m w long q n) (λ q n. readings-complete c m w long q n)
-      (kept-all t (readings c m w) (readings-ordered c m w long))
+      kept-same t (λ q. Member q (readings c m w)) (IsReadingOf h) _ (λ q n. readings-sound c m w (tally-long h) q n) (λ q n. readings-complete c m w (tally-long h) q n)
+      (kept-all t (readings c m w) (readings-ordered c m w (tally-long h)))
 
   -- the three answers
   pub answers : {A : Type 0} → (kept .seen ≡ false → settledOf h dealer wind ≡ refusedWith 6 → A) → (kept .seen ≡ true → kept .valued ≡ false → settledOf h dealer wind ≡ refusedWith 7 → A)

@@ -1,4 +1,4 @@
--- What the game needs to know of a scored hand: four changes, none over 48,000, summing to 0. Assumes nothing.
+-- What the game needs to know of a scored hand: four changes, none over 48,000, summing to 0.
 use mathlib.Core.Path.{_≡_, refl, sym, ap, subst}
 use mathlib.Core.Bool.{Bool, true, false, _||_, cond}
 use mathlib.Core.List.{List}
@@ -9,7 +9,7 @@ use lib.Dec.{ltb, eqb}
 use lib.IntN.{ℤ, pos, _-ℤ_}
 use lib.ListN.{getD, replicate}
 use Rattle.hand.specs.declared.Hand.{Hand}
-use Rattle.hand.specs.Hand.{isRon, concealedTally}
+use Rattle.hand.specs.Hand.{isRon}
 use Rattle.hand_record.specs.declared.Answer.{Answer}
 use Rattle.hand_record.specs.declared.Answer.the-variants.{Sound, Refused}
 use Rattle.hand_record.specs.Record.{refusalIn, handOf, readOf}
@@ -19,10 +19,11 @@ use Rattle.points.specs.Points.{pays, gain, change as changeOf, changes, sumOfF
 use Rattle.points.specs.Claims.{changes-sum-zero}
 use Rattle.points.specs.laws.Bounds.{pays-le, gain-le}
 use Rattle.score.specs.declared.Scored.{Scored}
-use Rattle.score.specs.Named.{settingOf, seatsOf, refusedWith}
-use Rattle.score.specs.search.Settled.{settledOf}
-use Rattle.score.specs.Score.{scoredBy, scoreOf}
-use Rattle.score.specs.laws.Settled.{best-le}
+use Rattle.score.specs.Named.{seatsOf, refusedWith}
+use Rattle.score.specs.search.Settled.{settledOf, foundBy, foundOf}
+use Rattle.score.specs.Score.{scoreOf}
+use Rattle.score.specs.laws.Found.{kept-le}
+use Rattle.score.specs.laws.Settled.{found-is-score}
 use Rattle.score.specs.laws.Best.{answers}
 use Rattle.score.specs.laws.Z.{Within, sub-parts}
 
@@ -66,7 +67,7 @@ module _ (P : List ℤ → Type 0) (h : Hand) (dealer wind : ℕ) (none : P (rep
   of-changes =
       let to : (x : Scored) → settledOf h dealer wind ≡ x → P (x .changes) → P (settledOf h dealer wind .changes) = λ x e p. subst (λ (y : Scored). P (y .changes)) (sym e) p in
       answers h dealer wind (λ s e. to (refusedWith 6) e none) (λ s v e. to (refusedWith 7) e none)
-      (λ s v e. to _ e (paid _ (best-le (settingOf h dealer wind) (concealedTally h) (h .held .m) (h .fields .winning))))
+      (λ s v e. to _ e (paid _ (kept-le h dealer wind)))
 
 module _ (h : Hand) (dealer wind : ℕ) where
   pub changes-within : (i : ℕ) → Within (change h dealer wind i) 48000
@@ -76,14 +77,17 @@ module _ (h : Hand) (dealer wind : ℕ) where
 
 module _ (P : List ℤ → Type 0) (s : List ℕ) (dealer wind : ℕ) (none : P (replicate 4 (pos 0)))
     (paid : refusalIn (readOf s .answer) ≡ 0 → (a : ℕ) → a ≤ 8000 → P (changes (seatsOf (handOf (readOf s)) dealer) (isRon (handOf (readOf s) .fields)) a)) where
-  of-score : P (scoreOf s dealer wind .changes)
-  unfolding scoreOf scoredBy
-  of-score = go (ltb 3 dealer || ltb 1 wind) (readOf s .answer) refl
+  of-found : P (foundOf s dealer wind .changes)
+  unfolding foundOf foundBy
+  of-found = go (ltb 3 dealer || ltb 1 wind) (readOf s .answer) refl
     where
-      go : (b : Bool) (a : Answer) → readOf s .answer ≡ a → P (cond b (refusedWith 8) (scoredBy a (handOf (readOf s)) dealer wind) .changes)
+      go : (b : Bool) (a : Answer) → readOf s .answer ≡ a → P (cond b (refusedWith 8) (foundBy a (handOf (readOf s)) dealer wind) .changes)
       go true a e = none
       go false (Refused n) e = none
       go false (Sound f) e = of-changes P (handOf (readOf s)) dealer wind none (paid (ap refusalIn e))
+
+  of-score : P (scoreOf s dealer wind .changes)
+  of-score = subst (λ (x : Scored). P (x .changes)) (found-is-score s dealer wind) of-found
 
 module _ (s : List ℕ) (dealer wind : ℕ) where
   pub score-within : (i : ℕ) → Within (getD (scoreOf s dealer wind .changes) i (pos 0)) 48000

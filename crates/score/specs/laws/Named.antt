@@ -1,24 +1,19 @@
--- The search finds what document 01 names for a hand, and it names one answer. Assumes nothing.
+-- The search finds what document 01 names for a hand, and it names one answer.
 use Prim.Native.Nat.{ℕ, _≤_}
 use mathlib.Core.Path.{_≡_, refl, sym, ap, _∙_, subst}
 use mathlib.Core.Bool.{false≢true}
 use mathlib.Core.Logic.{_⊎_, inl, inr, ⊎-elim, _↔_}
-use mathlib.Core.List.{List}
 use native.Mathlib.Omega.{arith}
 use Rattle.hand.specs.declared.Hand.{Hand}
 use Rattle.hand.specs.Hand.{isRon}
-use Rattle.hand_record.specs.Record.{handOf, readOf}
-use Rattle.hand_record.specs.Claims.{IsSound, sound}
 use Rattle.reading.specs.declared.Reading.{Reading}
 use Rattle.reading.specs.Order.{Lex}
 use Rattle.value.specs.declared.Value.{Value}
-use Rattle.best.specs.Best.{worth, figures}
+use Rattle.best.specs.Best.{figures}
 use Rattle.best.specs.laws.Over.{over-same}
 use Rattle.score.specs.declared.Scored.{Scored}
-use Rattle.score.specs.Named.{settingOf, seatsOf, IsReadingOf, acceptedAs, ReadsWithYaku, IsReported, gainIn, scoredAs, Named, reported, six, seven}
+use Rattle.score.specs.Named.{worth, seatsOf, IsReadingOf, acceptedAs, ReadsWithYaku, IsReported, gainIn, scoredAs, Named, reported, six, seven}
 use Rattle.score.specs.search.Settled.{settledOf}
-use Rattle.score.specs.Score.{scoreOf}
-use Rattle.score.specs.laws.Settled.{score-read}
 use Rattle.score.specs.laws.Best.{over-readings, answers}
 
 -- what comes first in the figures is the gain
@@ -40,7 +35,7 @@ module _ (h : Hand) (dealer wind : ℕ) where
       (reported (y .0) (record { yaku = (y .1, y .2); first = λ q w. y .4 q (w .0) (w .1) })))
 
   pub only-one : {x y : Scored} → Named h dealer wind x → Named h dealer wind y → x ≡ y
-  only-one (reported r a) (reported q b) = ap (scoredAs h dealer wind) (over-same (settingOf h dealer wind) r q (a .first q (b .yaku)) (b .first r (a .yaku)))
+  only-one (reported r a) (reported q b) = ap (scoredAs h dealer wind) (over-same (worth h dealer wind) r q (a .first q (b .yaku)) (b .first r (a .yaku)))
   only-one (reported r a) (six n) = absurd (n r (a .yaku .0))
   only-one (reported r a) (seven q i n) = absurd (n r (a .yaku))
   only-one (six n) (reported r a) = absurd (n r (a .yaku .0))
@@ -52,7 +47,7 @@ module _ (h : Hand) (dealer wind : ℕ) where
 
   pub most : (r q : Reading) → IsReported h dealer wind r → ReadsWithYaku h dealer wind q → gainIn h dealer wind q ≤ gainIn h dealer wind r
   most r q a w =
-      gain-le (worth (settingOf h dealer wind) q) (worth (settingOf h dealer wind) r) (⊎-elim (λ l. inl l) (λ k. inr (k .0)) (a .first q w))
+      gain-le (worth h dealer wind q) (worth h dealer wind r) (⊎-elim (λ l. inl l) (λ k. inr (k .0)) (a .first q w))
 
   -- ---- of any answer that is named
 
@@ -81,8 +76,9 @@ module _ (h : Hand) (dealer wind : ℕ) where
   for-tiles (six n) = (λ e r w. n r (w .0), λ m. inl refl)
   for-tiles (seven q i n) = (λ e. n, λ m. inr refl)
 
--- ---- of a record
+  -- what is named is what the search finds
+  pub settled-is : (x : Scored) → Named h dealer wind x → x ≡ settledOf h dealer wind
+  settled-is x n = only-one n named
 
-pub scored : (s : List ℕ) (dealer wind : ℕ) → dealer ≤ 3 → wind ≤ 1 → IsSound s → Named (handOf (readOf s)) dealer wind (scoreOf s dealer wind)
-scored s dealer wind d w i =
-    subst (λ (x : Scored). Named (handOf (readOf s)) dealer wind x) (sym (score-read s dealer wind d w (sound s .0 i))) (named (handOf (readOf s)) dealer wind)
+  pub settled-named : (x : Scored) → x ≡ settledOf h dealer wind → Named h dealer wind x × (x ≡ settledOf h dealer wind)
+  settled-named x e = (subst (λ (y : Scored). Named h dealer wind y) (sym e) named, e)

@@ -1,135 +1,32 @@
--- What a sound hand and a record score, case by case. Assumes nothing.
+-- The score of a record, by what Read answers.
 use Prim.Native.Nat.{ℕ, _≤_, _<_}
-use mathlib.Core.Path.{_≡_, refl, sym, ap, _∙_}
-use mathlib.Core.Bool.{Bool, true, false, _&&_, _||_, not, cond}
-use mathlib.Core.List.{List, [], _∷_}
-use native.Mathlib.Omega.{arith}
-use borrow.Author.Tests.{ltb-false, le-ltb}
-use lib.Dec.{ltb, leb}
-use Rattle.tiles.specs.laws.Below.{cond-le}
-use Rattle.hand.specs.declared.Fields.{Fields}
-use Rattle.hand.specs.declared.Hand.{Hand}
-use Rattle.hand.specs.Hand.{isRon, concealedTally}
-use Rattle.hand_record.specs.declared.Answer.{Answer}
-use Rattle.hand_record.specs.declared.Answer.the-variants.{Sound, Refused}
-use Rattle.hand_record.specs.declared.HandRead.{HandRead}
+use mathlib.Core.Path.{_≡_, refl, sym, _∙_, subst}
+use mathlib.Core.List.{List}
 use Rattle.hand_record.specs.Record.{refusalIn, handOf, readOf}
-use Rattle.hand_record.specs.laws.Bounds.{answer-is, hand-is, refused-number}
-use Rattle.reading.specs.declared.Reading.{Reading}
-use Rattle.reading.specs.search.Readings.{readings}
-use Rattle.reading.specs.search.Judged.{judged}
-use Rattle.points.specs.Points.{plain, limit, ordinary, basic}
-use Rattle.value.specs.Value.{valueOf}
-use Rattle.best.specs.declared.Setting.{Setting}
-use Rattle.best.specs.declared.Best.{Best}
-use Rattle.best.specs.Best.{worth, withYaku}
-use Rattle.best.specs.search.Best.{beats, noneOf, judgeOf, bestOf}
+use Rattle.hand_record.specs.Claims.{IsSound, sound}
 use Rattle.score.specs.declared.Scored.{Scored}
-use Rattle.score.specs.Named.{settingOf, seatsOf, refusedWith, acceptedAs}
-use Rattle.score.specs.search.Settled.{settledBy, settledOf}
-use Rattle.score.specs.Score.{scoredBy, scoreOf}
+use Rattle.score.specs.Named.{refusedWith, Named}
+use Rattle.score.specs.IsScore.{IsScore}
+use Rattle.score.specs.Score.{scoreOf, one-score}
+use Rattle.score.specs.search.Settled.{settledOf, foundOf}
+use Rattle.score.specs.laws.Found.{found-read, found-unread}
+use Rattle.score.specs.laws.Named.{named}
+use Rattle.score.specs.laws.Exact.{found-score}
 
--- ---- basic points are at most 8,000
+module _ (s : List ℕ) (dealer wind : ℕ) where
+  -- the score is what the search finds
+  pub found-is-score : foundOf s dealer wind ≡ scoreOf s dealer wind
+  found-is-score = one-score s dealer wind (foundOf s dealer wind) (found-score s dealer wind refl)
 
-limit-le : (h : ℕ) → limit h ≤ 6000
-unfolding limit
-limit-le h = cond-le (leb h 5) _ _ 6000 (omega arith) (cond-le (leb h 7) _ _ 6000 (omega arith) (cond-le (leb h 10) _ _ 6000 (omega arith) (omega arith)))
+  pub both : (x : Scored) → x ≡ foundOf s dealer wind → IsScore s dealer wind x × (x ≡ scoreOf s dealer wind)
+  both x e = (found-score s dealer wind e, e ∙ found-is-score)
 
-ordinary-le : (h f : ℕ) → ordinary h f ≤ 6000
-unfolding ordinary
-ordinary-le h f = go (leb 5 h) (ltb 2000 (plain h f)) refl
-  where
-    go : (a b : Bool) → ltb 2000 (plain h f) ≡ b → cond (a || b) (limit h) (plain h f) ≤ 6000
-    go true b e = limit-le h
-    go false true e = limit-le h
-    go false false e = omega (arith, ltb-false 2000 (plain h f) e)
+  module _ (d : dealer ≤ 3) (w : wind ≤ 1) where
+    pub score-read : refusalIn (readOf s .answer) ≡ 0 → scoreOf s dealer wind ≡ settledOf (handOf (readOf s)) dealer wind
+    score-read e = sym found-is-score ∙ found-read s dealer wind d w e
 
-pub basic-le : (y : Bool) (h f : ℕ) → basic y h f ≤ 8000
-unfolding basic
-basic-le y h f = cond-le y _ _ 8000 (omega arith) (omega (arith, ordinary-le h f))
+    pub score-unread : (n : ℕ) → refusalIn (readOf s .answer) ≡ n → 0 < n → scoreOf s dealer wind ≡ refusedWith n
+    score-unread n e l = sym found-is-score ∙ found-unread s dealer wind d w n e l
 
-worth-le : (t : Setting) (r : Reading) → worth t r .basic .0 ≤ 8000
-unfolding worth valueOf
-worth-le t r = basic-le _ _ _
-
-judge-le : (t : Setting) (b : Best) (r : Reading) → b .value .basic .0 ≤ 8000 → judgeOf t b r .value .basic .0 ≤ 8000
-unfolding judgeOf
-judge-le t b r h = go (withYaku t r && (not (b .valued) || beats (worth t r) (b .value)))
-  where
-    go : (c : Bool) → cond {A = Best} c (record { seen = true; valued = true; value = worth t r }) (record { seen = true; valued = b .valued; value = b .value }) .value .basic .0 ≤ 8000
-    go true = worth-le t r
-    go false = h
-
-judged-le : (t : Setting) (b : Best) (rs : List Reading) → b .value .basic .0 ≤ 8000 → judged (judgeOf t) b rs .value .basic .0 ≤ 8000
-unfolding judged
-judged-le t b [] h = h
-judged-le t b (r ∷ rs) h = judged-le t (judgeOf t b r) rs (judge-le t b r h)
-
-pub best-le : (t : Setting) (c : List ℕ) (m win : ℕ) → bestOf t c m win .value .basic .0 ≤ 8000
-unfolding bestOf noneOf
-best-le t c m win = judged-le t noneOf (readings c m win) (omega arith)
-
-pub basic-kept : (b : Best) (t : Setting) (c : List ℕ) (m win : ℕ) → b ≡ bestOf t c m win → b .value .basic .0 ≤ 8000
-basic-kept b t c m win e = rw e (best-le t c m win)
-
--- ---- a sound hand, by what the search kept
-
-module _ (h : Hand) (dealer wind : ℕ) (t : Setting) (c : List ℕ) (b : Best) (et : t ≡ settingOf h dealer wind) (ec : c ≡ concealedTally h) (eb : b ≡ bestOf t c (h .held .m) (h .fields .winning)) where
-  settled-by : settledBy b (seatsOf h dealer) (isRon (h .fields)) ≡ settledOf h dealer wind
-  unfolding settledOf
-  settled-by =
-      ap (λ (x : Best). settledBy x (seatsOf h dealer) (isRon (h .fields)))
-      (eb ∙ ap (λ (x : Setting). bestOf x c (h .held .m) (h .fields .winning)) et ∙ ap (λ (x : List ℕ). bestOf (settingOf h dealer wind) x (h .held .m) (h .fields .winning)) ec)
-
-  pub settled-accepted : b .seen ≡ true → b .valued ≡ true → acceptedAs (b .value) (seatsOf h dealer) (isRon (h .fields)) ≡ settledOf h dealer wind
-  unfolding settledBy
-  settled-accepted s v = rw (s, v) at settled-by
-
-  pub settled-seven : b .seen ≡ true → b .valued ≡ false → refusedWith 7 ≡ settledOf h dealer wind
-  unfolding settledBy
-  settled-seven s v = rw (s, v) at settled-by
-
-  pub settled-six : b .seen ≡ false → refusedWith 6 ≡ settledOf h dealer wind
-  unfolding settledBy
-  settled-six s = rw s at settled-by
-
--- ---- a record
-
-pub scored-eight : (s : List ℕ) (dealer wind : ℕ) → ltb 3 dealer || ltb 1 wind ≡ true → refusedWith 8 ≡ scoreOf s dealer wind
-unfolding scoreOf
-scored-eight s dealer wind e = rw e
-
-module _ (s : List ℕ) (dealer wind : ℕ) (r : HandRead) (q : ltb 3 dealer || ltb 1 wind ≡ false) (e : r ≡ readOf s) where
-  by-answer : (a : Answer) → r .answer ≡ a → scoredBy a (handOf (readOf s)) dealer wind ≡ scoreOf s dealer wind
-  unfolding scoreOf
-  by-answer a told = rw q (ap (λ (x : Answer). scoredBy x (handOf (readOf s)) dealer wind) (sym (answer-is s r e told)))
-
-  pub scored-refused : (n w : ℕ) (x : Scored) → r .answer ≡ Refused n → w ≡ refusalIn (r .answer) → x ≡ refusedWith w → x ≡ scoreOf s dealer wind
-  unfolding scoredBy
-  scored-refused n w x told why ex = ex ∙ ap refusedWith (why ∙ ap refusalIn told) ∙ by-answer (Refused n) told
-
-  pub scored-sound : (f : Fields) (x : Scored) → r .answer ≡ Sound f → x ≡ settledOf (record { fields = f; held = r .held }) dealer wind → x ≡ scoreOf s dealer wind
-  unfolding scoredBy
-  scored-sound f x told ex = ex ∙ ap (λ (y : Hand). settledOf y dealer wind) (hand-is s r e f told) ∙ by-answer (Sound f) told
-
--- ---- a record, by what Read answers
-
-module _ (s : List ℕ) (dealer wind : ℕ) (d : dealer ≤ 3) (w : wind ≤ 1) where
-  seats-right : ltb 3 dealer || ltb 1 wind ≡ false
-  seats-right = rw (le-ltb 3 dealer d, le-ltb 1 wind w)
-
-  pub score-read : refusalIn (readOf s .answer) ≡ 0 → scoreOf s dealer wind ≡ settledOf (handOf (readOf s)) dealer wind
-  unfolding scoreOf scoredBy
-  score-read e = rw seats-right (go (readOf s .answer) refl)
-    where
-      go : (a : Answer) → readOf s .answer ≡ a → scoredBy a (handOf (readOf s)) dealer wind ≡ settledOf (handOf (readOf s)) dealer wind
-      go (Refused n) q = let z : n ≡ 0 = ap refusalIn (sym q) ∙ e in absurd (omega (arith, refused-number s n q))
-      go (Sound f) q = refl
-
-  pub score-unread : (n : ℕ) → refusalIn (readOf s .answer) ≡ n → 0 < n → scoreOf s dealer wind ≡ refusedWith n
-  unfolding scoreOf scoredBy
-  score-unread n e l = rw seats-right (go (readOf s .answer) refl)
-    where
-      go : (a : Answer) → readOf s .answer ≡ a → scoredBy a (handOf (readOf s)) dealer wind ≡ refusedWith n
-      go (Refused k) q = ap refusedWith (ap refusalIn (sym q) ∙ e)
-      go (Sound f) q = let z : 0 ≡ n = ap refusalIn (sym q) ∙ e in absurd (omega arith)
+    pub scored : IsSound s → Named (handOf (readOf s)) dealer wind (scoreOf s dealer wind)
+    scored i = subst (λ (x : Scored). Named (handOf (readOf s)) dealer wind x) (sym (score-read (sound s .0 i))) (named (handOf (readOf s)) dealer wind)

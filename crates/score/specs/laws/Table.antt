@@ -1,5 +1,9 @@
--- The table of hands, computed. Assumes nothing.
-use mathlib.Core.Path.{refl}
+-- The table of hands, computed.
+use mathlib.Core.Path.{_≡_, refl, sym, ap, _∙_}
+use mathlib.Core.List.{List}
+use Prim.Native.Nat.{ℕ}
+use lib.IntN.{ℤ}
+use Rattle.hand.specs.declared.Hand.{Hand}
 use Rattle.tiles.specs.Below.{every, some, number, total}
 use Rattle.tiles.specs.Kinds.{doraOf}
 use Rattle.tiles.specs.Groups.{isGroup, at, uses}
@@ -11,35 +15,36 @@ use Rattle.hand_record.specs.Record.{headOf, meldsOf, tilesOf, heldIn, paddingA
 use Rattle.reading.specs.Reading.{holds, isSevenPairs, isOrphans}
 use Rattle.reading.specs.search.Readings.{concatMap, isEmpty, less, fits, without, passes, step, splits, placedAt, placed, paired, shaped, readings}
 use Rattle.reading.specs.search.Judged.{judged}
-use Rattle.groups.specs.Melds.{waysAt}
 use Rattle.groups.specs.Tests.{littleDragons, valueHan, earnsWait, pinfu, twins, inThreeAt, inThreeSuits, straight, touches, outside, concealed, kans, fourWinds}
 use Rattle.yaku.specs.OfTiles.{only, halfFlush, flush, gates}
-use Rattle.yaku.specs.search.TileTests.{tileTestsOf}
 use Rattle.yaku.specs.Yaku.{testsOf, isYakuman, listed, yakuOf, hasYaku}
 use Rattle.points.specs.Points.{plain, limit, ordinary, basic, hundreds, share, pays, gain, change, changes}
-use Rattle.value.specs.Han.{tableHan, yakuHan, hanOf}
+use Rattle.value.specs.Han.{hanBy, yakuHan, hanOf}
 use Rattle.value.specs.Fu.{tripletFu, groupFu, earned, added, rounded, fuOf}
 use Rattle.value.specs.Value.{valueOf}
-use Rattle.best.specs.Best.{joined, partsOf, worth}
 use Rattle.best.specs.search.Best.{beats, noneOf, judgeOf, bestOf}
-use Rattle.score.specs.Named.{wonOf, meldCodes, meldWays, settingOf}
-use Rattle.score.specs.search.Settled.{settledBy, settledOf}
-use Rattle.score.specs.Score.{scoredBy, scoreOf}
-use Rattle.score.specs.Table.{Lines}
+use Rattle.score.specs.Named.{wonOf, groupsOf, waysOf, partsOf, worth}
+use Rattle.score.specs.search.Settled.{settledBy, keptOf, settledOf, foundBy, foundOf}
+use Rattle.score.specs.laws.Settled.{found-is-score}
+use Rattle.score.specs.Table.{toldOf, Scores, Lines}
+
+-- a line holds of the score where it holds of what the search finds
+line : (hand : Hand) (refusal h fu : ℕ) (changes : List ℤ) → toldOf (foundOf (recordOf hand) 0 0) ≡ (refusal, h, fu, changes) → Scores hand refusal h fu changes
+line hand refusal h fu changes e = record { told = ap toldOf (sym (found-is-score (recordOf hand) 0 0)) ∙ e }
 
 pub lines : Lines
-unfolding widths valuesOf recordOf every some number total doraOf isGroup at uses tallyOf meldHolds inMelds inOthers inHeld inConcealed inHand concealedTally handTally tileOver33 wrongHeld wrongFields descends inRecord overFour wrongSituation refusalOf headOf meldsOf tilesOf heldIn paddingAfter handIn answerBy judgedHand readOf holds isSevenPairs isOrphans concatMap isEmpty less fits without passes step splits placedAt placed paired shaped readings judged waysAt littleDragons valueHan earnsWait pinfu twins inThreeAt inThreeSuits straight touches outside concealed kans fourWinds only halfFlush flush gates tileTestsOf testsOf isYakuman listed yakuOf hasYaku plain limit ordinary basic hundreds share pays gain change changes tableHan yakuHan hanOf tripletFu groupFu earned added rounded fuOf valueOf joined partsOf worth beats noneOf judgeOf bestOf wonOf meldCodes meldWays settingOf settledBy settledOf scoredBy scoreOf
+unfolding widths valuesOf recordOf every some number total doraOf isGroup at uses tallyOf meldHolds inMelds inOthers inHeld inConcealed inHand concealedTally handTally tileOver33 wrongHeld wrongFields descends inRecord overFour wrongSituation refusalOf headOf meldsOf tilesOf heldIn paddingAfter handIn answerBy judgedHand readOf holds isSevenPairs isOrphans concatMap isEmpty less fits without passes step splits placedAt placed paired shaped readings judged littleDragons valueHan earnsWait pinfu twins inThreeAt inThreeSuits straight touches outside concealed kans fourWinds only halfFlush flush gates testsOf isYakuman listed yakuOf hasYaku plain limit ordinary basic hundreds share pays gain change changes hanBy yakuHan hanOf tripletFu groupFu earned added rounded fuOf valueOf beats noneOf judgeOf bestOf wonOf groupsOf waysOf partsOf worth settledBy keptOf settledOf foundBy foundOf
 lines = record {
-  line-1 = refl;
-  line-2 = refl;
-  line-3 = refl;
-  line-4 = refl;
-  line-5 = refl;
-  line-6 = refl;
-  line-7 = refl;
-  line-8 = refl;
-  line-9 = refl;
+  line-1 = line _ _ _ _ _ refl;
+  line-2 = line _ _ _ _ _ refl;
+  line-3 = line _ _ _ _ _ refl;
+  line-4 = line _ _ _ _ _ refl;
+  line-5 = line _ _ _ _ _ refl;
+  line-6 = line _ _ _ _ _ refl;
+  line-7 = line _ _ _ _ _ refl;
+  line-8 = line _ _ _ _ _ refl;
+  line-9 = line _ _ _ _ _ refl;
   line-10 = (refl, refl);
   line-11 = λ fu. (refl, refl, refl, refl);
-  line-12 = refl;
+  line-12 = line _ _ _ _ _ refl;
 }

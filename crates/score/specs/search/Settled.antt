@@ -1,19 +1,36 @@
--- How the code finds what a sound hand scores: from what the search for the best reading kept. What it finds is stated by `named` and `only-one` of score/specs/Claims.
-use mathlib.Core.Bool.{Bool, cond}
+-- How the code finds a score: from what the search for the best reading kept. What it finds is stated by `Named` and `IsScore`.
+use mathlib.Core.Bool.{Bool, _||_, cond}
+use mathlib.Core.List.{List}
 use Prim.Native.Nat.{ℕ}
+use lib.Dec.{ltb}
 use Rattle.hand.specs.declared.Hand.{Hand}
 use Rattle.hand.specs.Hand.{isRon, concealedTally}
+use Rattle.hand_record.specs.declared.Answer.{Answer}
+use Rattle.hand_record.specs.declared.Answer.the-variants.{Sound, Refused}
+use Rattle.hand_record.specs.Record.{handOf, readOf}
 use Rattle.points.specs.declared.Seats.{Seats}
 use Rattle.best.specs.declared.Best.{Best}
 use Rattle.best.specs.search.Best.{bestOf}
 use Rattle.score.specs.declared.Scored.{Scored}
-use Rattle.score.specs.Named.{seatsOf, settingOf, refusedWith, acceptedAs}
+use Rattle.score.specs.Named.{seatsOf, worth, refusedWith, acceptedAs}
 
 -- "6, no reading; 7, readings but none with a yaku"
 unfoldable pub settledBy : Best → Seats → Bool → Scored
 settledBy b s ron = cond (b .seen) (cond (b .valued) (acceptedAs (b .value) s ron) (refusedWith 7)) (refusedWith 6)
 
+-- the best of the readings of a hand
+unfoldable pub keptOf : Hand → ℕ → ℕ → Best
+keptOf h dealer wind = bestOf (worth h dealer wind) (concealedTally h) (h .held .m) (h .fields .winning)
+
 -- what a sound hand scores
 unfoldable pub settledOf : Hand → ℕ → ℕ → Scored
-settledOf h dealer wind =
-    settledBy (bestOf (settingOf h dealer wind) (concealedTally h) (h .held .m) (h .fields .winning)) (seatsOf h dealer) (isRon (h .fields))
+settledOf h dealer wind = settledBy (keptOf h dealer wind) (seatsOf h dealer) (isRon (h .fields))
+
+-- what a record scores, by what Read answers
+unfoldable pub foundBy : Answer → Hand → ℕ → ℕ → Scored
+foundBy (Refused n) h dealer wind = refusedWith n
+foundBy (Sound f) h dealer wind = settledOf h dealer wind
+
+-- and for any seats
+unfoldable pub foundOf : List ℕ → ℕ → ℕ → Scored
+foundOf s dealer wind = cond (ltb 3 dealer || ltb 1 wind) (refusedWith 8) (foundBy (readOf s .answer) (handOf (readOf s)) dealer wind)

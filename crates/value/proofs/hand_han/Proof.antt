@@ -1,4 +1,4 @@
--- `value::hand_han` meets its contract. Assumes nothing.
+-- `value::hand_han` meets its contract.
 use borrow.Author.Needs.{needs}
 use native.Mathlib.Omega.{arith}
 use Rattle.value.specs.Han.{hanOf}
@@ -8,10 +8,11 @@ use Rattle.value.proofs.hand_han.Tie as tie
 returns-2 : tie.Need-returns-2
 unfolding hanOf
 returns-2 c =
-    let c2 = c .before .before in
-    let c3 = c2 .before in (
-      rw (c3 .if1 .left, c .han .ensures .0, c .before .value-han .ensures .0, c2 .little-dragons .ensures, c3 .before .before .before .pre .0),
-      omega arith,
+    let v = c .before .before in
+    let little = v .before in
+    let left = little .before in (
+      rw (left .if1 .left, c .han .ensures .0, c .before .han-of .ensures .0, v .value-han .ensures .0, little .little-dragons .ensures, left .before .before .before .pre .0),
+      c .han .ensures .1,
     )
 
 pub hand-han-spec : {M : Type 1} → statement M
@@ -20,4 +21,4 @@ hand-han-spec =
     tie.close
     (tie.spec
     (λ c. (rw (c .if1 .taken), search needs)) (λ c κs. search needs) (λ c κs. search needs) (λ c. search needs)
-    (λ c κs. search needs) returns-2)
+    (λ c κs. search needs) (λ c κs. search needs) returns-2)

@@ -1,4 +1,4 @@
--- The tables of han as the code has them: one number a yaku. Assumes nothing.
+-- The han of each yaku as the code has them: one number for closed and open.
 use mathlib.Core.Path.{_≡_, refl}
 use mathlib.Core.Bool.{Bool, true, false, _&&_, cond}
 use mathlib.Core.List.{List}
@@ -14,7 +14,7 @@ use Rattle.value.specs.Han.{closedHan, openHan}
 abbrev pub bothHan : List ℕ
 bothHan = tabulate 37 0 (λ n. 16 * getD closedHan n 0 + getD openHan n 0)
 
--- the table that goes for a hand
+-- those that go for a hand
 abbrev pub hanFor : Bool → List ℕ
 hanFor closed = cond closed closedHan openHan
 

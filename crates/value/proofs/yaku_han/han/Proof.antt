@@ -1,4 +1,4 @@
--- `value::yaku_han::han` meets its contract. Assumes nothing.
+-- `value::yaku_han::han` meets its contract.
 use borrow.Author.Needs.{needs}
 use native.Mathlib.Omega.{arith}
 use Rattle.value.specs.Han.{yakuHan}
@@ -9,6 +9,4 @@ pub han-spec : {M : Type 1} → statement M
 unfolding yakuHan
 han-spec =
     tie.close
-    (tie.spec
-    (λ c κs. search needs) (λ c κs. search needs) (λ c. search needs) (λ c κs. search needs) (λ c κs. search needs)
-    (λ c. search needs) (λ c κs. search needs) (λ c. search needs) (λ c. (omega arith, omega arith)))
+    (tie.spec (λ c κs. search needs) (λ c. search needs) (λ c κs. search needs) (λ c. omega arith) (λ c. omega arith) (λ c. (omega arith, omega arith)))

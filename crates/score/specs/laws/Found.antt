@@ -1,0 +1,134 @@
+-- What the search finds for a sound hand and for a record, case by case.
+use Prim.Native.Nat.{ℕ, _≤_, _<_}
+use mathlib.Core.Path.{_≡_, refl, sym, ap, _∙_}
+use mathlib.Core.Bool.{Bool, true, false, _&&_, _||_, not, cond}
+use mathlib.Core.List.{List, [], _∷_}
+use native.Mathlib.Omega.{arith}
+use borrow.Author.Tests.{ltb-false, le-ltb}
+use lib.Dec.{ltb, leb}
+use Rattle.tiles.specs.laws.Below.{cond-le}
+use Rattle.hand.specs.declared.Fields.{Fields}
+use Rattle.hand.specs.declared.Hand.{Hand}
+use Rattle.hand.specs.Hand.{isRon, concealedTally}
+use Rattle.hand_record.specs.declared.Answer.{Answer}
+use Rattle.hand_record.specs.declared.Answer.the-variants.{Sound, Refused}
+use Rattle.hand_record.specs.declared.HandRead.{HandRead}
+use Rattle.hand_record.specs.Record.{refusalIn, handOf, readOf}
+use Rattle.hand_record.specs.laws.Bounds.{answer-is, hand-is, refused-number}
+use Rattle.reading.specs.declared.Reading.{Reading}
+use Rattle.reading.specs.search.Readings.{readings}
+use Rattle.reading.specs.search.Judged.{judged}
+use Rattle.points.specs.Points.{plain, limit, ordinary, basic}
+use Rattle.value.specs.declared.Value.{Value}
+use Rattle.value.specs.Value.{valueOf}
+use Rattle.best.specs.declared.Best.{Best}
+use Rattle.best.specs.Best.{withYaku}
+use Rattle.best.specs.search.Best.{beats, noneOf, judgeOf, bestOf}
+use Rattle.score.specs.declared.Scored.{Scored}
+use Rattle.score.specs.Named.{seatsOf, worth, refusedWith, acceptedAs}
+use Rattle.score.specs.search.Settled.{settledBy, keptOf, settledOf, foundBy, foundOf}
+
+-- ---- basic points are at most 8,000
+
+limit-le : (h : ℕ) → limit h ≤ 6000
+unfolding limit
+limit-le h = cond-le (leb h 5) _ _ 6000 (omega arith) (cond-le (leb h 7) _ _ 6000 (omega arith) (cond-le (leb h 10) _ _ 6000 (omega arith) (omega arith)))
+
+ordinary-le : (h f : ℕ) → ordinary h f ≤ 6000
+unfolding ordinary
+ordinary-le h f = go (leb 5 h) (ltb 2000 (plain h f)) refl
+  where
+    go : (a b : Bool) → ltb 2000 (plain h f) ≡ b → cond (a || b) (limit h) (plain h f) ≤ 6000
+    go true b e = limit-le h
+    go false true e = limit-le h
+    go false false e = omega (arith, ltb-false 2000 (plain h f) e)
+
+pub basic-le : (y : Bool) (h f : ℕ) → basic y h f ≤ 8000
+unfolding basic
+basic-le y h f = cond-le y _ _ 8000 (omega arith) (omega (arith, ordinary-le h f))
+
+worth-le : (h : Hand) (dealer wind : ℕ) (r : Reading) → worth h dealer wind r .basic .0 ≤ 8000
+unfolding worth valueOf
+worth-le h dealer wind r = basic-le _ _ _
+
+module _ (of : Reading → Value) (le : (r : Reading) → of r .basic .0 ≤ 8000) where
+  judge-le : (b : Best) (r : Reading) → b .value .basic .0 ≤ 8000 → judgeOf of b r .value .basic .0 ≤ 8000
+  unfolding judgeOf
+  judge-le b r h = go (withYaku of r && (not (b .valued) || beats (of r) (b .value)))
+    where
+      go : (c : Bool) → cond {A = Best} c (record { seen = true; valued = true; value = of r }) (record { seen = true; valued = b .valued; value = b .value }) .value .basic .0 ≤ 8000
+      go true = le r
+      go false = h
+
+  judged-le : (b : Best) (rs : List Reading) → b .value .basic .0 ≤ 8000 → judged (judgeOf of) b rs .value .basic .0 ≤ 8000
+  unfolding judged
+  judged-le b [] h = h
+  judged-le b (r ∷ rs) h = judged-le (judgeOf of b r) rs (judge-le b r h)
+
+-- ---- a sound hand, by what the search kept
+
+module _ (h : Hand) (dealer wind : ℕ) where
+  pub kept-le : keptOf h dealer wind .value .basic .0 ≤ 8000
+  unfolding keptOf bestOf noneOf
+  kept-le = judged-le (worth h dealer wind) (worth-le h dealer wind) noneOf (readings (concealedTally h) (h .held .m) (h .fields .winning)) (omega arith)
+
+  module _ (b : Best) (e : b ≡ keptOf h dealer wind) where
+    pub basic-kept : b .value .basic .0 ≤ 8000
+    basic-kept = rw e kept-le
+
+    settled-by : settledBy b (seatsOf h dealer) (isRon (h .fields)) ≡ settledOf h dealer wind
+    unfolding settledOf
+    settled-by = ap (λ (x : Best). settledBy x (seatsOf h dealer) (isRon (h .fields))) e
+
+    pub settled-accepted : b .seen ≡ true → b .valued ≡ true → acceptedAs (b .value) (seatsOf h dealer) (isRon (h .fields)) ≡ settledOf h dealer wind
+    unfolding settledBy
+    settled-accepted s v = rw (s, v) at settled-by
+
+    pub settled-seven : b .seen ≡ true → b .valued ≡ false → refusedWith 7 ≡ settledOf h dealer wind
+    unfolding settledBy
+    settled-seven s v = rw (s, v) at settled-by
+
+    pub settled-six : b .seen ≡ false → refusedWith 6 ≡ settledOf h dealer wind
+    unfolding settledBy
+    settled-six s = rw s at settled-by
+
+-- ---- a record
+
+pub found-eight : (s : List ℕ) (dealer wind : ℕ) → ltb 3 dealer || ltb 1 wind ≡ true → refusedWith 8 ≡ foundOf s dealer wind
+unfolding foundOf
+found-eight s dealer wind e = rw e
+
+module _ (s : List ℕ) (dealer wind : ℕ) (r : HandRead) (q : ltb 3 dealer || ltb 1 wind ≡ false) (e : r ≡ readOf s) where
+  by-answer : (a : Answer) → r .answer ≡ a → foundBy a (handOf (readOf s)) dealer wind ≡ foundOf s dealer wind
+  unfolding foundOf
+  by-answer a told = rw q (ap (λ (x : Answer). foundBy x (handOf (readOf s)) dealer wind) (sym (answer-is s r e told)))
+
+  pub found-refused : (n w : ℕ) (x : Scored) → r .answer ≡ Refused n → w ≡ refusalIn (r .answer) → x ≡ refusedWith w → x ≡ foundOf s dealer wind
+  unfolding foundBy
+  found-refused n w x told why ex = ex ∙ ap refusedWith (why ∙ ap refusalIn told) ∙ by-answer (Refused n) told
+
+  pub found-sound : (f : Fields) (x : Scored) → r .answer ≡ Sound f → x ≡ settledOf (record { fields = f; held = r .held }) dealer wind → x ≡ foundOf s dealer wind
+  unfolding foundBy
+  found-sound f x told ex = ex ∙ ap (λ (y : Hand). settledOf y dealer wind) (hand-is s r e f told) ∙ by-answer (Sound f) told
+
+-- ---- a record, by what Read answers
+
+module _ (s : List ℕ) (dealer wind : ℕ) (d : dealer ≤ 3) (w : wind ≤ 1) where
+  seats-right : ltb 3 dealer || ltb 1 wind ≡ false
+  seats-right = rw (le-ltb 3 dealer d, le-ltb 1 wind w)
+
+  pub found-read : refusalIn (readOf s .answer) ≡ 0 → foundOf s dealer wind ≡ settledOf (handOf (readOf s)) dealer wind
+  unfolding foundOf foundBy
+  found-read e = rw seats-right (go (readOf s .answer) refl)
+    where
+      go : (a : Answer) → readOf s .answer ≡ a → foundBy a (handOf (readOf s)) dealer wind ≡ settledOf (handOf (readOf s)) dealer wind
+      go (Refused n) q = let z : n ≡ 0 = ap refusalIn (sym q) ∙ e in absurd (omega (arith, refused-number s n q))
+      go (Sound f) q = refl
+
+  pub found-unread : (n : ℕ) → refusalIn (readOf s .answer) ≡ n → 0 < n → foundOf s dealer wind ≡ refusedWith n
+  unfolding foundOf foundBy
+  found-unread n e l = rw seats-right (go (readOf s .answer) refl)
+    where
+      go : (a : Answer) → readOf s .answer ≡ a → foundBy a (handOf (readOf s)) dealer wind ≡ refusedWith n
+      go (Refused k) q = ap refusedWith (ap refusalIn (sym q) ∙ e)
+      go (Sound f) q = let z : 0 ≡ n = ap refusalIn (sym q) ∙ e in absurd (omega arith)
