@@ -1,6 +1,6 @@
 // The lowest score that a game from a fresh one can reach, by a run: in each of 200 hands seat 1 declares riichi, at 1,000, and
 // discards into the dealer's yakuman, at 48,000. Seat 1 then has 30,000 - 200 * 49,000 = -9,770,000, and the game is over.
-use game::Game;
+use ledger::Game;
 use libc::STDOUT_FILENO;
 
 // Thirteen orphans won by seat 0 from seat 1.

@@ -1,12 +1,2 @@
--- Booking    the four bookings
--- Ledger     the ledger, kept from the bookings' arguments alone (01, Ledger)
--- Runs       a list of bookings, each lent the game as the last one left it
--- Demand3    what demand 3 claims of such a list
--- Claims     the theorems: demand 3, never below the floor
--- laws       what they stand on
-pub mod Booking
-pub mod Ledger
-pub mod Runs
-pub mod Demand3
+-- laws    what a win of a record that read, or did not, comes to by the ledger
 pub mod laws
-pub mod Claims

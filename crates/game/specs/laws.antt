@@ -1,11 +1,2 @@
-pub mod Form
-pub mod Steps
-pub mod Refusals
-pub mod Sound
-pub mod Accepted
-pub mod Balance
-pub mod Kept
-pub mod Lists
-pub mod Tiles
-pub mod Demand3
-pub mod Examples
+pub mod Won
+pub mod Read

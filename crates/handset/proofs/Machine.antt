@@ -5,10 +5,10 @@ use mathlib.Core.List.{[], _∷_, List}
 use mir.Val.{Val}
 use denote.Laws.{Is}
 use denote.Struct.Laws as LL
-use Rattle.game.specs.declared.Game.{Game}
+use Rattle.ledger.specs.declared.Game.{Game}
 use Rattle.game.specs.declared.Outcome.{Outcome}
-use Rattle.game.proofs.Game as T
-use Rattle.game.proofs.Game.Laws as T′
+use Rattle.ledger.proofs.Game as T
+use Rattle.ledger.proofs.Game.Laws as T′
 use Rattle.game.proofs.Outcome as B
 use Rattle.game.proofs.Outcome.Laws as B′
 

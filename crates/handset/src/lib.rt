@@ -2,16 +2,16 @@
 ghost use mathlib.Core.Path.{_≡_};
 ghost use Rattle.hand_record.specs.Record.{fieldsOf, writtenOf, bufferOf};
 ghost use Rattle.score.specs.Score.{scoreOf};
-ghost use Rattle.game.specs.Booking as Booking;
-ghost use Rattle.game.specs.Ledger.{fresh};
-ghost use Rattle.game.specs.Runs.{Booked};
+ghost use Rattle.ledger.specs.Booking as Booking;
+ghost use Rattle.ledger.specs.Ledger.{fresh};
+ghost use Rattle.ledger.specs.Runs.{Booked};
 ghost use Rattle.text.specs.Text.{lineOf, lengthIn, bufferWith};
 ghost use Rattle.handset.specs.Interface.{readHandOf, nextEntryBy, nextEntryOf};
-use game::Game;
 use hand::Fields;
 use hand::Hand;
 use hand_record::Answer;
 use hand_record::Written;
+use ledger::Game;
 use log::Next;
 use score::Scored;
 

@@ -3,8 +3,8 @@ use mathlib.Core.Path.{_≡_, refl}
 use mathlib.Core.List.{List, [], _∷_, _++_}
 use lib.ListN.{take}
 use Prim.Native.Nat.{ℕ, _<_}
-use Rattle.game.specs.Ledger.{fresh, ledgerFrom, notOpen, outOfForm, totalOf, refusalFor, after, moved, gives, drawGives, sticksAfter, declaredAfter, handsAfter, dealPasses, dealerAfter, windAfter, overAfter}
-use Rattle.game.specs.Claims.{Demand3, demand-3, refusalsFrom, runs-exists}
+use Rattle.ledger.specs.Ledger.{fresh, ledgerFrom, notOpen, outOfForm, totalOf, refusalFor, after, applied, effectOf, riichiGives, drawGives}
+use Rattle.ledger.specs.Claims.{Demand3, demand-3, refusalsFrom, runs-exists}
 use Rattle.log.specs.Log.{isBad, entryLength, nextOf}
 use Rattle.log.specs.Walk.{walk, entriesFrom}
 use Rattle.text.specs.Text.{lengthIn, bufferWith, lastDigits, digitsOf, signedOf, spaced, lineOf}
@@ -26,5 +26,5 @@ text-ends t log h e = turn.text-ends t log h e
 
 -- "Hexadecimal 01 24 prints exactly": 1 R 0 30000 29000 30000 30000 1, 2 D 0 29000 32000 29000 29000 1
 pub example : tallyText (1 ∷ 36 ∷ []) ≡ 49 ∷ 32 ∷ 82 ∷ 32 ∷ 48 ∷ 32 ∷ 51 ∷ 48 ∷ 48 ∷ 48 ∷ 48 ∷ 32 ∷ 50 ∷ 57 ∷ 48 ∷ 48 ∷ 48 ∷ 32 ∷ 51 ∷ 48 ∷ 48 ∷ 48 ∷ 48 ∷ 32 ∷ 51 ∷ 48 ∷ 48 ∷ 48 ∷ 48 ∷ 32 ∷ 49 ∷ 10 ∷ 50 ∷ 32 ∷ 68 ∷ 32 ∷ 48 ∷ 32 ∷ 50 ∷ 57 ∷ 48 ∷ 48 ∷ 48 ∷ 32 ∷ 51 ∷ 50 ∷ 48 ∷ 48 ∷ 48 ∷ 32 ∷ 50 ∷ 57 ∷ 48 ∷ 48 ∷ 48 ∷ 32 ∷ 50 ∷ 57 ∷ 48 ∷ 48 ∷ 48 ∷ 32 ∷ 49 ∷ 10 ∷ []
-unfolding tallyText textFrom entryLine bookingOf isBad entryLength nextOf walk entriesFrom lastDigits digitsOf signedOf spaced lineOf fresh refusalFor notOpen outOfForm totalOf after moved gives drawGives sticksAfter declaredAfter handsAfter dealPasses dealerAfter windAfter overAfter
+unfolding tallyText textFrom entryLine bookingOf isBad entryLength nextOf walk entriesFrom lastDigits digitsOf signedOf spaced lineOf fresh refusalFor notOpen outOfForm totalOf after applied effectOf riichiGives drawGives
 example = refl

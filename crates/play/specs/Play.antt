@@ -4,9 +4,9 @@ use mathlib.Core.List.{List, [], _∷_, _++_, map}
 use Prim.Native.Nat.{ℕ, _+_}
 use lib.Dec.{eqb}
 use lib.ListN.{take, drop}
-use Rattle.game.specs.declared.Game.{Game}
-use Rattle.game.specs.Booking.{Booking, riichi, win, draw, chombo}
-use Rattle.game.specs.Ledger.{fresh, refusalFor, after}
+use Rattle.ledger.specs.declared.Game.{Game}
+use Rattle.ledger.specs.Booking.{Booking, riichi, win, draw, chombo}
+use Rattle.ledger.specs.Ledger.{fresh, refusalFor, after}
 use Rattle.log.specs.Log.{nextOf}
 use Rattle.log.specs.Walk.{LogEntry, entryAt, entriesFrom}
 use Rattle.log.specs.declared.Next.{Next}

@@ -2,12 +2,12 @@
 ghost use mathlib.Core.Path.{_≡_};
 ghost use Prim.Native.Nat.{_≤_};
 ghost use lib.ListN.{length};
-ghost use Rattle.game.specs.Ledger.{fresh, ledgerFrom};
-ghost use Rattle.game.specs.Runs.{Booked};
+ghost use Rattle.ledger.specs.Ledger.{fresh, ledgerFrom};
+ghost use Rattle.ledger.specs.Runs.{Booked};
 ghost use Rattle.text.specs.Text.{lengthIn, bufferWith};
 ghost use Rattle.play.specs.Play.{bookingBy, bookingsFrom, stepOf, letterOf, entryLine, nextLine, turnBy};
-use game::Game;
 use game::Outcome;
+use ledger::Game;
 use log::Next;
 
 // An entry booked: its refusal, its kind, its length with the header, the game after it. Where there is no entry the length is 0,

@@ -5,7 +5,7 @@ use Prim.Native.Nat.{ℕ, _+_, _*_, _≤_, _<_}
 use native.Mathlib.Omega.{arith}
 use lib.ListN.{length}
 use lib.Seq.{take-all}
-use Rattle.game.specs.Ledger.{fresh}
+use Rattle.ledger.specs.Ledger.{fresh}
 use Rattle.text.specs.Text.{lengthIn}
 use Rattle.play.specs.declared.Turn.{Turn}
 use Rattle.play.specs.Play.{tallyText, textLeft, nextLine, turnBy}

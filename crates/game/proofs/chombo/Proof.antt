@@ -1,32 +1,41 @@
--- `game::chombo` meets its contract: each refusal is the first that meets it. Assumes nothing.
+-- `game::chombo` meets its contract: each refusal is the first that meets it.
 use mathlib.Core.Path.{sym, _∙_}
 use mathlib.Core.Bool.{true, false}
 use native.Mathlib.Omega.{arith}
 use borrow.Author.Needs.{needs}
-use Rattle.game.specs.Booking.{chombo}
-use Rattle.game.specs.Ledger.{gives}
-use Rattle.game.specs.laws.Form.{Open, open-of}
-use Rattle.game.specs.laws.Steps.{refused-booked, accepted-booked}
-use Rattle.game.specs.laws.Refusals.{chombo-seat, chombo-by, chombo-moved}
+use Rattle.ledger.specs.Booking.{chombo}
+use Rattle.ledger.specs.Ledger.{chomboGives}
+use Rattle.ledger.specs.laws.Form.{Open, open-of}
+use Rattle.ledger.specs.laws.Refusals.{refused-booked, accepted-booked, chombo-seat, chombo-by}
+use Rattle.moves.specs.laws.Steps.{chombo-applied}
 use Rattle.game.proofs.chombo.Statement.{statement}
 use Rattle.game.proofs.chombo.Tie as tie
 
-opened : (c : tie.After-struct-known) → Open (c .before .before .before .before .before .before .before .args .g)
-opened c = open-of (c .before .before .before .before .before .before .before .args .g) (sym (c .before .before .before .before .before .not-open .ensures) ∙ c .before .before .before .before .if2 .left)
+opened : (c : tie.Else2) → Open (c .before .before .before .args .g)
+opened c = open-of (c .before .before .before .args .g) (sym (c .before .not-open .ensures) ∙ c .if2 .left)
 
 pub chombo-spec : {M : Type 1} → statement M
-unfolding gives
+unfolding chomboGives
 chombo-spec =
     tie.close
     (tie.spec
+    (λ c. let a = c .before .args in refused-booked (a .g) (chombo (a .seat)) 8 (chombo-seat (a .g) (a .seat) (c .if1 .taken)) (omega arith))
     (λ c κs. search needs)
-    (λ c. refused-booked (c .before .before .args .g) (chombo (c .before .before .args .seat)) 8 (c .refused .result) (c .refused .ensures) (chombo-seat (c .before .before .args .g) (c .before .before .args .seat) (c .before .if1 .taken)) (omega arith))
-    (λ c κs. search needs) (λ c κs. search needs)
-    (λ c. refused-booked (c .before .before .before .before .args .g) (chombo (c .before .before .before .before .args .seat)) 9 (c .refused2 .result) (c .refused2 .ensures)
-    (chombo-by (c .before .before .before .before .args .g) (c .before .before .before .before .args .seat) (c .before .before .before .if1 .left) true (sym (c .before .before .not-open .ensures) ∙ c .before .if2 .taken)) (omega arith))
-    (λ c κs. search needs) (λ c κs. search needs)
-    (λ c. rw (c .before .set-seats .ensures .0) (opened c .form .sticks))
-    (λ c κs. (opened c, c .before .before .penalties .ensures .1))
-    (λ c. accepted-booked (c .before .before .before .before .before .before .before .before .args .g) (chombo (c .before .before .before .before .before .before .before .before .args .seat)) (c .finish .result)
-    (chombo-by (c .before .before .before .before .before .before .before .before .args .g) (c .before .before .before .before .before .before .before .before .args .seat) (c .before .before .before .before .before .before .before .if1 .left) false (sym (c .before .before .before .before .before .before .not-open .ensures) ∙ c .before .before .before .before .before .if2 .left))
-    (c .finish .ensures ∙ chombo-moved (c .before .before .before .before .before .before .before .before .args .g) (c .before .before .before .before .before .before .before .before .args .seat) (c .before .before .before .penalties .result) (c .before .before .set-seats .result) (c .before .before .before .penalties .ensures .0) (c .before .before .set-seats .ensures .0))))
+    (λ c.
+    let a = c .before .before .before .args in
+    refused-booked (a .g) (chombo (a .seat)) 9 (chombo-by (a .g) (a .seat) (c .before .before .if1 .left) true (sym (c .before .not-open .ensures) ∙ c .if2 .taken)) (omega arith))
+    (λ c κs. search needs) (λ c κs. search needs) (λ c κs. search needs)
+    (λ c.
+    let marks = c .before .before .before in
+    rw (c .before .count-true .ensures .0, marks .set-marks .ensures) (opened (marks .before .before) .form .sticks))
+    (λ c κs. let paying = c .before .before in (opened (paying .before .before .before), paying .penalties .ensures .1))
+    (λ c.
+    let paying = c .before .before .before in
+    let marks = paying .before in
+    let on = marks .before .before in
+    let a = on .before .before .before .args in
+    accepted-booked (a .g) (chombo (a .seat)) (c .finish .result)
+    (chombo-by (a .g) (a .seat) (on .before .before .if1 .left) false (sym (on .before .not-open .ensures) ∙ on .if2 .left))
+    (c .finish .ensures
+    ∙ chombo-applied (a .g) (a .seat) (paying .penalties .result) (c .before .before .count-true .result)
+    (paying .penalties .ensures .0 ∙ rw (marks .set-marks .ensures)) (c .before .before .count-true .ensures .0 ∙ rw (marks .set-marks .ensures)))))

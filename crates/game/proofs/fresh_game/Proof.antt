@@ -1,6 +1,6 @@
--- `game::fresh_game` meets its contract. Assumes nothing.
+-- `game::fresh_game` meets its contract.
 use mathlib.Core.Path.{refl}
-use Rattle.game.specs.Ledger.{fresh}
+use Rattle.ledger.specs.Ledger.{fresh}
 use Rattle.game.proofs.fresh_game.Statement.{statement}
 use Rattle.game.proofs.fresh_game.Tie as tie
 

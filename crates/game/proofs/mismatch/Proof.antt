@@ -1,4 +1,4 @@
--- `game::mismatch` meets its contract. Assumes nothing.
+-- `game::mismatch` meets its contract.
 use borrow.Author.Tests.{lt-ltb, le-ltb}
 use Rattle.game.proofs.mismatch.Statement.{statement}
 use Rattle.game.proofs.mismatch.Tie as tie

@@ -1,4 +1,4 @@
--- `game::ready` meets its contract. Assumes nothing.
+-- `game::ready` meets its contract.
 use native.Mathlib.Nat.{div-one}
 use Rattle.game.proofs.ready.Statement.{statement}
 use Rattle.game.proofs.ready.Tie as tie

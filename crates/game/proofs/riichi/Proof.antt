@@ -1,12 +1,12 @@
--- `game::riichi` meets its contract: each refusal is the first that meets it. Assumes nothing.
+-- `game::riichi` meets its contract: each refusal is the first that meets it.
 use mathlib.Core.Path.{sym, _∙_}
 use mathlib.Core.Bool.{true, false}
 use native.Mathlib.Omega.{arith}
 use borrow.Author.Needs.{needs}
-use Rattle.game.specs.Booking.{riichi}
-use Rattle.game.specs.laws.Form.{open-of}
-use Rattle.game.specs.laws.Steps.{refused-booked, accepted-booked}
-use Rattle.game.specs.laws.Refusals.{riichi-seat, riichi-shut, riichi-by}
+use borrow.Author.Tests.{lt-ltb, le-ltb}
+use Rattle.ledger.specs.Booking.{riichi}
+use Rattle.ledger.specs.laws.Form.{open-of}
+use Rattle.ledger.specs.laws.Refusals.{refused-booked, accepted-booked, riichi-seat, riichi-shut, riichi-by}
 use Rattle.game.proofs.riichi.Statement.{statement}
 use Rattle.game.proofs.riichi.Tie as tie
 
@@ -14,14 +14,20 @@ pub riichi-spec : {M : Type 1} → statement M
 riichi-spec =
     tie.close
     (tie.spec
+    (λ c. let a = c .before .args in refused-booked (a .g) (riichi (a .seat)) 8 (riichi-seat (a .g) (a .seat) (c .if1 .taken)) (omega arith))
     (λ c κs. search needs)
-    (λ c. refused-booked (c .before .before .args .g) (riichi (c .before .before .args .seat)) 8 (c .refused .result) (c .refused .ensures) (riichi-seat (c .before .before .args .g) (c .before .before .args .seat) (c .before .if1 .taken)) (omega arith))
-    (λ c κs. search needs) (λ c κs. search needs)
-    (λ c. refused-booked (c .before .before .before .before .args .g) (riichi (c .before .before .before .before .args .seat)) 9 (c .refused2 .result) (c .refused2 .ensures)
-    (riichi-shut (c .before .before .before .before .args .g) (c .before .before .before .before .args .seat) (c .before .before .before .if1 .left) (sym (c .before .before .not-open .ensures) ∙ c .before .if2 .taken)) (omega arith))
-    (λ c. search needs) (λ c κs. search needs)
-    (λ c. refused-booked (c .before .before .before .before .before .before .args .g) (riichi (c .before .before .before .before .before .before .args .seat)) 10 (c .refused3 .result) (c .refused3 .ensures)
-    (riichi-by (c .before .before .before .before .before .before .args .g) (c .before .before .before .before .before .before .args .seat) (c .before .before .before .before .before .if1 .left) (sym (c .before .before .before .before .not-open .ensures) ∙ c .before .before .before .if2 .left) true (c .before .if3 .taken)) (omega arith))
-    (λ c κs. open-of (c .before .before .before .before .before .args .g) (sym (c .before .before .before .not-open .ensures) ∙ c .before .before .if2 .left))
-    (λ c. accepted-booked (c .before .before .before .before .before .before .args .g) (riichi (c .before .before .before .before .before .before .args .seat)) (c .put-stick .result)
-    (riichi-by (c .before .before .before .before .before .before .args .g) (c .before .before .before .before .before .before .args .seat) (c .before .before .before .before .before .if1 .left) (sym (c .before .before .before .before .not-open .ensures) ∙ c .before .before .before .if2 .left) false (c .before .if3 .left)) (c .put-stick .ensures)))
+    (λ c.
+    let a = c .before .before .before .args in
+    refused-booked (a .g) (riichi (a .seat)) 9 (riichi-shut (a .g) (a .seat) (c .before .before .if1 .left) (sym (c .before .not-open .ensures) ∙ c .if2 .taken)) (omega arith))
+    (λ c. search needs)
+    (λ c.
+    let on = c .before .before in
+    let a = on .before .before .before .args in
+    refused-booked (a .g) (riichi (a .seat)) 10
+    (riichi-by (a .g) (a .seat) (on .before .before .if1 .left) (sym (on .before .not-open .ensures) ∙ on .if2 .left) true (lt-ltb _ _ (c .if3 .taken))) (omega arith))
+    (λ c κs. let on = c .before .before in open-of (on .before .before .before .args .g) (sym (on .before .not-open .ensures) ∙ on .if2 .left))
+    (λ c.
+    let on = c .before .before .before in
+    let a = on .before .before .before .args in
+    accepted-booked (a .g) (riichi (a .seat)) (c .put-stick .result)
+    (riichi-by (a .g) (a .seat) (on .before .before .if1 .left) (sym (on .before .not-open .ensures) ∙ on .if2 .left) false (le-ltb _ _ (c .before .if3 .left))) (c .put-stick .ensures)))

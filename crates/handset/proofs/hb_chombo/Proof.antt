@@ -3,9 +3,9 @@ use Prim.Native.Nat.{ℕ}
 use contract.Running.{givenOf, tables, tablesOf}
 use denote.Triple.Spec.{tripleOf}
 use denote.Triple.Table.{entered, cited}
-use Rattle.game.specs.declared.Game.{Game}
-use Rattle.game.specs.Booking.{chombo}
-use Rattle.game.specs.Runs.{Booked}
+use Rattle.ledger.specs.declared.Game.{Game}
+use Rattle.ledger.specs.Booking.{chombo}
+use Rattle.ledger.specs.Runs.{Booked}
 use Rattle.game.proofs.chombo.Symbol as callee-def
 use Rattle.game.proofs.chombo.Symbol.{name as #callee}
 use Rattle.game.proofs.chombo.Met as callee-thm

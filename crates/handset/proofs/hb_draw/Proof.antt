@@ -3,9 +3,9 @@ use Prim.Native.Nat.{ℕ}
 use contract.Running.{givenOf, tables, tablesOf}
 use denote.Triple.Spec.{tripleOf}
 use denote.Triple.Table.{entered, cited}
-use Rattle.game.specs.declared.Game.{Game}
-use Rattle.game.specs.Booking.{draw}
-use Rattle.game.specs.Runs.{Booked}
+use Rattle.ledger.specs.declared.Game.{Game}
+use Rattle.ledger.specs.Booking.{draw}
+use Rattle.ledger.specs.Runs.{Booked}
 use Rattle.game.proofs.draw.Symbol as callee-def
 use Rattle.game.proofs.draw.Symbol.{name as #callee}
 use Rattle.game.proofs.draw.Met as callee-thm

@@ -3,9 +3,9 @@ use Prim.Native.Nat.{ℕ}
 use contract.Running.{givenOf, tables, tablesOf}
 use denote.Triple.Spec.{tripleOf}
 use denote.Triple.Table.{entered, cited}
-use Rattle.game.specs.declared.Game.{Game}
-use Rattle.game.specs.Booking.{riichi}
-use Rattle.game.specs.Runs.{Booked}
+use Rattle.ledger.specs.declared.Game.{Game}
+use Rattle.ledger.specs.Booking.{riichi}
+use Rattle.ledger.specs.Runs.{Booked}
 use Rattle.game.proofs.riichi.Symbol as callee-def
 use Rattle.game.proofs.riichi.Symbol.{name as #callee}
 use Rattle.game.proofs.riichi.Met as callee-thm

@@ -4,9 +4,9 @@ use mathlib.Core.List.{List}
 use contract.Running.{givenOf, tables, tablesOf}
 use denote.Triple.Spec.{tripleOf}
 use denote.Triple.Table.{entered, cited}
-use Rattle.game.specs.declared.Game.{Game}
-use Rattle.game.specs.Booking.{win}
-use Rattle.game.specs.Runs.{Booked}
+use Rattle.ledger.specs.declared.Game.{Game}
+use Rattle.ledger.specs.Booking.{win}
+use Rattle.ledger.specs.Runs.{Booked}
 use Rattle.game.proofs.win.Symbol as callee-def
 use Rattle.game.proofs.win.Symbol.{name as #callee}
 use Rattle.game.proofs.win.Met as callee-thm

@@ -4,7 +4,7 @@ use mathlib.Core.Path.{_≡_, refl, _∙_}
 use Prim.Native.Nat.{_-_, _≤_}
 use native.Mathlib.Omega.{arith}
 use lib.ListN.{length}
-use Rattle.game.specs.Ledger.{ledgerFrom}
+use Rattle.ledger.specs.Ledger.{ledgerFrom}
 use Rattle.play.specs.Play.{bookingsFrom}
 use Rattle.play.specs.laws.Turn.{turned, stopped, past-end}
 use Rattle.play.proofs.play.Statement.{statement}

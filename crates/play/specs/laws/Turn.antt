@@ -4,9 +4,9 @@ use mathlib.Core.List.{List, [], _++_}
 use Prim.Native.Nat.{ℕ, _+_, _-_, _≤_, _<_}
 use native.Mathlib.Omega.{arith}
 use lib.ListN.{length, take, drop}
-use Rattle.game.specs.declared.Game.{Game}
-use Rattle.game.specs.Ledger.{ledgerFrom}
-use Rattle.game.specs.Runs.{Booked}
+use Rattle.ledger.specs.declared.Game.{Game}
+use Rattle.ledger.specs.Ledger.{ledgerFrom}
+use Rattle.ledger.specs.Runs.{Booked}
 use Rattle.log.specs.Log.{nextOf}
 use Rattle.log.specs.Walk.{entriesFrom}
 use Rattle.log.specs.laws.Next.{next-end, step-inside, after-header}

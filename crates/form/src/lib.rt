@@ -1,0 +1,68 @@
+// Whether a game is open (01, The game, refusal 9): marked over, at its last hand, or out of form. Any value of the struct may be given.
+ghost use mathlib.Core.Path.{_≡_};
+ghost use mathlib.Core.Bool.{false};
+ghost use Prim.Native.Nat.{ℕ, _≤_};
+ghost use lib.IntN.{pos};
+ghost use lib.ListN.{getD};
+ghost use lib.Signed.{ltZ};
+ghost use Rattle.tiles.specs.Below.{any, count, tabulate};
+ghost use Rattle.ledger.specs.Ledger.{pointsInPlay, floor, isSet, mark, eqZ, notOpen};
+ghost use Rattle.ledger.specs.laws.Form.{sumOf};
+use ledger::FLOOR;
+use ledger::Game;
+use ledger::LAST_HAND;
+use ledger::POINTS_IN_PLAY;
+
+// The number of a mark: 1 for set, 0 for not.
+pub fn mark(b: bool) -> u8
+    ensures { λ r. ⌜ (r ≡ mark b) × (r ≤ 1) ⌝ }
+{
+    if b { 1 } else { 0 }
+}
+
+// Which of four marks are set.
+pub fn set_marks(d: [u8; 4]) -> [bool; 4]
+    ensures { λ r. ⌜ r ≡ tabulate 4 0 (λ i. isSet (getD d i 0)) ⌝ }
+{
+    [0 < d[0], 0 < d[1], 0 < d[2], 0 < d[3]]
+}
+
+// How many of four are true.
+pub fn count_true(b: [bool; 4]) -> u32
+    ensures { λ r. ⌜ (r ≡ count 4 (λ i. getD b i false)) × (r ≤ 4) ⌝ }
+{
+    (mark(b[0]) + mark(b[1]) + mark(b[2]) + mark(b[3])) as u32
+}
+
+// A score is under the floor.
+fn any_low(s: [i32; 4]) -> bool
+    ensures { λ r. ⌜ r ≡ any 4 (λ i. ltZ (getD s i (pos 0)) floor) ⌝ }
+{
+    (s[0] < FLOOR) | (s[1] < FLOOR) | (s[2] < FLOOR) | (s[3] < FLOOR)
+}
+
+// The scores and 1,000 times the sticks are all the points in play.
+fn balanced(s: [i32; 4], sticks: u32) -> bool
+    ensures { λ r. ⌜ r ≡ eqZ (sumOf (getD s 0 (pos 0)) (getD s 1 (pos 0)) (getD s 2 (pos 0)) (getD s 3 (pos 0)) sticks) pointsInPlay ⌝ }
+{
+    let s0 = s[0];
+    let s1 = s[1];
+    let s2 = s[2];
+    let s3 = s[3];
+    (s0 as i64) + (s1 as i64) + (s2 as i64) + (s3 as i64) + 1000 * (sticks as i64) == POINTS_IN_PLAY
+}
+
+// The game is over or out of form: every booking of it is refused with 9.
+pub fn not_open(g: Game) -> bool
+    ensures { λ r. ⌜ r ≡ notOpen g ⌝ }
+{
+    let s = g.scores;
+    let d = g.declared;
+    let out = (3 < g.dealer)
+        | (1 < g.wind)
+        | (LAST_HAND < g.hands)
+        | (g.sticks < count_true(set_marks(d)))
+        | any_low(s)
+        | !balanced(s, g.sticks);
+    ((0 < g.over) | (g.hands == LAST_HAND)) | out
+}

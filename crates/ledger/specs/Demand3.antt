@@ -1,0 +1,83 @@
+-- Demand 3: what is claimed of the bookings of a list, booked one after the other from a fresh game.
+use mathlib.Core.Path.{_≡_}
+use mathlib.Core.Logic.{_⊎_, _↔_}
+use mathlib.Core.Bool.{false, cond}
+use mathlib.Core.List.{List}
+use Prim.Native.Nat.{ℕ, _*_, _≤_, _<_}
+use lib.Dec.{eqb}
+use lib.IntN.{ℤ, pos, _+ℤ_}
+use lib.ListN.{getD}
+use Rattle.hand_record.specs.Claims.{IsSound}
+use Rattle.reading.specs.declared.Reading.{Reading}
+use Rattle.score.specs.Named.{IsReadingOf, ReadsWithYaku, IsReported, gainIn, scoredAs}
+use Rattle.ledger.specs.declared.Game.{Game}
+use Rattle.ledger.specs.Booking.{Booking, win}
+use Rattle.ledger.specs.Ledger.{startingScore, pointsInPlay, fresh, scoreAt, totalOf, notOpen, handFor, riichiMismatch, refusalFor, after, ledger, givenFrom}
+use Rattle.ledger.specs.Runs.{Every}
+
+-- ---- a win with record s that got the refusal n; l is "the ledger as the win meets it"
+
+module _ (l : Game) (s : List ℕ) where
+  -- r is one "of the readings with a yaku" of the record's tiles
+  abbrev pub HasYaku : Reading → Type 0
+  HasYaku = ReadsWithYaku (handFor s) (l .dealer) (l .wind)
+
+  -- the winner's gain in r
+  abbrev pub gainBy : Reading → ℕ
+  gainBy = gainIn (handFor s) (l .dealer) (l .wind)
+
+  -- seat i's of "the four changes" in r
+  abbrev pub changeBy : Reading → ℕ → ℤ
+  changeBy r i = getD (scoredAs (handFor s) (l .dealer) (l .wind) r .changes) i (pos 0)
+
+  -- "the winner 1,000 a stick"
+  abbrev pub sticksTo : ℕ → ℤ
+  sticksTo i = cond (eqb i (handFor s .fields .winner)) (pos (1000 * l .sticks)) (pos 0)
+
+  -- each score moved by its change in r and the sticks
+  abbrev pub PaidBy : Reading → Type 0
+  PaidBy r = (i : ℕ) → i < 4 → scoreAt (after l (win s)) i ≡ scoreAt l i +ℤ changeBy r i +ℤ sticksTo i
+
+  -- accepted exactly when no refusal meets it (01, Win): the game was open, the record sound, a reading of its tiles has a yaku, and riichi field and declaration agree
+  abbrev pub AcceptedWhen : ℕ → Type 0
+  AcceptedWhen n = (n ≡ 0) ↔ ((notOpen l ≡ false) × IsSound s × ((r : Reading) × HasYaku r) × (riichiMismatch l (handFor s) ≡ false))
+
+  -- accepted: paid by a reading with a yaku, the reported one (01, Readings), and no reading with a yaku gives the winner more
+  abbrev pub PaidByBest : ℕ → Type 0
+  PaidByBest n = n ≡ 0 → (r : Reading) × IsReported (handFor s) (l .dealer) (l .wind) r × PaidBy r × ((q : Reading) → HasYaku q → gainBy q ≤ gainBy r)
+
+  -- "refused for its tiles" is 6 or 7 (01, Score)
+  abbrev pub TilesRefused : ℕ → Type 0
+  TilesRefused n = IsSound s → notOpen l ≡ false → ((n ≡ 6) ⊎ (n ≡ 7)) ↔ ((r : Reading) → HasYaku r → ⊥)
+
+  -- "6, no reading"; "7, readings but none with a yaku" (01, Score)
+  abbrev pub SixOrSeven : ℕ → Type 0
+  SixOrSeven n =
+      IsSound s → notOpen l ≡ false
+      → ((n ≡ 6) ↔ ((r : Reading) → IsReadingOf (handFor s) r → ⊥))
+      × ((n ≡ 7) ↔ (((r : Reading) × IsReadingOf (handFor s) r) × ((r : Reading) → HasYaku r → ⊥)))
+
+-- P, where the booking is a win
+abbrev pub OfWin : (Game → List ℕ → ℕ → Type 0) → Game → Booking → ℕ → Type 0
+OfWin P l b n = (s : List ℕ) → b ≡ win s → P l s n
+
+-- ---- a list
+
+-- "a single claim about the whole list": the bookings bs got the refusals ns and left the game g
+pub record Demand3 (bs : List Booking) (ns : List ℕ) (g : Game) : Type 0 where
+  -- "The four scores plus 1,000 times the sticks on the table are 120,000."
+  pub sum : totalOf g ≡ pointsInPlay
+  -- "Each seat has 30,000 plus all that the rules give or take for the bookings accepted."
+  pub seats : (i : ℕ) → i < 4 → scoreAt g i ≡ startingScore +ℤ givenFrom fresh bs i
+  -- "The whole game equals the ledger of document 01, kept for the same list."
+  pub ledger : g ≡ ledger bs
+  -- "A booking was accepted exactly when the documents name no refusal for it; otherwise it got the number that they name."
+  pub named : Every (λ l b n. n ≡ refusalFor l b) fresh bs ns
+  -- the same of a win, in full
+  pub wins : Every (OfWin AcceptedWhen) fresh bs ns
+  -- "Each accepted win was paid by a reading of its tiles that has a yaku, and the winner's gain in it is at least that in every other reading of the same tiles that has a yaku."
+  pub paid : Every (OfWin PaidByBest) fresh bs ns
+  -- "A win of a sound record in an open game was refused for its tiles exactly when no reading of them has a yaku."
+  pub tiles : Every (OfWin TilesRefused) fresh bs ns
+  -- with 6 exactly when there is no reading, and with 7 exactly when there are readings
+  pub six-or-seven : Every (OfWin SixOrSeven) fresh bs ns

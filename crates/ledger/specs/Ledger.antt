@@ -1,0 +1,222 @@
+-- The ledger (01, The game and its paragraph "Ledger"): kept from the bookings' arguments alone, with the game's fields.
+-- The game's numbers; its fields; refusals; what an accepted booking does, as one structure; the fields after it; the ledger of a list.
+use mathlib.Core.Bool.{Bool, true, false, _&&_, _||_, not, cond}
+use mathlib.Core.List.{List, [], _∷_}
+use Prim.Native.Nat.{ℕ, _+_, _-_, _*_, _/_, _%_, _^_}
+use lib.Dec.{ltb, eqb}
+use lib.IntN.{ℤ, pos, negℤ, _+ℤ_}
+use lib.Signed.{ltZ, leZ}
+use lib.ListN.{getD}
+use Rattle.tiles.specs.Below.{any, count, tabulate}
+use Rattle.hand.specs.declared.Hand.{Hand}
+use Rattle.hand_record.specs.Record.{handOf, readOf}
+use Rattle.score.specs.declared.Scored.{Scored}
+use Rattle.score.specs.Score.{scoreOf}
+use Rattle.ledger.specs.declared.Game.{Game}
+use Rattle.ledger.specs.Booking.{Booking, riichi, win, draw, chombo}
+
+-- ---- the game's numbers, each named once
+
+-- "30,000 each at first"
+abbrev pub startingScore : ℤ
+startingScore = pos 30000
+
+-- "scores plus 1,000 times sticks not 120,000": what they are in all
+abbrev pub pointsInPlay : ℤ
+pointsInPlay = pos 120000
+
+-- "200 hands finished"
+abbrev pub lastHand : ℕ
+lastHand = 200
+
+-- "no score falls under −9,770,000"
+abbrev pub floor : ℤ
+floor = negℤ (pos 9770000)
+
+-- ---- the fields
+
+-- a mark in the game is a number: set where it is not 0
+abbrev pub isSet : ℕ → Bool
+isSet n = ltb 0 n
+
+-- the number of a mark that a booking sets or clears
+abbrev pub mark : Bool → ℕ
+mark b = cond b 1 0
+
+-- "scores (30,000 each at first); all but the scores are 0 or unset at first"
+unfoldable pub fresh : Game
+fresh = record {
+  scores = tabulate 4 0 (λ i. startingScore);
+  sticks = 0;
+  declared = tabulate 4 0 (λ i. mark false);
+  dealer = 0;
+  wind = 0;
+  hands = 0;
+  over = mark false;
+}
+
+-- the score of seat i ("Seats 0 to 3")
+abbrev pub scoreAt : Game → ℕ → ℤ
+scoreAt l i = getD (l .scores) i (pos 0)
+
+-- seat i is one of the "declared seats"
+abbrev pub isDeclared : Game → ℕ → Bool
+isDeclared l i = isSet (getD (l .declared) i 0)
+
+-- how many "declared seats" there are
+abbrev pub declarations : Game → ℕ
+declarations l = count 4 (isDeclared l)
+
+-- "scores plus 1,000 times sticks"
+unfoldable pub totalOf : Game → ℤ
+totalOf l = scoreAt l 0 +ℤ scoreAt l 1 +ℤ scoreAt l 2 +ℤ scoreAt l 3 +ℤ pos (1000 * l .sticks)
+
+-- ---- refusals
+
+-- a and b are equal ("not 120,000" below)
+abbrev pub eqZ : ℤ → ℤ → Bool
+eqZ a b = leZ a b && leZ b a
+
+-- "over (marked so, or 200 hands finished)"
+abbrev pub isOver : Game → Bool
+isOver l = isSet (l .over) || eqb (l .hands) lastHand
+
+-- "out of form (dealer over 3, wind over 1, over 200 hands, fewer sticks than declared seats, a score under the floor, or scores plus 1,000 times sticks not 120,000)"
+unfoldable pub outOfForm : Game → Bool
+outOfForm l =
+    ltb 3 (l .dealer)
+    || ltb 1 (l .wind)
+    || ltb lastHand (l .hands)
+    || ltb (l .sticks) (declarations l)
+    || any 4 (λ i. ltZ (scoreAt l i) floor)
+    || not (eqZ (totalOf l) pointsInPlay)
+
+-- 9: "a game that isn't open"
+unfoldable pub notOpen : Game → Bool
+notOpen l = isOver l || outOfForm l
+
+-- the hand that Read gives of a win's record
+abbrev pub handFor : List ℕ → Hand
+handFor s = handOf (readOf s)
+
+-- what Score gives of it, "with the game's dealer and wind"
+abbrev pub scoredFor : Game → List ℕ → Scored
+scoredFor l s = scoreOf s (l .dealer) (l .wind)
+
+-- 11: "riichi field non-zero and winner not declared, or the reverse"
+abbrev pub riichiMismatch : Game → Hand → Bool
+riichiMismatch l h = cond (ltb 0 (h .fields .riichi)) (not (isDeclared l (h .fields .winner))) (isDeclared l (h .fields .winner))
+
+-- "four bits, seat 0 first, set for ready"
+abbrev pub isReady : ℕ → ℕ → Bool
+isReady bits i = eqb (bits / 2 ^ (3 - i) % 2) 1
+
+-- "Where refusals meet a booking by the ledger's fields, the first listed is its number"; 0 where none does
+unfoldable pub refusalFor : Game → Booking → ℕ
+refusalFor l (riichi seat) = cond (ltb 3 seat) 8 (cond (notOpen l) 9 (cond (isDeclared l seat) 10 0))
+refusalFor l (win s) =
+    cond (notOpen l) 9
+    (cond (ltb 0 (scoredFor l s .refusal)) (scoredFor l s .refusal)
+    (cond (riichiMismatch l (handFor s)) 11 0))
+refusalFor l (draw bits) = cond (ltb 15 bits) 8 (cond (notOpen l) 9 (cond (any 4 (λ i. isDeclared l i && not (isReady bits i))) 12 0))
+refusalFor l (chombo seat) = cond (ltb 3 seat) 8 (cond (notOpen l) 9 0)
+
+-- ---- what an accepted booking does
+
+-- what it gives each seat, or takes; the sticks that it leaves on the table; the seats that are declared after it; whether it finishes the hand; whether the deal passes
+pub record Effect : Type 0 where
+  pub gives : ℕ → ℤ
+  pub sticks : ℕ
+  pub declared : ℕ → Bool
+  pub finishes : Bool
+  pub passes : Bool
+
+-- "Win, draw and chombo each finish a hand and clear declarations"
+abbrev pub finishing : (ℕ → ℤ) → ℕ → Bool → Effect
+finishing gives sticks passes = record { gives = gives; sticks = sticks; declared = λ i. false; finishes = true; passes = passes }
+
+-- "riichi costs the seat 1,000"
+unfoldable pub riichiGives : ℕ → ℕ → ℤ
+riichiGives seat i = cond (eqb i seat) (negℤ (pos 1000)) (pos 0)
+
+-- "A win gives the four changes of the reported reading, and the winner 1,000 a stick"
+unfoldable pub winGives : Game → List ℕ → ℕ → ℤ
+winGives l s i = getD (scoredFor l s .changes) i (pos 0) +ℤ cond (eqb i (handFor s .fields .winner)) (pos (1000 * l .sticks)) (pos 0)
+
+-- "r ready": how many seats
+abbrev pub readySeats : ℕ → ℕ
+readySeats bits = count 4 (isReady bits)
+
+-- "A draw with r ready, 1 to 3, costs each other seat 3,000/(4 − r) and gives each ready one 3,000/r; else no points move"
+abbrev pub shareOf : ℕ → Bool → ℤ
+shareOf r ready = cond (eqb r 0 || eqb r 4) (pos 0) (cond ready (pos (3000 / r)) (negℤ (pos (3000 / (4 - r)))))
+
+-- what a draw gives seat i
+unfoldable pub drawGives : ℕ → ℕ → ℤ
+drawGives bits i = shareOf (readySeats bits) (isReady bits i)
+
+-- "A chombo costs the seat 9,000 and gives each other seat 3,000; each declared seat gets 1,000 back"
+unfoldable pub chomboGives : Game → ℕ → ℕ → ℤ
+chomboGives l seat i = cond (eqb i seat) (negℤ (pos 9000)) (pos 3000) +ℤ cond (isDeclared l i) (pos 1000) (pos 0)
+
+-- riichi "adds a stick and declares the seat"; a win "leaving none"; of a chombo "a stick less for each" declared seat;
+-- "The deal passes on a child's win or a draw with the dealer not ready"
+unfoldable pub effectOf : Game → Booking → Effect
+effectOf l (riichi seat) = record { gives = riichiGives seat; sticks = l .sticks + 1; declared = λ i. eqb i seat || isDeclared l i; finishes = false; passes = false }
+effectOf l (win s) = finishing (winGives l s) 0 (not (eqb (handFor s .fields .winner) (l .dealer)))
+effectOf l (draw bits) = finishing (drawGives bits) (l .sticks) (not (isReady bits (l .dealer)))
+effectOf l (chombo seat) = finishing (chomboGives l seat) (l .sticks - declarations l) false
+
+-- ---- the fields after it
+
+-- the deal is at "South's seat 3"
+abbrev pub isLast : Game → Bool
+isLast l = eqb (l .wind) 1 && eqb (l .dealer) 3
+
+-- "The deal passes" to the next in "turn order"; "after South's seat 3 .. dealer and wind staying"
+abbrev pub dealerAfter : Game → Bool → ℕ
+dealerAfter l passes = cond (passes && not (isLast l)) ((l .dealer + 1) % 4) (l .dealer)
+
+-- "after seat 3 the wind turns South"
+abbrev pub windAfter : Game → Bool → ℕ
+windAfter l passes = cond (passes && eqb (l .dealer) 3) 1 (l .wind)
+
+-- "finished hands"
+abbrev pub handsAfter : Game → Bool → ℕ
+handsAfter l finishes = cond finishes (l .hands + 1) (l .hands)
+
+-- "after South's seat 3 the game is marked over"; "it is marked so at 200 finished hands too, the deal passing as usual"
+abbrev pub overAfter : Game → Effect → Bool
+overAfter l e = (e .passes && isLast l) || eqb (handsAfter l (e .finishes)) lastHand
+
+-- the game after a booking that does e
+unfoldable pub applied : Game → Effect → Game
+applied l e = record {
+  scores = tabulate 4 0 (λ i. scoreAt l i +ℤ e .gives i);
+  sticks = e .sticks;
+  declared = tabulate 4 0 (λ i. mark (e .declared i));
+  dealer = dealerAfter l (e .passes);
+  wind = windAfter l (e .passes);
+  hands = handsAfter l (e .finishes);
+  over = mark (overAfter l e);
+}
+
+-- ---- the ledger after any booking, and after a list
+
+-- "the first listed is its number and the ledger stays. Otherwise ..."
+unfoldable pub after : Game → Booking → Game
+after l b = cond (ltb 0 (refusalFor l b)) l (applied l (effectOf l b))
+
+-- after each of a list, from l on
+unfoldable pub ledgerFrom : Game → List Booking → Game
+ledgerFrom l [] = l
+ledgerFrom l (b ∷ bs) = ledgerFrom (after l b) bs
+
+-- "fresh at first"
+unfoldable pub ledger : List Booking → Game
+ledger bs = ledgerFrom fresh bs
+
+-- "all that the rules give or take for the bookings accepted": all that seat i is given from l on
+unfoldable pub givenFrom : Game → List Booking → ℕ → ℤ
+givenFrom l [] i = pos 0
+givenFrom l (b ∷ bs) i = cond (ltb 0 (refusalFor l b)) (pos 0) (effectOf l b .gives i) +ℤ givenFrom (after l b) bs i

@@ -1,0 +1,12 @@
+pub mod Bounds
+pub mod Form
+pub mod Sums
+pub mod Effect
+pub mod Accepted
+pub mod Refusals
+pub mod Fair
+pub mod Kept
+pub mod Lists
+pub mod Tiles
+pub mod Demand3
+pub mod Examples

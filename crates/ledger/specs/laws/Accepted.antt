@@ -1,0 +1,64 @@
+-- What a booking that no refusal meets has.
+use mathlib.Core.Path.{_≡_, refl, sym, ap, _∙_}
+use mathlib.Core.Bool.{Bool, true, false, not, _&&_, cond}
+use mathlib.Core.List.{List}
+use Prim.Native.Nat.{ℕ, zero, suc, _≤_}
+use native.Mathlib.Omega.{arith}
+use borrow.Author.Tests.{ltb-false, ltb-true}
+use lib.Dec.{ltb}
+use Rattle.tiles.specs.Below.{any}
+use Rattle.hand_record.specs.Record.{refusalIn, readOf}
+use Rattle.score.specs.declared.Scored.{Scored}
+use Rattle.score.specs.laws.Settled.{score-unread}
+use Rattle.ledger.specs.declared.Game.{Game}
+use Rattle.ledger.specs.Booking.{riichi, win, draw, chombo}
+use Rattle.ledger.specs.Ledger.{isDeclared, isReady, notOpen, handFor, scoredFor, riichiMismatch, refusalFor}
+use Rattle.ledger.specs.laws.Form.{open-of}
+
+cond-zero : (b : Bool) (n m : ℕ) → cond b (suc n) m ≡ 0 → (b ≡ false) × (m ≡ 0)
+cond-zero true n m e = absurd (omega arith)
+cond-zero false n m e = (refl, e)
+
+own-zero : (n m : ℕ) → cond (ltb 0 n) n m ≡ 0 → (n ≡ 0) × (m ≡ 0)
+own-zero n m e = go (ltb 0 n) refl e
+  where
+    go : (b : Bool) → ltb 0 n ≡ b → cond b n m ≡ 0 → (n ≡ 0) × (m ≡ 0)
+    go true q e = absurd (omega (arith, ltb-true 0 n q))
+    go false q e = (omega (arith, ltb-false 0 n q), e)
+
+module _ (g : Game) where
+  pub riichi-accepted : (seat : ℕ) → refusalFor g (riichi seat) ≡ 0 → (seat ≤ 3) × (notOpen g ≡ false) × (isDeclared g seat ≡ false)
+  unfolding refusalFor
+  riichi-accepted seat e =
+      let p = cond-zero (ltb 3 seat) 7 (cond (notOpen g) 9 (cond (isDeclared g seat) 10 0)) e in
+      let q = cond-zero (notOpen g) 8 (cond (isDeclared g seat) 10 0) (p .1) in
+      (ltb-false 3 seat (p .0), q .0, cond-zero (isDeclared g seat) 9 0 (q .1) .0)
+
+  pub chombo-accepted : (seat : ℕ) → refusalFor g (chombo seat) ≡ 0 → (seat ≤ 3) × (notOpen g ≡ false)
+  unfolding refusalFor
+  chombo-accepted seat e =
+      let p = cond-zero (ltb 3 seat) 7 (cond (notOpen g) 9 0) e in
+      (ltb-false 3 seat (p .0), cond-zero (notOpen g) 8 0 (p .1) .0)
+
+  pub draw-accepted : (bits : ℕ) → refusalFor g (draw bits) ≡ 0 → notOpen g ≡ false
+  unfolding refusalFor
+  draw-accepted bits e =
+      let x : Bool = any 4 (λ i. isDeclared g i && not (isReady bits i)) in
+      cond-zero (notOpen g) 8 (cond x 12 0) (cond-zero (ltb 15 bits) 7 (cond (notOpen g) 9 (cond x 12 0)) e .1) .0
+
+  -- in an open game a record that scores has read
+  read-of : (s : List ℕ) → notOpen g ≡ false → scoredFor g s .refusal ≡ 0 → (n : ℕ) → refusalIn (readOf s .answer) ≡ n → n ≡ 0
+  read-of s o e zero q = refl
+  read-of s o e (suc n) q =
+      let f = open-of g o .form in
+      let z : suc n ≡ 0 = ap (λ (x : Scored). x .refusal) (sym (score-unread s (g .dealer) (g .wind) (f .dealer) (f .wind) (suc n) q (omega arith))) ∙ e in
+      absurd (omega arith)
+
+  pub win-accepted : (s : List ℕ) → refusalFor g (win s) ≡ 0 → (notOpen g ≡ false) × (refusalIn (readOf s .answer) ≡ 0) × (scoredFor g s .refusal ≡ 0) × (riichiMismatch g (handFor s) ≡ false)
+  unfolding refusalFor
+  win-accepted s e =
+      let m : ℕ = cond (riichiMismatch g (handFor s)) 11 0 in
+      let v : ℕ = scoredFor g s .refusal in
+      let p = cond-zero (notOpen g) 8 (cond (ltb 0 v) v m) e in
+      let q = own-zero v m (p .1) in
+      (p .0, read-of s (p .0) (q .0) _ refl, q .0, cond-zero (riichiMismatch g (handFor s)) 10 0 (q .1) .0)

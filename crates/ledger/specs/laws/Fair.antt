@@ -1,0 +1,214 @@
+-- Each booking's effect is fair: what it gives comes from the seats or the sticks, and no seat loses more than a hand may cost.
+use mathlib.Core.Path.{_≡_, refl, ap, _∙_}
+use mathlib.Core.Bool.{Bool, true, false, not, _||_, cond}
+use mathlib.Core.List.{List}
+use Prim.Native.Nat.{ℕ, zero, suc, _+_, _-_, _*_, _/_, _≤_, _<_}
+use native.Mathlib.Nat.{div-le-self}
+use native.Mathlib.Omega.{arith}
+use borrow.Author.Tests.{eqb-true}
+use lib.Dec.{eqb}
+use lib.IntN.{ℤ, pos, negℤ, _+ℤ_}
+use lib.ListN.{getD}
+use Rattle.tiles.specs.Below.{count}
+use Rattle.hand_record.specs.laws.Bounds.{read-bounds}
+use Rattle.score.specs.laws.Z.{up, dn, add-law, parts-eq}
+use Rattle.score.specs.laws.Changes.{score-within, zero-sum}
+use Rattle.ledger.specs.declared.Game.{Game}
+use Rattle.ledger.specs.Booking.{Booking, riichi, win, draw, chombo}
+use Rattle.ledger.specs.Ledger.{lastHand, mark, isDeclared, declarations, notOpen, isReady, handFor, scoredFor, readySeats, shareOf, refusalFor, riichiGives, winGives, drawGives, chomboGives, effectOf}
+use Rattle.ledger.specs.laws.Bounds.{costs, worst}
+use Rattle.ledger.specs.laws.Form.{open-of}
+use Rattle.ledger.specs.laws.Accepted.{riichi-accepted, chombo-accepted, draw-accepted, win-accepted}
+use Rattle.ledger.specs.laws.Effect.{mark-le, Bounded, Fair, finishing-fair}
+
+-- ---- what four seats are given, by its parts
+
+-- gifts f turn k sticks into m
+abbrev Turns : (ℕ → ℤ) → ℕ → ℕ → Type 0
+Turns f k m = up (f 0) + up (f 1) + up (f 2) + up (f 3) + 1000 * m ≡ dn (f 0) + dn (f 1) + dn (f 2) + dn (f 3) + 1000 * k
+
+-- two gifts: one that the seats pay, one that comes from the sticks
+both-turn : (f x : ℕ → ℤ) (k m : ℕ) → Turns f 0 0 → Turns x k m → Turns (λ i. f i +ℤ x i) k m
+both-turn f x k m e d = omega (arith, e, d, add-law (f 0) (x 0), add-law (f 1) (x 1), add-law (f 2) (x 2), add-law (f 3) (x 3))
+
+-- ---- riichi: the stick
+
+module _ (g : Game) where
+  riichi-balanced : (seat : ℕ) → seat ≤ 3 → Turns (riichiGives seat) (g .sticks) (g .sticks + 1)
+  unfolding riichiGives
+  riichi-balanced zero h = omega arith
+  riichi-balanced (suc zero) h = omega arith
+  riichi-balanced (suc (suc zero)) h = omega arith
+  riichi-balanced (suc (suc (suc zero))) h = omega arith
+  riichi-balanced (suc (suc (suc (suc n)))) h = absurd (omega arith)
+
+  riichi-backed : (seat : ℕ) → seat ≤ 3 → count 4 (λ i. eqb i seat || isDeclared g i) ≤ declarations g + 1
+  riichi-backed zero h = omega arith
+  riichi-backed (suc zero) h = omega arith
+  riichi-backed (suc (suc zero)) h = omega arith
+  riichi-backed (suc (suc (suc zero))) h = omega arith
+  riichi-backed (suc (suc (suc (suc n)))) h = absurd (omega arith)
+
+  riichi-bounded : (seat i : ℕ) → g .hands < lastHand → isDeclared g seat ≡ false → Bounded g (effectOf g (riichi seat)) i
+  unfolding effectOf riichiGives
+  riichi-bounded seat i h u = go (eqb i seat) refl
+    where
+      go : (e : Bool) → eqb i seat ≡ e
+          → (g .hands + mark (e || isDeclared g i) ≤ lastHand)
+          × (dn (cond e (negℤ (pos 1000)) (pos 0)) + worst (g .hands) + 1000 * mark (isDeclared g i) ≤ up (cond e (negℤ (pos 1000)) (pos 0)) + worst (g .hands) + 1000 * mark (e || isDeclared g i))
+      go true q = let d : isDeclared g i ≡ false = ap (isDeclared g) (eqb-true i seat q) ∙ u in (omega arith, rw d (omega arith))
+      go false q = (omega (arith, mark-le (isDeclared g i)), omega arith)
+
+  pub riichi-fair : (seat : ℕ) → refusalFor g (riichi seat) ≡ 0 → Fair g (effectOf g (riichi seat))
+  unfolding effectOf
+  riichi-fair seat e =
+      let y = riichi-accepted g seat e in
+      let o = open-of g (y .1) in
+      record {
+        balanced = riichi-balanced seat (y .0);
+        backed = omega (arith, riichi-backed seat (y .0), o .form .sticks);
+        hands = o .form .hands;
+        bounded = λ i l. riichi-bounded seat i (o .hands) (y .2);
+      }
+
+-- ---- a draw: what the others pay is shared
+
+shares-zero : (p q r t : Bool) →
+    let n : ℕ = 0 + cond p 1 0 + cond q 1 0 + cond r 1 0 + cond t 1 0 in
+    up (shareOf n p) + up (shareOf n q) + up (shareOf n r) + up (shareOf n t) ≡ dn (shareOf n p) + dn (shareOf n q) + dn (shareOf n r) + dn (shareOf n t)
+shares-zero true true true true = refl
+shares-zero true true true false = refl
+shares-zero true true false true = refl
+shares-zero true true false false = refl
+shares-zero true false true true = refl
+shares-zero true false true false = refl
+shares-zero true false false true = refl
+shares-zero true false false false = refl
+shares-zero false true true true = refl
+shares-zero false true true false = refl
+shares-zero false true false true = refl
+shares-zero false true false false = refl
+shares-zero false false true true = refl
+shares-zero false false true false = refl
+shares-zero false false false true = refl
+shares-zero false false false false = refl
+
+neg-dn : (n : ℕ) → dn (negℤ (pos n)) ≡ n
+neg-dn zero = refl
+neg-dn (suc n) = refl
+
+share-dn : (a ready : Bool) (m n : ℕ) → n ≤ 3000 → dn (cond a (pos 0) (cond ready (pos m) (negℤ (pos n)))) ≤ 3000
+share-dn true ready m n h = omega arith
+share-dn false true m n h = omega arith
+share-dn false false m n h = omega (arith, neg-dn n)
+
+module _ (bits : ℕ) where
+  draw-balanced : (k : ℕ) → Turns (drawGives bits) k k
+  unfolding drawGives
+  draw-balanced k = ap (λ (n : ℕ). n + 1000 * k) (shares-zero (isReady bits 0) (isReady bits 1) (isReady bits 2) (isReady bits 3))
+
+  draw-bounded : (i : ℕ) → dn (drawGives bits i) ≤ 3000
+  unfolding drawGives
+  draw-bounded i =
+      let n : ℕ = readySeats bits in
+      share-dn (eqb n 0 || eqb n 4) (isReady bits i) (3000 / n) (3000 / (4 - n)) (div-le-self 3000 (4 - n))
+
+-- ---- a chombo: what the seat pays the others get, and this hand's sticks go back
+
+abbrev back : Bool → ℤ
+back d = cond d (pos 1000) (pos 0)
+
+back-is : (d : Bool) → (up (back d) ≡ 1000 * cond d 1 0) × (dn (back d) ≡ 0)
+back-is true = (refl, refl)
+back-is false = (refl, refl)
+
+fine-dn : (pays declared : Bool) → dn (cond pays (negℤ (pos 9000)) (pos 3000) +ℤ back declared) ≤ 9000
+fine-dn true true = omega arith
+fine-dn true false = omega arith
+fine-dn false true = omega arith
+fine-dn false false = omega arith
+
+module _ (g : Game) where
+  backs : declarations g ≤ g .sticks → Turns (λ i. back (isDeclared g i)) (g .sticks) (g .sticks - declarations g)
+  backs h = omega (arith, back-is (isDeclared g 0), back-is (isDeclared g 1), back-is (isDeclared g 2), back-is (isDeclared g 3))
+
+fines : (seat : ℕ) → seat ≤ 3 → Turns (λ i. cond (eqb i seat) (negℤ (pos 9000)) (pos 3000)) 0 0
+fines zero h = refl
+fines (suc zero) h = refl
+fines (suc (suc zero)) h = refl
+fines (suc (suc (suc zero))) h = refl
+fines (suc (suc (suc (suc n)))) h = absurd (omega arith)
+
+module _ (g : Game) (seat : ℕ) where
+  chombo-balanced : seat ≤ 3 → declarations g ≤ g .sticks → Turns (chomboGives g seat) (g .sticks) (g .sticks - declarations g)
+  unfolding chomboGives
+  chombo-balanced h d = both-turn (λ i. cond (eqb i seat) (negℤ (pos 9000)) (pos 3000)) (λ i. back (isDeclared g i)) (g .sticks) (g .sticks - declarations g) (fines seat h) (backs g d)
+
+  chombo-bounded : (i : ℕ) → dn (chomboGives g seat i) ≤ 9000
+  unfolding chomboGives
+  chombo-bounded i = fine-dn (eqb i seat) (isDeclared g i)
+
+-- ---- a win: the changes sum to 0, and the winner takes the sticks
+
+pot-dn : (wins : Bool) (n : ℕ) → dn (cond wins (pos n) (pos 0)) ≡ 0
+pot-dn true n = refl
+pot-dn false n = refl
+
+pots : (winner k : ℕ) → winner ≤ 3 →
+    Turns (λ i. cond (eqb i winner) (pos (1000 * k)) (pos 0)) k 0
+pots zero k h = omega arith
+pots (suc zero) k h = omega arith
+pots (suc (suc zero)) k h = omega arith
+pots (suc (suc (suc zero))) k h = omega arith
+pots (suc (suc (suc (suc n)))) k h = absurd (omega arith)
+
+sum-parts : (f : ℕ → ℤ) → f 0 +ℤ f 1 +ℤ f 2 +ℤ f 3 ≡ pos 0 → Turns f 0 0
+sum-parts f e =
+    omega (arith, parts-eq (f 0 +ℤ f 1 +ℤ f 2 +ℤ f 3) (pos 0) e, add-law (f 0) (f 1), add-law (f 0 +ℤ f 1) (f 2), add-law (f 0 +ℤ f 1 +ℤ f 2) (f 3))
+
+module _ (g : Game) (s : List ℕ) where
+  unfoldable won : ℕ → ℤ
+  won i = getD (scoredFor g s .changes) i (pos 0)
+
+  unfoldable pot : ℕ → ℤ
+  pot i = cond (eqb i (handFor s .fields .winner)) (pos (1000 * g .sticks)) (pos 0)
+
+  won-zero : Turns won 0 0
+  unfolding won
+  won-zero = sum-parts (λ i. getD (scoredFor g s .changes) i (pos 0)) (zero-sum s (g .dealer) (g .wind))
+
+  won-dn : (i : ℕ) → dn (won i) ≤ costs (g .hands)
+  unfolding won
+  won-dn i = score-within s (g .dealer) (g .wind) i .1
+
+  pot-turns : handFor s .fields .winner ≤ 3 → Turns pot (g .sticks) 0
+  unfolding pot
+  pot-turns h = pots (handFor s .fields .winner) (g .sticks) h
+
+  pot-none : (i : ℕ) → dn (pot i) ≡ 0
+  unfolding pot
+  pot-none i = pot-dn (eqb i (handFor s .fields .winner)) (1000 * g .sticks)
+
+  win-balanced : handFor s .fields .winner ≤ 3 → Turns (winGives g s) (g .sticks) 0
+  unfolding winGives won pot
+  win-balanced h = both-turn won pot (g .sticks) 0 won-zero (pot-turns h)
+
+  win-bounded : (i : ℕ) → dn (winGives g s i) ≤ costs (g .hands) + up (winGives g s i)
+  unfolding winGives won pot
+  win-bounded i = omega (arith, won-dn i, pot-none i, add-law (won i) (pot i))
+
+-- ---- each booking
+
+module _ (g : Game) where
+  pub effect-fair : (b : Booking) → refusalFor g b ≡ 0 → Fair g (effectOf g b)
+  unfolding effectOf
+  effect-fair (riichi seat) e = riichi-fair g seat e
+  effect-fair (win s) e =
+      let y = win-accepted g s e in
+      finishing-fair g (winGives g s) 0 (not (eqb (handFor s .fields .winner) (g .dealer))) (open-of g (y .0) .hands) (win-balanced g s (read-bounds s (y .1) .winner)) (λ i l. win-bounded g s i)
+  effect-fair (draw bits) e =
+      finishing-fair g (drawGives bits) (g .sticks) (not (isReady bits (g .dealer))) (open-of g (draw-accepted g bits e) .hands) (draw-balanced bits (g .sticks)) (λ i l. omega (arith, draw-bounded bits i))
+  effect-fair (chombo seat) e =
+      let y = chombo-accepted g seat e in
+      let o = open-of g (y .1) in
+      finishing-fair g (chomboGives g seat) (g .sticks - declarations g) false (o .hands) (chombo-balanced g seat (y .0) (o .form .sticks)) (λ i l. omega (arith, chombo-bounded g seat i))

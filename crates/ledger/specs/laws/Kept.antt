@@ -1,0 +1,57 @@
+-- What every booking keeps, and every list of them.
+use mathlib.Core.Path.{_≡_, refl}
+use mathlib.Core.Bool.{Bool, true, false, cond}
+use mathlib.Core.Logic.{⊎-elim}
+use mathlib.Core.List.{List, [], _∷_}
+use Prim.Native.Nat.{ℕ, zero, suc, _+_, _*_, _≤_, _<_}
+use native.Mathlib.Omega.{arith}
+use borrow.Author.Tests.{ltb-false}
+use lib.Dec.{ltb}
+use lib.IntN.{ℤ}
+use Rattle.score.specs.laws.Z.{up, dn, part-law}
+use Rattle.ledger.specs.declared.Game.{Game}
+use Rattle.ledger.specs.Booking.{Booking}
+use Rattle.ledger.specs.Ledger.{startingScore, lastHand, mark, fresh, scoreAt, isDeclared, totalOf, refusalFor, effectOf, applied, after, ledgerFrom}
+use Rattle.ledger.specs.laws.Bounds.{depth, worst, worst-low}
+use Rattle.ledger.specs.laws.Form.{InForm}
+use Rattle.ledger.specs.laws.Effect.{mark-le, Above, Kept, applied-kept}
+use Rattle.ledger.specs.laws.Fair.{effect-fair}
+
+above-fresh : (i : ℕ) → i < 4 → Above fresh i
+unfolding fresh worst
+above-fresh zero l = (omega arith, omega arith)
+above-fresh (suc zero) l = (omega arith, omega arith)
+above-fresh (suc (suc zero)) l = (omega arith, omega arith)
+above-fresh (suc (suc (suc zero))) l = (omega arith, omega arith)
+above-fresh (suc (suc (suc (suc i)))) l = absurd (omega arith)
+
+pub fresh-kept : Kept fresh
+unfolding fresh totalOf
+fresh-kept = record { dealer = omega arith; wind = omega arith; hands = omega arith; sticks = omega arith; above = above-fresh; total = refl }
+
+above-low : (z : ℤ) (h d : ℕ) → h + d ≤ lastHand → d ≤ 1 → dn z + up startingScore ≤ up z + worst h + 1000 * d → dn z ≤ depth
+above-low z h d a l b = ⊎-elim (λ (e : up z ≡ 0). omega (arith, worst-low h d a l)) (λ (e : dn z ≡ 0). omega arith) (part-law z)
+
+pub kept-form : (g : Game) → Kept g → InForm g
+kept-form g k = record {
+  dealer = k .dealer;
+  wind = k .wind;
+  hands = k .hands;
+  sticks = k .sticks;
+  low = λ i l. above-low (scoreAt g i) (g .hands) (mark (isDeclared g i)) (k .above i l .0) (mark-le (isDeclared g i)) (k .above i l .1);
+  total = k .total;
+}
+
+module _ (g : Game) where
+  pub after-kept : (b : Booking) → Kept g → Kept (after g b)
+  unfolding after
+  after-kept b k = go (ltb 0 (refusalFor g b)) refl
+    where
+      go : (t : Bool) → ltb 0 (refusalFor g b) ≡ t → Kept (cond t g (applied g (effectOf g b)))
+      go true q = k
+      go false q = applied-kept g (effectOf g b) k (effect-fair g b (omega (arith, ltb-false 0 (refusalFor g b) q)))
+
+pub ledger-kept : (bs : List Booking) (l : Game) → Kept l → Kept (ledgerFrom l bs)
+unfolding ledgerFrom
+ledger-kept [] l k = k
+ledger-kept (b ∷ bs) l k = ledger-kept bs (after l b) (after-kept l b k)

@@ -1,0 +1,84 @@
+-- The refusal of each booking, test by test, as the code comes to it; and what is booked then.
+use mathlib.Core.Path.{_≡_, refl}
+use mathlib.Core.Bool.{Bool, true, false, not, _&&_, cond}
+use mathlib.Core.List.{List}
+use Prim.Native.Nat.{ℕ, _≤_, _<_}
+use native.Mathlib.Omega.{arith}
+use borrow.Author.Tests.{lt-ltb, le-ltb}
+use lib.Dec.{ltb}
+use lib.ListN.{getD}
+use Rattle.tiles.specs.Below.{any, tabulate}
+use Rattle.hand_record.specs.Record.{refusalIn, readOf}
+use Rattle.score.specs.laws.Settled.{score-unread}
+use Rattle.ledger.specs.declared.Game.{Game}
+use Rattle.ledger.specs.Booking.{Booking, riichi, win, draw, chombo}
+use Rattle.ledger.specs.Ledger.{isDeclared, notOpen, isReady, handFor, scoredFor, riichiMismatch, refusalFor, effectOf, applied, after}
+use Rattle.ledger.specs.Runs.{Booked}
+use Rattle.ledger.specs.laws.Form.{open-of}
+
+-- ---- any booking, by its refusal
+
+module _ (g : Game) (b : Booking) where
+  pub refused-booked : (n : ℕ) → refusalFor g b ≡ n → 0 < n → Booked g b n g
+  unfolding after
+  refused-booked n q l =
+      let t : ltb 0 (refusalFor g b) ≡ true = lt-ltb 0 (refusalFor g b) (omega arith) in
+      rw q (refl, rw (rw q at t))
+
+  pub accepted-booked : (h : Game) → refusalFor g b ≡ 0 → h ≡ applied g (effectOf g b) → Booked g b 0 h
+  unfolding after
+  accepted-booked h q e = rw q (refl, e)
+
+-- ---- each booking's refusal
+
+module _ (g : Game) (seat : ℕ) where
+  pub riichi-seat : 3 < seat → refusalFor g (riichi seat) ≡ 8
+  unfolding refusalFor
+  riichi-seat h = rw (lt-ltb 3 seat h)
+
+  pub riichi-shut : seat ≤ 3 → notOpen g ≡ true → refusalFor g (riichi seat) ≡ 9
+  unfolding refusalFor
+  riichi-shut h o = rw (le-ltb 3 seat h, o)
+
+  pub riichi-by : seat ≤ 3 → notOpen g ≡ false → (b : Bool) → isDeclared g seat ≡ b → refusalFor g (riichi seat) ≡ cond b 10 0
+  unfolding refusalFor
+  riichi-by h o b e = rw (le-ltb 3 seat h, o, e)
+
+  pub chombo-seat : 3 < seat → refusalFor g (chombo seat) ≡ 8
+  unfolding refusalFor
+  chombo-seat h = rw (lt-ltb 3 seat h)
+
+  pub chombo-by : seat ≤ 3 → (b : Bool) → notOpen g ≡ b → refusalFor g (chombo seat) ≡ cond b 9 0
+  unfolding refusalFor
+  chombo-by h b e = rw (le-ltb 3 seat h, e)
+
+module _ (g : Game) (bits : ℕ) where
+  pub draw-bits : 15 < bits → refusalFor g (draw bits) ≡ 8
+  unfolding refusalFor
+  draw-bits h = rw (lt-ltb 15 bits h)
+
+  pub draw-shut : bits ≤ 15 → notOpen g ≡ true → refusalFor g (draw bits) ≡ 9
+  unfolding refusalFor
+  draw-shut h o = rw (le-ltb 15 bits h, o)
+
+  pub draw-by : bits ≤ 15 → notOpen g ≡ false → (b : Bool) (r : List Bool) → r ≡ tabulate 4 0 (isReady bits) → any 4 (λ i. isDeclared g i && not (getD r i false)) ≡ b → refusalFor g (draw bits) ≡ cond b 12 0
+  unfolding refusalFor
+  draw-by h o b r q e =
+      let t : any 4 (λ i. isDeclared g i && not (isReady bits i)) ≡ b = rw q at e in
+      rw (le-ltb 15 bits h, o, t)
+
+module _ (g : Game) (s : List ℕ) where
+  pub win-shut : notOpen g ≡ true → refusalFor g (win s) ≡ 9
+  unfolding refusalFor
+  win-shut o = rw o
+
+  pub win-unread : (n : ℕ) → notOpen g ≡ false → refusalIn (readOf s .answer) ≡ n → 0 < n → refusalFor g (win s) ≡ n
+  unfolding refusalFor
+  win-unread n o e l =
+      let f = open-of g o .form in
+      rw (o, score-unread s (g .dealer) (g .wind) (f .dealer) (f .wind) n e l, lt-ltb 0 n l)
+
+  -- in an open game: what Score refuses with, else 11 or 0
+  pub win-by : notOpen g ≡ false → refusalFor g (win s) ≡ cond (ltb 0 (scoredFor g s .refusal)) (scoredFor g s .refusal) (cond (riichiMismatch g (handFor s)) 11 0)
+  unfolding refusalFor
+  win-by o = rw o

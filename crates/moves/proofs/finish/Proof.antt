@@ -1,0 +1,17 @@
+-- `moves::finish` meets its contract: each call gives its field.
+use native.Mathlib.Omega.{arith}
+use borrow.Author.Needs.{needs}
+use Rattle.ledger.specs.Ledger.{applied}
+use Rattle.ledger.specs.laws.Form.{score-within}
+use Rattle.moves.specs.laws.Steps.{finished}
+use Rattle.moves.proofs.finish.Statement.{statement}
+use Rattle.moves.proofs.finish.Tie as tie
+
+pub finish-spec : {M : Type 1} → statement M
+unfolding finished applied
+finish-spec =
+    tie.close
+    (tie.spec
+    (λ c κs. (λ i l. score-within (c .before .args .g) (c .before .pre .0 .form) i l, c .before .pre .1))
+    (λ c. search needs) (λ c κs. search needs) (λ c κs. search needs) (λ c κs. search needs) (λ c κs. search needs)
+    (λ c. cc))

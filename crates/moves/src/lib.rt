@@ -1,0 +1,105 @@
+// How an accepted booking moves the game (01, The game): a hand is finished, or a seat puts its stick. The game is open, so that no sum wraps.
+ghost use mathlib.Core.Path.{_≡_};
+ghost use mathlib.Core.Bool.{_||_};
+ghost use Prim.Native.Nat.{_≤_};
+ghost use lib.Dec.{eqb};
+ghost use lib.ListN.{getD};
+ghost use Rattle.tiles.specs.Below.{tabulate};
+ghost use Rattle.ledger.specs.Booking as Booking;
+ghost use Rattle.ledger.specs.Ledger.{isSet, mark, isLast, dealerAfter, windAfter, effectOf, applied};
+ghost use Rattle.ledger.specs.laws.Form.{Open};
+ghost use Rattle.ledger.specs.laws.Sums.{Small, paid};
+ghost use Rattle.moves.specs.laws.Steps.{finished};
+use form::mark;
+use ledger::Game;
+use ledger::LAST_HAND;
+
+// The scores with what each seat is given.
+fn pay(s: [i32; 4], by: [i32; 4]) -> [i32; 4]
+    requires { ⌜ Small s × Small by ⌝ }
+    ensures { λ r. ⌜ r ≡ paid s by ⌝ }
+{
+    let a0 = s[0] + by[0];
+    let a1 = s[1] + by[1];
+    let a2 = s[2] + by[2];
+    let a3 = s[3] + by[3];
+    [a0, a1, a2, a3]
+}
+
+// The deal is South's seat 3's: the last of the game.
+fn is_last(g: Game) -> bool
+    ensures { λ r. ⌜ r ≡ isLast g ⌝ }
+{
+    (g.wind == 1) & (g.dealer == 3)
+}
+
+// The dealer after a hand.
+fn next_dealer(g: Game, passes: bool) -> u8
+    requires { ⌜ g .dealer ≤ 3 ⌝ }
+    ensures { λ r. ⌜ r ≡ dealerAfter g passes ⌝ }
+{
+    if passes & !is_last(g) {
+        (g.dealer + 1) % 4
+    } else {
+        g.dealer
+    }
+}
+
+// The wind after a hand.
+fn next_wind(g: Game, passes: bool) -> u8
+    ensures { λ r. ⌜ r ≡ windAfter g passes ⌝ }
+{
+    if passes & (g.dealer == 3) { 1 } else { g.wind }
+}
+
+// The hand is finished: what it gives is paid, declarations are cleared, the deal passes or stays.
+pub fn finish(g: Game, by: [i32; 4], sticks: u32, passes: bool) -> Game
+    requires { ⌜ Open g × Small by ⌝ }
+    ensures { λ r. ⌜ r ≡ finished g by sticks passes ⌝ }
+{
+    let s = g.scores;
+    let scores = pay(s, by);
+    let declared = [0u8, 0, 0, 0];
+    let hands = g.hands + 1;
+    Game {
+        scores,
+        sticks,
+        declared,
+        dealer: next_dealer(g, passes),
+        wind: next_wind(g, passes),
+        hands,
+        over: mark((passes & is_last(g)) | (hands == LAST_HAND)),
+    }
+}
+
+// The marks with that of the seat set.
+fn declare(d: [u8; 4], seat: u8) -> [u8; 4]
+    ensures { λ r. ⌜ r ≡ tabulate 4 0 (λ i. mark (eqb i seat || isSet (getD d i 0))) ⌝ }
+{
+    [
+        mark((0 == seat) | (0 < d[0])),
+        mark((1 == seat) | (0 < d[1])),
+        mark((2 == seat) | (0 < d[2])),
+        mark((3 == seat) | (0 < d[3])),
+    ]
+}
+
+// The seat declares, and puts a stick on the table.
+pub fn put_stick(g: Game, seat: u8) -> Game
+    requires { ⌜ Open g ⌝ }
+    ensures { λ r. ⌜ r ≡ applied g (effectOf g (Booking.riichi seat)) ⌝ }
+{
+    let s = g.scores;
+    let scores = pay(s, payments::stakes(seat));
+    let d = g.declared;
+    let declared = declare(d, seat);
+    Game {
+        scores,
+        sticks: g.sticks + 1,
+        declared,
+        dealer: g.dealer,
+        wind: g.wind,
+        hands: g.hands,
+        over: 0,
+    }
+}

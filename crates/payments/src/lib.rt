@@ -1,0 +1,109 @@
+// What a riichi, a draw, a chombo and a win give each of the four seats, or take (01, Ledger). No sum wraps.
+ghost use mathlib.Core.Path.{_≡_};
+ghost use mathlib.Core.Bool.{false, cond};
+ghost use Prim.Native.Nat.{ℕ, _*_, _≤_};
+ghost use lib.Dec.{eqb};
+ghost use lib.IntN.{pos, negℤ, _+ℤ_};
+ghost use lib.ListN.{getD};
+ghost use Rattle.tiles.specs.Below.{count, tabulate};
+ghost use Rattle.score.specs.laws.Z.{Within};
+ghost use Rattle.ledger.specs.Ledger.{shareOf};
+ghost use Rattle.ledger.specs.laws.Bounds.{amount, mostChange, mostSticks};
+ghost use Rattle.ledger.specs.laws.Sums.{Small};
+use form::count_true;
+
+fn stake(pays: bool) -> i32
+    ensures { λ r. ⌜ (r ≡ cond pays (negℤ (pos 1000)) (pos 0)) × Within r amount ⌝ }
+{
+    if pays { -1000 } else { 0 }
+}
+
+// What riichi gives each seat: the one that declares pays for its stick.
+pub fn stakes(seat: u8) -> [i32; 4]
+    ensures { λ r. ⌜ (r ≡ tabulate 4 0 (λ i. cond (eqb i seat) (negℤ (pos 1000)) (pos 0))) × Small r ⌝ }
+{
+    [
+        stake(0 == seat),
+        stake(1 == seat),
+        stake(2 == seat),
+        stake(3 == seat),
+    ]
+}
+
+// What a draw with n seats ready gives a seat that is ready, or is not.
+fn share(n: u32, ready: bool) -> i32
+    requires { ⌜ n ≤ 4 ⌝ }
+    ensures { λ r. ⌜ (r ≡ shareOf n ready) × Within r amount ⌝ }
+{
+    if (n == 0) | (n == 4) {
+        return 0;
+    }
+    if ready {
+        (3000 / n) as i32
+    } else {
+        -((3000 / (4 - n)) as i32)
+    }
+}
+
+// What a draw gives each seat, by which are ready.
+pub fn shares(b: [bool; 4]) -> [i32; 4]
+    ensures { λ r. ⌜ (r ≡ tabulate 4 0 (λ i. shareOf (count 4 (λ j. getD b j false)) (getD b i false))) × Small r ⌝ }
+{
+    let n = count_true(b);
+    [
+        share(n, b[0]),
+        share(n, b[1]),
+        share(n, b[2]),
+        share(n, b[3]),
+    ]
+}
+
+// What a chombo gives a seat that pays, or does not, and has declared, or has not.
+fn penalty(pays: bool, declared: bool) -> i32
+    ensures { λ r. ⌜ (r ≡ cond pays (negℤ (pos 9000)) (pos 3000) +ℤ cond declared (pos 1000) (pos 0)) × Within r amount ⌝ }
+{
+    if pays {
+        if declared { -8000 } else { -9000 }
+    } else if declared {
+        4000
+    } else {
+        3000
+    }
+}
+
+// What a chombo of a seat gives each seat, by which have declared.
+pub fn penalties(seat: u8, d: [bool; 4]) -> [i32; 4]
+    ensures { λ r. ⌜ (r ≡ tabulate 4 0 (λ i. cond (eqb i seat) (negℤ (pos 9000)) (pos 3000) +ℤ cond (getD d i false) (pos 1000) (pos 0))) × Small r ⌝ }
+{
+    [
+        penalty(0 == seat, d[0]),
+        penalty(1 == seat, d[1]),
+        penalty(2 == seat, d[2]),
+        penalty(3 == seat, d[3]),
+    ]
+}
+
+// What a win gives a seat: its change, and the sticks if it wins.
+fn winning(change: i32, wins: bool, sticks: u32) -> i32
+    requires { ⌜ Within change mostChange × (sticks ≤ mostSticks) ⌝ }
+    ensures { λ r. ⌜ (r ≡ change +ℤ cond wins (pos (1000 * sticks)) (pos 0)) × Within r amount ⌝ }
+{
+    if wins {
+        change + (1000 * sticks) as i32
+    } else {
+        change
+    }
+}
+
+// What a win gives each seat: its change, and the winner the sticks.
+pub fn winnings(c: [i32; 4], winner: u8, sticks: u32) -> [i32; 4]
+    requires { ⌜ ((i : ℕ) → Within (getD c i (pos 0)) mostChange) × (sticks ≤ mostSticks) ⌝ }
+    ensures { λ r. ⌜ (r ≡ tabulate 4 0 (λ i. getD c i (pos 0) +ℤ cond (eqb i winner) (pos (1000 * sticks)) (pos 0))) × Small r ⌝ }
+{
+    [
+        winning(c[0], 0 == winner, sticks),
+        winning(c[1], 1 == winner, sticks),
+        winning(c[2], 2 == winner, sticks),
+        winning(c[3], 3 == winner, sticks),
+    ]
+}
