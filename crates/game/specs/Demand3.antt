@@ -5,7 +5,7 @@ use mathlib.Core.Bool.{false}
 use mathlib.Core.List.{List}
 use Prim.Native.Nat.{ℕ, _≤_, _<_}
 use lib.IntN.{pos, _+ℤ_}
-use Rattle.hand_record.specs.Claims.{IsSound}
+use Rattle.hand_record.specs.Record.{IsSound}
 use Rattle.reading.specs.declared.Reading.{Reading}
 use Rattle.score.specs.Named.{ReadsWithYaku, IsReported, gainIn, scoredAs}
 use Rattle.game.specs.declared.Game.{Game}

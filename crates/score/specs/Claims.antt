@@ -6,8 +6,7 @@ use mathlib.Core.Logic.{_↔_}
 use lib.IntN.{pos}
 use lib.ListN.{length, take, replicate}
 use Rattle.hand.specs.declared.Hand.{Hand}
-use Rattle.hand_record.specs.Record.{handOf, readOf}
-use Rattle.hand_record.specs.Claims.{IsSound}
+use Rattle.hand_record.specs.Record.{handOf, readOf, IsSound}
 use Rattle.reading.specs.declared.Reading.{Reading}
 use Rattle.reading.specs.Reading.{Ascends}
 use Rattle.groups.specs.Melds.{meldCode}

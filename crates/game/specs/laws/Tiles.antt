@@ -7,7 +7,8 @@ use Prim.Native.Nat.{ℕ}
 use native.Mathlib.Omega.{arith}
 use borrow.Author.Tests.{ltb-false}
 use lib.Dec.{ltb}
-use Rattle.hand_record.specs.Claims.{IsSound, sound}
+use Rattle.hand_record.specs.Record.{IsSound}
+use Rattle.hand_record.specs.Claims.{sound}
 use Rattle.score.specs.Named.{Named}
 use Rattle.score.specs.laws.Named.{scored, accepted, best, most, for-tiles}
 use Rattle.game.specs.declared.Game.{Game}

@@ -7,8 +7,8 @@ use mathlib.Core.List.{List}
 use native.Mathlib.Omega.{arith}
 use Rattle.hand.specs.declared.Hand.{Hand}
 use Rattle.hand.specs.Hand.{isRon}
-use Rattle.hand_record.specs.Record.{handOf, readOf}
-use Rattle.hand_record.specs.Claims.{IsSound, sound}
+use Rattle.hand_record.specs.Record.{handOf, readOf, IsSound}
+use Rattle.hand_record.specs.Claims.{sound}
 use Rattle.reading.specs.declared.Reading.{Reading}
 use Rattle.reading.specs.Order.{Lex}
 use Rattle.value.specs.declared.Value.{Value}
