@@ -7,7 +7,8 @@ ghost use lib.ListN.{getD};
 ghost use Rattle.tiles.specs.Below.{every, some, number};
 ghost use Rattle.tiles.specs.Kinds.{isRunStart};
 ghost use Rattle.tiles.specs.Tally.{tallyOf};
-ghost use Rattle.hand.specs.Held.{isClosed, hasKan, meldHolds, inOthers, inHeld, tileOver33, chiWithoutRun, wrongHeld, descends as descendsOf, overFour, unusedNotZero};
+ghost use Rattle.hand.specs.Held.{isClosed, hasKan, meldHolds, inOthers, inHeld};
+ghost use Rattle.hand.specs.Held.{tileOver33, chiWithoutRun, wrongHeld, descends as descendsOf, overFour, unusedNotZero};
 ghost use Rattle.hand.specs.Hand.{concealedTally, handTally};
 ghost use Rattle.hand.specs.Refusals.{wrongDiscarder, wrongFields, inRecord, wrongBy, refusalOf, tooLarge, unwritable as unwritableOf};
 
@@ -94,7 +95,7 @@ fn chi_without_run(x: Held) -> bool
 }
 
 // 2 of the tiles held, with the padding bits after them as a number.
-pub fn wrong_held(x: Held, padding: u8) -> bool
+pub fn wrong_held(x: Held, padding: u32) -> bool
     ensures { λ r. ⌜ r ≡ wrongHeld x padding ⌝ }
 {
     tile_over_33(x) | chi_without_run(x) | (0 < padding)
@@ -262,7 +263,7 @@ fn wrong_discarder(f: Fields) -> bool
 }
 
 // 2, whole.
-fn wrong_fields(h: Hand, padding: u8) -> bool
+fn wrong_fields(h: Hand, padding: u32) -> bool
     ensures { λ r. ⌜ r ≡ wrongFields h padding ⌝ }
 {
     let f = h.fields;
@@ -308,7 +309,7 @@ fn wrong_situation(f: Fields, x: Held, n: u8) -> bool
 }
 
 // 2 to 5, first match wins; 0 where there is none.
-pub fn refusal(h: Hand, padding: u8) -> u8
+pub fn refusal(h: Hand, padding: u32) -> u8
     ensures { λ r. ⌜ r ≡ refusalOf h padding ⌝ }
 {
     if wrong_fields(h, padding) {

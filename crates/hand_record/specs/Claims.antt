@@ -2,15 +2,12 @@
 -- same bytes, and an accepted hand written and read gives the same hand").
 use Prim.Native.Nat.{ℕ, _+_, _*_, _-_, _≤_, _<_}
 use mathlib.Core.Path.{_≡_}
-use mathlib.Core.Bool.{false}
 use mathlib.Core.Logic.{_↔_}
 use mathlib.Core.List.{List, [], _∷_, _++_}
 use lib.ListN.{length, take, drop}
-use Rattle.bits.specs.Bits.{sum, Below, bitsOf}
+use Rattle.bits.specs.Bits.{sum, Below}
 use Rattle.hand.specs.declared.Hand.{Hand}
-use Rattle.hand.specs.Held.{descends, overFour}
-use Rattle.hand.specs.Refusals.{wrongFields, inRecord, wrongSituation}
-use Rattle.hand_record.specs.Record.{lengthOf, padOf, widths, wrongLength, countIn, handIn, paddingOf, refusalIn, handOf, soundAs, readOf, writtenOf, bufferOf}
+use Rattle.hand_record.specs.Record.{lengthOf, padOf, widths, refusalIn, handOf, soundAs, readOf, IsSound, IsHand, writtenOf, bufferOf}
 use Rattle.hand_record.specs.laws.Claims as laws
 use Rattle.hand_record.specs.laws.Examples as examples
 
@@ -19,39 +16,23 @@ pub widths-fill : (m : ℕ) → m ≤ 4 → (sum (widths m) ≡ 103 - 10 * m + p
 widths-fill = laws.filled
 
 -- line 6 of document 01's table, bit by bit (docs/RECORDS.md): chi 234m, 567m 22456p 67s and 8s. It fixes "most significant first"
-pub worked : readOf (184 ∷ 30 ∷ 100 ∷ 128 ∷ 136 ∷ 40 ∷ 197 ∷ 20 ∷ 97 ∷ 167 ∷ 46 ∷ 192 ∷ []) ≡ soundAs (record { fields = record { how = 1; winner = 1; discarder = 3; riichi = 0; situation = 0; indicator = 30; winning = 25 }; held = record { m = 1; melds = 1 ∷ 0 ∷ 0 ∷ 0 ∷ []; concealed = 4 ∷ 5 ∷ 6 ∷ 10 ∷ 10 ∷ 12 ∷ 13 ∷ 14 ∷ 23 ∷ 24 ∷ 0 ∷ 0 ∷ 0 ∷ [] } })
+pub worked : readOf (184 ∷ 30 ∷ 100 ∷ 128 ∷ 136 ∷ 40 ∷ 197 ∷ 20 ∷ 97 ∷ 167 ∷ 46 ∷ 192 ∷ [])
+    ≡ soundAs (record {
+      fields = record { how = 1; winner = 1; discarder = 3; riichi = 0; situation = 0; indicator = 30; winning = 25 };
+      held = record { m = 1; melds = 1 ∷ 0 ∷ 0 ∷ 0 ∷ []; concealed = 4 ∷ 5 ∷ 6 ∷ 10 ∷ 10 ∷ 12 ∷ 13 ∷ 14 ∷ 23 ∷ 24 ∷ 0 ∷ 0 ∷ 0 ∷ [] };
+    })
 worked = examples.table .5 .read
-
--- the hand that a record's bits are (01, "Bits, most significant first: .."), sound or not
-abbrev pub handOfRecord : List ℕ → Hand
-handOfRecord s = handIn (countIn s) (bitsOf s)
-
--- and its "zero bits to the byte" as a number
-abbrev pub paddingOfRecord : List ℕ → ℕ
-paddingOfRecord s = paddingOf (countIn s) (bitsOf s)
-
--- "A record that meets none of these is sound": the conditions of 1, 2, 3, 4 and 5
-pub record IsSound (s : List ℕ) : Type 0 where
-  pub form : wrongLength (length s) (countIn s) ≡ false
-  pub fields : wrongFields (handOfRecord s) (paddingOfRecord s) ≡ false
-  pub order : descends (handOfRecord s .held) ≡ false
-  pub four : overFour (inRecord (handOfRecord s)) ≡ false
-  pub situation : wrongSituation (handOfRecord s) ≡ false
 
 -- "A record that meets none of these is sound", and then "Read refuses" it for nothing; and the reverse
 pub sound : (s : List ℕ) → IsSound s ↔ (refusalIn (readOf s .answer) ≡ 0)
-sound s = (λ y. laws.sound-read s (y .form) (y .fields) (y .order) (y .four) (y .situation), λ e. let c = laws.read-sound s e in record { form = c .0; fields = c .1; order = c .2; four = c .3; situation = c .4 })
+sound s = (laws.sound-read s, laws.read-sound s)
 
 -- "A sound hand record read and written back gives the same bytes", in a buffer that it fits, whose "bytes past the record stay"
-pub read-write : (s buf : List ℕ) → Below 256 s → IsSound s → length s ≤ length buf → (writtenOf (handOf (readOf s)) buf ≡ record { refusal = 0; len = length s }) × (bufferOf (handOf (readOf s)) buf ≡ s ++ drop (length s) buf)
+pub read-write : (s buf : List ℕ) → Below 256 s → IsSound s → length s ≤ length buf
+    → (writtenOf (handOf (readOf s)) buf ≡ record { refusal = 0; len = length s }) × (bufferOf (handOf (readOf s)) buf ≡ s ++ drop (length s) buf)
 read-write s buf b y l = (laws.read-write-answer s buf b (sound s .0 y) l, laws.read-write-buffer s buf b (sound s .0 y) l)
 
--- what every value of the type `Hand` of the code has: four melds of a byte, 13 concealed tiles
-pub record IsHand (h : Hand) : Type 0 where
-  pub melds : length (h .held .melds) ≡ 4
-  pub concealed : length (h .held .concealed) ≡ 13
-  pub bytes : Below 256 (h .held .melds)
-
 -- "an accepted hand written and read gives the same hand"
-pub write-read : (h : Hand) (buf : List ℕ) → IsHand h → writtenOf h buf .refusal ≡ 0 → readOf (take (writtenOf h buf .len) (bufferOf h buf)) ≡ soundAs h
+pub write-read : (h : Hand) (buf : List ℕ) → IsHand h → writtenOf h buf .refusal ≡ 0
+    → readOf (take (writtenOf h buf .len) (bufferOf h buf)) ≡ soundAs h
 write-read h buf i e = laws.write-read h buf (i .melds) (i .concealed) (i .bytes) e

@@ -1,18 +1,21 @@
 -- The hand record: its bits, Read and Write (01, Tiles and the hand record).
-use mathlib.Core.Bool.{Bool, _||_, cond, not}
+use mathlib.Core.Path.{_≡_}
+use mathlib.Core.Bool.{Bool, false, _||_, cond, not}
 use mathlib.Core.List.{List, [], _∷_, _++_}
 use Prim.Native.Nat.{ℕ, _+_, _*_, _-_}
 use lib.Dec.{ltb, eqb}
 use lib.ListN.{length, getD, take, drop, replicate}
-use Rattle.bits.specs.Bits.{unpack, eights, bitsOf, bytesOf, fill}
+use Rattle.bits.specs.Bits.{unpack, eights, Below, bitsOf, bytesOf, fill}
 use Rattle.hand.specs.declared.Fields.{Fields}
 use Rattle.hand.specs.declared.Held.{Held}
 use Rattle.hand.specs.declared.Hand.{Hand}
-use Rattle.hand.specs.Refusals.{refusalOf, unwritable}
+use Rattle.hand.specs.Held.{descends, overFour}
+use Rattle.hand.specs.Refusals.{wrongFields, inRecord, wrongSituation, refusalOf, unwritable}
 use Rattle.hand_record.specs.declared.Head.{Head}
 use Rattle.hand_record.specs.declared.Answer.{Answer}
 use Rattle.hand_record.specs.declared.Answer.the-variants.{Sound, Refused}
 use Rattle.hand_record.specs.declared.HandRead.{HandRead}
+use Rattle.hand_record.specs.declared.ReadHand.{ReadHand}
 use Rattle.hand_record.specs.declared.Written.{Written}
 
 -- ---- the layout
@@ -42,7 +45,15 @@ widths m = head ++ (eights m ++ (sixes (13 - 3 * m) ++ (padOf m ∷ [])))
 -- the eight values of a head: "how; winner; discarder; riichi; situation; dora indicator; winning tile", and "meld count m"
 abbrev pub headBy : List ℕ → Head
 headBy l = record {
-  fields = record { how = getD l 0 0; winner = getD l 1 0; discarder = getD l 2 0; riichi = getD l 3 0; situation = getD l 4 0; indicator = getD l 5 0; winning = getD l 6 0 };
+  fields = record {
+    how = getD l 0 0;
+    winner = getD l 1 0;
+    discarder = getD l 2 0;
+    riichi = getD l 3 0;
+    situation = getD l 4 0;
+    indicator = getD l 5 0;
+    winning = getD l 6 0;
+  };
   m = getD l 7 0;
 }
 
@@ -88,7 +99,7 @@ refusedWith n = record { answer = Refused n; held = noneHeld }
 abbrev pub soundAs : Hand → HandRead
 soundAs h = record { answer = Sound (h .fields); held = h .held }
 
--- the number of an answer: "Read refuses .. 1 .. 5"; 0 where the record is sound
+-- the refusal of an answer: "Read refuses .. 1 .. 5"; 0 where the record is sound
 abbrev pub refusalIn : Answer → ℕ
 refusalIn (Sound f) = 0
 refusalIn (Refused n) = n
@@ -122,12 +133,35 @@ judged m bits = answerBy (handIn m bits) (refusalOf (handIn m bits) (paddingOf m
 unfoldable pub readOf : List ℕ → HandRead
 readOf s = cond (wrongLength (length s) (countIn s)) (refusedWith 1) (judged (countIn s) (bitsOf s))
 
+-- what Read gives as one flat structure: the refusal, and the hand, all zero where it is refused
+unfoldable pub readHandOf : List ℕ → ReadHand
+readHandOf s = record { refusal = refusalIn (readOf s .answer); hand = handOf (readOf s) }
+
+-- ---- a sound record
+
+-- the hand that a record's bits are (01, "Bits, most significant first: .."), sound or not
+abbrev pub handOfRecord : List ℕ → Hand
+handOfRecord s = handIn (countIn s) (bitsOf s)
+
+-- and its "zero bits to the byte" as a number
+abbrev pub paddingOfRecord : List ℕ → ℕ
+paddingOfRecord s = paddingOf (countIn s) (bitsOf s)
+
+-- "A record that meets none of these is sound": neither 1, the length, nor 2, the fields, 3, the order of the tiles, 4, four of a kind, 5, the situation
+pub record IsSound (s : List ℕ) : Type 0 where
+  pub length : wrongLength (length s) (countIn s) ≡ false
+  pub fields : wrongFields (handOfRecord s) (paddingOfRecord s) ≡ false
+  pub order : descends (handOfRecord s .held) ≡ false
+  pub four : overFour (inRecord (handOfRecord s)) ≡ false
+  pub situation : wrongSituation (handOfRecord s) ≡ false
+
 -- ---- Write
 
 -- the head's values in the record's order: "how; winner; discarder; ..; meld count m"
 abbrev pub headList : Head → List ℕ
 headList x =
-    x .fields .how ∷ x .fields .winner ∷ x .fields .discarder ∷ x .fields .riichi ∷ x .fields .situation ∷ x .fields .indicator ∷ x .fields .winning ∷ x .m ∷ []
+    let f = x .fields in
+    f .how ∷ f .winner ∷ f .discarder ∷ f .riichi ∷ f .situation ∷ f .indicator ∷ f .winning ∷ x .m ∷ []
 
 -- the head of a hand's record
 abbrev pub headFor : Hand → Head
@@ -153,3 +187,9 @@ writtenOf h buf =
 -- "bytes past the record stay"; "a refused write changes no byte of the buffer"
 unfoldable pub bufferOf : Hand → List ℕ → List ℕ
 bufferOf h buf = cond (ltb 0 (writeRefusal h buf)) buf (recordOf h ++ drop (lengthOf (h .held .m)) buf)
+
+-- what every value of the type `Hand` of the code has: four melds of a byte, 13 concealed tiles
+pub record IsHand (h : Hand) : Type 0 where
+  pub melds : length (h .held .melds) ≡ 4
+  pub concealed : length (h .held .concealed) ≡ 13
+  pub bytes : Below 256 (h .held .melds)

@@ -3,7 +3,8 @@ ghost use mathlib.Core.Path.{_≡_};
 ghost use Prim.Native.Nat.{_+_, _*_, _-_, _≤_};
 ghost use lib.ListN.{length, drop};
 ghost use Rattle.bits.specs.Bits.{pack, unpack, Below, bitsOf, fill};
-ghost use Rattle.hand_record.specs.Record.{headOf, meldsOf, sixes, heldIn, refusedWith, judged, readOf, refusalIn, widths, valuesOf, writtenOf, bufferOf};
+ghost use Rattle.hand_record.specs.Record.{headOf, meldsOf, sixes, heldIn, refusedWith, judged, readOf, refusalIn, fieldsOf, readHandOf};
+ghost use Rattle.hand_record.specs.Record.{widths, valuesOf, writtenOf, bufferOf};
 use hand::Fields;
 use hand::Hand;
 use hand::Held;
@@ -20,7 +21,7 @@ struct Head {
     m: u8,
 }
 
-// The fields that read, or the number of the refusal.
+// The fields that read, or the refusal.
 pub enum Answer {
     Sound(Fields),
     Refused(u8),
@@ -32,6 +33,13 @@ pub struct HandRead {
     pub held: Held,
 }
 
+// What Read gives, flat: 0 and the hand, or the refusal and an all-zero hand.
+#[repr(C)]
+pub struct ReadHand {
+    pub refusal: u8,
+    pub hand: Hand,
+}
+
 // What Write gives: 0 and the record's length, or the refusal and 0.
 #[repr(C)]
 pub struct Written {
@@ -39,8 +47,8 @@ pub struct Written {
     pub len: usize,
 }
 
-// The bits of at most 13 bytes, with zeros after them.
-fn spread(s: &[u8]) -> [u8; 104]
+// The bits of at most 13 bytes, with zeros after them. An inner call of each reader.
+pub fn spread(s: &[u8]) -> [u8; 104]
     requires { ⌜ length (now s) ≤ 13 ⌝ }
     ensures { λ r. ⌜ r ≡ fill 104 (bitsOf (now (s .entry))) ⌝ }
 {
@@ -142,7 +150,7 @@ fn hand_in(b: &[u8], f: Fields, m: u8) -> HandRead
     }
 }
 
-// Read.
+// Read: the fields of a sound record beside its tiles held, or the first refusal of 1 to 5 beside zeros.
 pub fn read(s: &[u8]) -> HandRead
     ensures { λ r. ⌜ r ≡ readOf (now (s .entry)) ⌝ }
 {
@@ -166,13 +174,46 @@ pub fn read(s: &[u8]) -> HandRead
     hand_in(&b, f, m)
 }
 
-// The number of an answer, 0 for a sound record.
+// The refusal of an answer, 0 for a sound record.
 pub fn refusal(a: Answer) -> u8
     ensures { λ r. ⌜ r ≡ refusalIn a ⌝ }
 {
     match a {
         Answer::Sound(_) => 0,
         Answer::Refused(n) => n,
+    }
+}
+
+// The fields of an answer, zero where the record is refused.
+fn fields_of(a: Answer) -> Fields
+    ensures { λ r. ⌜ r ≡ fieldsOf a ⌝ }
+{
+    match a {
+        Answer::Sound(f) => f,
+        Answer::Refused(_) => Fields {
+            how: 0,
+            winner: 0,
+            discarder: 0,
+            riichi: 0,
+            situation: 0,
+            indicator: 0,
+            winning: 0,
+        },
+    }
+}
+
+// Read, with its answer taken apart: 0 and the hand, or the refusal and an all-zero hand.
+pub fn read_hand(s: &[u8]) -> ReadHand
+    ensures { λ r. ⌜ r ≡ readHandOf (now (s .entry)) ⌝ }
+{
+    let r = read(s);
+    let a = r.answer;
+    let held = r.held;
+    let fields = fields_of(a);
+    let hand = Hand { fields, held };
+    ReadHand {
+        refusal: refusal(a),
+        hand,
     }
 }
 
@@ -209,7 +250,7 @@ fn pack_hand(h: Hand) -> [u8; 104]
     b
 }
 
-// Write.
+// Write: stores the hand's record at the front of the buffer and gives its length; 2 to 5 or 13 and no byte stored where it is refused.
 pub fn write(h: Hand, buf: &mut [u8]) -> Written
     ensures { λ r. ⌜ r ≡ writtenOf h (now (buf .entry)) ⌝ }
     ensures { λ _. ⌜ now (buf .exit) ≡ bufferOf h (now (buf .entry)) ⌝ }

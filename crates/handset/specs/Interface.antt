@@ -2,16 +2,10 @@
 use mathlib.Core.Bool.{true, false}
 use mathlib.Core.List.{List}
 use Prim.Native.Nat.{ℕ}
-use Rattle.hand_record.specs.Record.{refusalIn, handOf, readOf}
 use Rattle.log.specs.Log.{nextOf}
 use Rattle.log.specs.declared.Next.{Next}
 use Rattle.log.specs.declared.Next.the-variants.{Entry, End, Bad}
-use Rattle.handset.specs.declared.ReadHand.{ReadHand}
 use Rattle.handset.specs.declared.NextEntry.{NextEntry}
-
--- Read: the number, and the hand, all zero where it is refused
-unfoldable pub readHandOf : List ℕ → ReadHand
-readHandOf s = record { refusal = refusalIn (readOf s .answer); hand = handOf (readOf s) }
 
 -- Next entry: an entry, "end", or 14
 abbrev pub nextEntryBy : Next → NextEntry

@@ -1,26 +1,18 @@
 // The public calls as the handset's firmware links them, with one prefix. They take all input; the bookings are lent the game and update it there.
 ghost use mathlib.Core.Path.{_≡_};
-ghost use Rattle.hand_record.specs.Record.{fieldsOf, writtenOf, bufferOf};
+ghost use Rattle.hand_record.specs.Record.{readHandOf, writtenOf, bufferOf};
 ghost use Rattle.score.specs.Score.{scoreOf};
 ghost use Rattle.ledger.specs.Booking as Booking;
 ghost use Rattle.ledger.specs.Ledger.{fresh};
 ghost use Rattle.ledger.specs.Runs.{Booked};
 ghost use Rattle.text.specs.Text.{lineOf, lengthIn, bufferWith};
-ghost use Rattle.handset.specs.Interface.{readHandOf, nextEntryBy, nextEntryOf};
-use hand::Fields;
+ghost use Rattle.handset.specs.Interface.{nextEntryBy, nextEntryOf};
 use hand::Hand;
-use hand_record::Answer;
+use hand_record::ReadHand;
 use hand_record::Written;
 use ledger::Game;
 use log::Next;
 use score::Scored;
-
-// What Read gives: 0 and the hand, or the refusal and an all-zero hand.
-#[repr(C)]
-pub struct ReadHand {
-    pub refusal: u8,
-    pub hand: Hand,
-}
 
 // What Next entry gives: an entry with its length, header included; the log's end; or refusal 14. Else all zero.
 #[repr(C)]
@@ -32,39 +24,15 @@ pub struct NextEntry {
     pub length: usize,
 }
 
-// The fields of an refusal, zero where the record is refused.
-fn fields_of(a: Answer) -> Fields
-    ensures { λ r. ⌜ r ≡ fieldsOf a ⌝ }
-{
-    match a {
-        Answer::Sound(f) => f,
-        Answer::Refused(_) => Fields {
-            how: 0,
-            winner: 0,
-            discarder: 0,
-            riichi: 0,
-            situation: 0,
-            indicator: 0,
-            winning: 0,
-        },
-    }
-}
-
+// Read: 0 and the hand, or the refusal and an all-zero hand.
 #[no_mangle]
 pub extern "C" fn hb_read(s: &[u8]) -> ReadHand
     ensures { λ r. ⌜ r ≡ readHandOf (now (s .entry)) ⌝ }
 {
-    let r = hand_record::read(s);
-    let a = r.answer;
-    let held = r.held;
-    let fields = fields_of(a);
-    let hand = Hand { fields, held };
-    ReadHand {
-        refusal: hand_record::refusal(a),
-        hand,
-    }
+    hand_record::read_hand(s)
 }
 
+// Write: the hand's record into the buffer, and its length; or the refusal, and no byte stored.
 #[no_mangle]
 pub extern "C" fn hb_write(h: Hand, buf: &mut [u8]) -> Written
     ensures { λ r. ⌜ r ≡ writtenOf h (now (buf .entry)) ⌝ }

@@ -7,7 +7,7 @@ use Prim.Native.Nat.{ℕ, _*_, _≤_, _<_}
 use lib.Dec.{eqb}
 use lib.IntN.{ℤ, pos, _+ℤ_}
 use lib.ListN.{getD}
-use Rattle.hand_record.specs.Claims.{IsSound}
+use Rattle.hand_record.specs.Record.{IsSound}
 use Rattle.reading.specs.declared.Reading.{Reading}
 use Rattle.score.specs.Named.{IsReadingOf, ReadsWithYaku, IsReported, gainIn, scoredAs}
 use Rattle.ledger.specs.declared.Game.{Game}

@@ -5,8 +5,7 @@ use mathlib.Core.List.{List}
 use mathlib.Core.Logic.{_↔_}
 use lib.IntN.{pos}
 use Rattle.hand.specs.declared.Hand.{Hand}
-use Rattle.hand_record.specs.Record.{handOf, readOf}
-use Rattle.hand_record.specs.Claims.{IsSound}
+use Rattle.hand_record.specs.Record.{handOf, readOf, IsSound}
 use Rattle.reading.specs.declared.Reading.{Reading}
 use Rattle.points.specs.Points.{sumOfFour}
 use Rattle.score.specs.declared.Scored.{Scored}

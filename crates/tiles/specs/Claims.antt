@@ -1,4 +1,4 @@
--- What the arithmetic of kinds comes to, written out. Assumes nothing.
+-- What the arithmetic of kinds comes to, written out.
 use mathlib.Core.List.{[], _∷_}
 use mathlib.Core.Path.{_≡_, refl}
 use Rattle.tiles.specs.Below.{tabulate}

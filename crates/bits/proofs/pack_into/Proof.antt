@@ -1,4 +1,4 @@
--- `bits::pack_into` meets its contract: what is left to pack, stored after what was, gives the whole. Assumes nothing.
+-- `bits::pack_into` meets its contract: what is left to pack, stored after what was, gives the whole.
 use borrow.Author.Needs.{needs}
 use Prim.Native.Nat.{_+_, _-_, _≤_}
 use mathlib.Core.Path.{_≡_, refl, sym, ap, _∙_}

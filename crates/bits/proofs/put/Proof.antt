@@ -1,4 +1,4 @@
--- `bits::put` meets its contract: what is left to store, after what was stored, gives the whole. Assumes nothing.
+-- `bits::put` meets its contract: what is left to store, after what was stored, gives the whole.
 use borrow.Author.Needs.{needs}
 use Prim.Native.Nat.{_+_, _≤_}
 use mathlib.Core.Path.{_≡_, refl, sym, _∙_}

@@ -1,4 +1,4 @@
--- An element of an array of a signed integer type fits that type. Assumes nothing.
+-- An element of an array of a signed integer type fits that type.
 use mathlib.Core.List.{List, [], _∷_}
 use Prim.Native.Nat.{ℕ, zero, suc}
 use lib.ListN.{getD}

@@ -190,13 +190,13 @@ put-step b i zero v p = absurd (not-suc-le-zero p)
 put-step b i (suc l) v p = rw (add-one, sub-one)
 
 -- a value of l bits less than eight takes one more bit
-pub grow : (l r x : ℕ) → 0 < l → l ≤ 8 → r < 2 ^ (8 - l) → x < 2 → (r < 128) × (r * 2 + x < 2 ^ (8 - (l - 1)))
-grow zero r x p q h g = absurd (not-suc-le-zero p)
-grow (suc l) r x p q h g =
-    let e : 8 - l ≡ suc (8 - suc l) = omega arith in
-    let f : 8 - suc l ≤ 7 = omega arith in
-    let m : 2 ^ (8 - suc l) ≤ 128 = pow-mono f in
-    (omega arith, rw (sub-one, e, pow-succ' 2 (8 - suc l)) (omega arith))
+pub grow : (n l r x : ℕ) → n ≤ 17 → 0 < l → l ≤ n → r < 2 ^ (n - l) → x < 2 → (r < 65536) × (r * 2 + x < 2 ^ (n - (l - 1)))
+grow n zero r x u p q h g = absurd (not-suc-le-zero p)
+grow n (suc l) r x u p q h g =
+    let e : n - l ≡ suc (n - suc l) = omega arith in
+    let f : n - suc l ≤ 16 = omega arith in
+    let m : 2 ^ (n - suc l) ≤ 65536 = pow-mono f in
+    (omega arith, rw (sub-one, e, pow-succ' 2 (n - suc l)) (omega arith))
 
 pub sets-append : (b : List ℕ) (i : ℕ) (xs ys : List ℕ) → sets b i (xs ++ ys) ≡ sets (sets b i xs) (i + length xs) ys
 sets-append b i [] ys = rw add-zero

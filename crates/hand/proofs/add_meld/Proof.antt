@@ -1,4 +1,4 @@
--- `hand::add_meld` meets its contract, for a chi, a pon and a kan. Assumes nothing.
+-- `hand::add_meld` meets its contract, for a chi, a pon and a kan.
 use borrow.Author.Needs.{needs}
 use borrow.Author.Tests.{eq-eqb, ne-eqb}
 use Prim.Native.Nat.{ℕ, _+_, _≤_, _<_, _%_}

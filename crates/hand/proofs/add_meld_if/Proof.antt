@@ -1,4 +1,4 @@
--- `hand::add_meld_if` meets its contract. Assumes nothing.
+-- `hand::add_meld_if` meets its contract.
 use borrow.Author.Needs.{needs}
 use native.Mathlib.Nat.{add-zero}
 use Rattle.hand.proofs.add_meld_if.Statement.{statement}

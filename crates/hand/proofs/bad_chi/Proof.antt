@@ -1,4 +1,4 @@
--- `hand::bad_chi` meets its contract. Assumes nothing.
+-- `hand::bad_chi` meets its contract.
 use borrow.Author.Needs.{needs}
 use Rattle.hand.proofs.bad_chi.Statement.{statement}
 use Rattle.hand.proofs.bad_chi.Tie as tie

@@ -1,4 +1,4 @@
--- `hand::chi_without_run` meets its contract: each call gives its part. Assumes nothing.
+-- `hand::chi_without_run` meets its contract: each call gives its part.
 use borrow.Author.Needs.{needs}
 use Rattle.hand.proofs.chi_without_run.Statement.{statement}
 use Rattle.hand.proofs.chi_without_run.Tie as tie

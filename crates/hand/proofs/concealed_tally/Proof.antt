@@ -14,7 +14,9 @@ concealed-tally-spec =
     (tie.spec (λ c κs. search needs)
     (λ c κs.
     let h = c .before .args .h in
-    omega (arith, tally-room (c .others-tally .result) (inOthers (h .held)) (search needs) (c .others-tally .ensures) 13 (others-le (h .held)) (h .fields .winning)))
+    let t = c .others-tally in
+    omega (arith, tally-room (t .result) (inOthers (h .held)) (search needs) (t .ensures) 13 (others-le (h .held)) (h .fields .winning)))
     (λ c.
     let h = c .before .before .args .h in
-    tally-plus (c .before .others-tally .result) (inOthers (h .held)) (search needs) (c .before .others-tally .ensures) (c .add .result) (h .fields .winning) 1 (search needs) (c .add .ensures)))
+    let t = c .before .others-tally in
+    tally-plus (t .result) (inOthers (h .held)) (search needs) (t .ensures) (c .add .result) (h .fields .winning) 1 (search needs) (c .add .ensures)))

@@ -1,4 +1,4 @@
--- `hand::falls` meets its contract: none of the first i tiles is over the one after it. Assumes nothing.
+-- `hand::falls` meets its contract: none of the first i tiles is over the one after it.
 use borrow.Author.Needs.{needs}
 use borrow.Author.Tests.{lt-ltb, le-ltb}
 use Prim.Native.Nat.{_+_, _-_, _≤_}

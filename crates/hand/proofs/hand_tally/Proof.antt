@@ -14,7 +14,9 @@ hand-tally-spec =
     (tie.spec (λ c κs. search needs)
     (λ c κs.
     let h = c .before .args .h in
-    omega (arith, tally-room (c .held-tally .result) (inHeld (h .held)) (search needs) (c .held-tally .ensures) 29 (held-le (h .held)) (h .fields .winning)))
+    let t = c .held-tally in
+    omega (arith, tally-room (t .result) (inHeld (h .held)) (search needs) (t .ensures) 29 (held-le (h .held)) (h .fields .winning)))
     (λ c.
     let h = c .before .before .args .h in
-    tally-plus (c .before .held-tally .result) (inHeld (h .held)) (search needs) (c .before .held-tally .ensures) (c .add .result) (h .fields .winning) 1 (search needs) (c .add .ensures)))
+    let t = c .before .held-tally in
+    tally-plus (t .result) (inHeld (h .held)) (search needs) (t .ensures) (c .add .result) (h .fields .winning) 1 (search needs) (c .add .ensures)))

@@ -1,4 +1,4 @@
--- `hand::over_33` meets its contract: no tile over 33 among the first i. Assumes nothing.
+-- `hand::over_33` meets its contract: no tile over 33 among the first i.
 use borrow.Author.Needs.{needs}
 use borrow.Author.Tests.{lt-ltb, le-ltb}
 use Prim.Native.Nat.{_-_, _≤_}

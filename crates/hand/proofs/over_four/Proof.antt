@@ -1,4 +1,4 @@
--- `hand::over_four` meets its contract: no kind below k is over four. Assumes nothing.
+-- `hand::over_four` meets its contract: no kind below k is over four.
 use borrow.Author.Needs.{needs}
 use borrow.Author.Tests.{lt-ltb, le-ltb}
 use Prim.Native.Nat.{_-_, _≤_}

@@ -14,7 +14,9 @@ record-tally-spec =
     (tie.spec (λ c κs. search needs)
     (λ c κs.
     let h = c .before .args .h in
-    omega (arith, tally-room (c .hand-tally .result) (inHand h) (search needs) (c .hand-tally .ensures) 30 (hand-le h) (h .fields .indicator)))
+    let t = c .hand-tally in
+    omega (arith, tally-room (t .result) (inHand h) (search needs) (t .ensures) 30 (hand-le h) (h .fields .indicator)))
     (λ c.
     let h = c .before .before .args .h in
-    tally-plus (c .before .hand-tally .result) (inHand h) (search needs) (c .before .hand-tally .ensures) (c .add .result) (h .fields .indicator) 1 (search needs) (c .add .ensures)))
+    let t = c .before .hand-tally in
+    tally-plus (t .result) (inHand h) (search needs) (t .ensures) (c .add .result) (h .fields .indicator) 1 (search needs) (c .add .ensures)))

@@ -22,15 +22,19 @@ winning-kind : (h : Hand) (p : ℕ) → wrongFields h p ≡ false → h .fields 
 unfolding wrongFields
 winning-kind h p e =
     let f = h .fields in
-    let q = or-both (wrongHeld (h .held) p) (fieldOver33 f) (or-both (wrongHeld (h .held) p || fieldOver33 f) (fieldOver f) (or-both (wrongHeld (h .held) p || fieldOver33 f || fieldOver f) (wrongDiscarder f) e .0) .0) .1 in
+    let q = second (wrongHeld (h .held) p) (fieldOver33 f) (fieldOver f) (wrongDiscarder f) e in
     omega (arith, ltb-false 33 (f .winning) (or-both (ltb 33 (f .indicator)) (ltb 33 (f .winning)) q .1))
+  where
+    second : (a b c d : Bool) → a || b || c || d ≡ false → b ≡ false
+    second a b c d x = or-both a b (or-both (a || b) c (or-both (a || b || c) d x .0) .0) .1
 
 -- the tests of the tally
 four : (h : Hand) (t : List ℕ) (r : Bool) → t ≡ tallyOf (inRecord h) → r ≡ overFour (λ k. getD t k 0) → r ≡ overFour (inRecord h)
 unfolding overFour
 four h t r e q = q ∙ some-cong _ _ 34 (λ k g. rw (e, getD-tally (inRecord h) k g))
 
-situated : (h : Hand) (t : List ℕ) (r : Bool) → t ≡ tallyOf (inRecord h) → h .fields .winning < 34 → r ≡ wrongBy (h .fields) (h .held) (getD t (h .fields .winning) 0) → r ≡ wrongSituation h
+situated : (h : Hand) (t : List ℕ) (r : Bool) → t ≡ tallyOf (inRecord h) → h .fields .winning < 34
+    → r ≡ wrongBy (h .fields) (h .held) (getD t (h .fields .winning) 0) → r ≡ wrongSituation h
 unfolding wrongSituation
 situated h t r e l q = q ∙ rw (e, getD-tally (inRecord h) (h .fields .winning) l)
 

@@ -1,4 +1,4 @@
--- `hand::tally_of` meets its contract: the tally has the first i tiles, kind by kind. Assumes nothing.
+-- `hand::tally_of` meets its contract: the tally has the first i tiles, kind by kind.
 use borrow.Author.Needs.{needs}
 use Prim.Native.Nat.{ℕ, _+_, _-_, _≤_, _<_}
 use mathlib.Core.Path.{_≡_, refl, sym, _∙_}

@@ -1,4 +1,4 @@
--- `hand::tile_over_33` meets its contract: each call gives its part. Assumes nothing.
+-- `hand::tile_over_33` meets its contract: each call gives its part.
 use borrow.Author.Needs.{needs}
 use Rattle.hand.specs.Held.{tileOver33}
 use Rattle.hand.proofs.tile_over_33.Statement.{statement}

@@ -1,4 +1,4 @@
--- `hand::unused_not_zero` meets its contract: each call gives its part. Assumes nothing.
+-- `hand::unused_not_zero` meets its contract: each call gives its part.
 use borrow.Author.Needs.{needs}
 use Rattle.hand.specs.Held.{unusedNotZero}
 use Rattle.hand.proofs.unused_not_zero.Statement.{statement}

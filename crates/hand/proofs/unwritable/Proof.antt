@@ -1,4 +1,4 @@
--- `hand::unwritable` meets its contract. Assumes nothing.
+-- `hand::unwritable` meets its contract.
 use borrow.Author.Needs.{needs}
 use Rattle.hand.specs.Refusals.{unwritable}
 use Rattle.hand.proofs.unwritable.Statement.{statement}

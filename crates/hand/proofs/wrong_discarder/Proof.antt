@@ -1,4 +1,4 @@
--- `hand::wrong_discarder` meets its contract. Assumes nothing.
+-- `hand::wrong_discarder` meets its contract.
 use borrow.Author.Tests.{eq-eqb, ne-eqb}
 use Rattle.hand.proofs.wrong_discarder.Statement.{statement}
 use Rattle.hand.proofs.wrong_discarder.Tie as tie

@@ -1,4 +1,4 @@
--- `hand::wrong_fields` meets its contract: each call gives its part. Assumes nothing.
+-- `hand::wrong_fields` meets its contract: each call gives its part.
 use borrow.Author.Needs.{needs}
 use Rattle.hand.specs.Refusals.{wrongFields}
 use Rattle.hand.proofs.wrong_fields.Statement.{statement}

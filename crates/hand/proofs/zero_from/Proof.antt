@@ -1,4 +1,4 @@
--- `hand::zero_from` meets its contract: each place from n on below i is 0. Assumes nothing.
+-- `hand::zero_from` meets its contract: each place from n on below i is 0.
 use borrow.Author.Needs.{needs}
 use borrow.Author.Tests.{not-true, not-false}
 use Prim.Native.Nat.{_-_, _≤_}

@@ -9,9 +9,11 @@ use Rattle.hand_record.proofs.hand_in.Statement.{statement}
 use Rattle.hand_record.proofs.hand_in.Tie as tie
 
 -- what the calls gave is the hand
-made : (c : tie.After-refusal) → answerBy (record { fields = c .before .before .before .before .args .f; held = c .before .before .held-in .result }) (c .refusal .result) ≡ judged (c .before .before .before .before .args .m) (c .before .before .before .before .args .b .now)
+made : (c : tie.After-refusal)
+    → answerBy (record { fields = c .before .before .before .before .args .f; held = c .before .before .held-in .result }) (c .refusal .result)
+    ≡ judged (c .before .before .before .before .args .m) (c .before .before .before .before .args .b .now)
 unfolding judged handIn paddingAfter
-made c = rw (c .refusal .ensures, c .before .gather .ensures, c .before .before .held-in .ensures, c .before .before .before .before .pre .3)
+made c = rw (c .refusal .ensures, c .before .gather .ensures .0, c .before .before .held-in .ensures, c .before .before .before .before .pre .3)
 
 pub hand-in-spec : {M : Type 1} → statement M
 unfolding answerBy
@@ -23,7 +25,7 @@ hand-in-spec =
     (λ c κs.
     let a = c .before .before in
     let w = whole (a .args .m) (a .pre .0) in
-    (w .1, omega arith, a .pre .2))
+    (omega (arith, w .1), omega arith, a .pre .2))
     (λ c κs. search needs) (λ c κs. search needs)
     (λ c. c .refused .ensures ∙ rw (lt-ltb 0 _ (c .before .if1 .taken)) at (made (c .before .before)))
     (λ c. rw (le-ltb 0 _ (c .if1 .left)) at (made (c .before))))

@@ -13,7 +13,8 @@ use Rattle.hand.specs.declared.Hand.{Hand}
 use Rattle.hand_record.specs.declared.Answer.{Answer}
 use Rattle.hand_record.specs.declared.Answer.the-variants.{Sound, Refused}
 use Rattle.hand_record.specs.declared.HandRead.{HandRead}
-use Rattle.hand_record.specs.Record.{refusalIn, fieldsOf, handOf, countIn, handIn, readOf}
+use Rattle.hand_record.specs.declared.ReadHand.{ReadHand}
+use Rattle.hand_record.specs.Record.{refusalIn, fieldsOf, handOf, countIn, handIn, readOf, readHandOf}
 use Rattle.hand_record.specs.laws.Clean.{kinds-of, Accepted, accepted-of}
 use Rattle.hand_record.specs.laws.Round.{as-read, accepted-back}
 use Rattle.hand_record.specs.laws.Claims.{is-read}
@@ -56,6 +57,19 @@ module _ (s : List ℕ) (r : HandRead) (e : r ≡ readOf s) where
 
   pub hand-bounds : (f : Fields) → r .answer ≡ Sound f → Bounds (record { fields = f; held = r .held })
   hand-bounds f told = subst (λ (x : Hand). Bounds x) (sym (hand-is f told)) (read-bounds s (ap refusalIn (answer-is told)))
+
+-- the same of what it gave flat
+module _ (s : List ℕ) (r : ReadHand) (e : r ≡ readHandOf s) where
+  pub flat-refusal : refusalIn (readOf s .answer) ≡ r .refusal
+  unfolding readHandOf
+  flat-refusal = ap (λ (x : ReadHand). x .refusal) (sym e)
+
+  pub flat-hand : r .hand ≡ handOf (readOf s)
+  unfolding readHandOf
+  flat-hand = ap (λ (x : ReadHand). x .hand) e
+
+  pub flat-bounds : r .refusal ≡ 0 → Bounds (r .hand)
+  flat-bounds z = subst (λ (x : Hand). Bounds x) (sym flat-hand) (read-bounds s (flat-refusal ∙ z))
 
 -- a refusal has a number
 pub refused-number : (s : List ℕ) (n : ℕ) → readOf s .answer ≡ Refused n → 0 < n

@@ -10,27 +10,30 @@ use lib.ListN.{length, take, drop}
 use lib.Seq.{take-at}
 use Rattle.bits.specs.Bits.{sum, Below, bitsOf}
 use Rattle.hand.specs.declared.Hand.{Hand}
-use Rattle.hand.specs.Held.{descends, overFour}
-use Rattle.hand.specs.Refusals.{wrongFields, inRecord, wrongSituation, refusalOf, unwritable}
+use Rattle.hand.specs.Refusals.{refusalOf, unwritable}
 use Rattle.hand_record.specs.declared.HandRead.{HandRead}
 use Rattle.hand_record.specs.declared.Written.{Written}
-use Rattle.hand_record.specs.Record.{lengthOf, padOf, widths, wrongLength, countIn, handIn, paddingOf, refusedWith, soundAs, refusalIn, handOf, answerBy, judged, readOf, recordOf, writeRefusal, writtenOf, bufferOf}
-use Rattle.hand_record.specs.laws.Read.{whole, form-of}
+use Rattle.hand_record.specs.Record.{lengthOf, padOf, widths, wrongLength, countIn, handIn, handOfRecord, paddingOfRecord, IsSound, refusedWith, soundAs, refusalIn, handOf, answerBy, judged, readOf, recordOf, writeRefusal, writtenOf, bufferOf}
+use Rattle.hand_record.specs.laws.Read.{whole, length-of}
 use Rattle.hand_record.specs.laws.Write.{sum-widths, refusal-none, wrote-by}
 use Rattle.hand_record.specs.laws.Clean.{clean-of, of-clean}
-use Rattle.hand_record.specs.laws.Round.{ReadAs, as-read, same-bytes, accepted-back, length-record, same-hand, form-is}
+use Rattle.hand_record.specs.laws.Round.{ReadAs, as-read, same-bytes, accepted-back, length-record, same-hand, length-is}
 
 module _ (s : List ℕ) where
   abbrev x : Hand
-  x = handIn (countIn s) (bitsOf s)
+  x = handOfRecord s
 
   abbrev p : ℕ
-  p = paddingOf (countIn s) (bitsOf s)
+  p = paddingOfRecord s
 
-  pub sound-read : wrongLength (length s) (countIn s) ≡ false → wrongFields x p ≡ false → descends (x .held) ≡ false → overFour (inRecord x) ≡ false → wrongSituation x ≡ false → refusalIn (readOf s .answer) ≡ 0
-  sound-read a b c d e =
+  pub sound-read : IsSound s → refusalIn (readOf s .answer) ≡ 0
+  sound-read y =
       ap (λ (r : HandRead). refusalIn (r .answer))
-      (as-read s x (record { form = form-of (length s) (countIn s) a; is-hand = refl; unrefused = of-clean x p (record { fields = b; order = c; four = d; situation = e }) }))
+      (as-read s x (record {
+        right-length = length-of (length s) (countIn s) (y .length);
+        is-hand = refl;
+        unrefused = of-clean x p (record { fields = y .fields; order = y .order; four = y .four; situation = y .situation });
+      }))
 
   -- a number of 0 is that of a hand that is given
   given : (f g : Bool) (j : ℕ) → ltb 0 j ≡ g → refusalIn (cond f (refusedWith 1) (cond g (refusedWith j) (soundAs x)) .answer) ≡ 0 → (f ≡ false) × (j ≡ 0)
@@ -42,16 +45,16 @@ module _ (s : List ℕ) where
   unfolding readOf judged answerBy
   is-given e = given (wrongLength (length s) (countIn s)) (ltb 0 (refusalOf x p)) (refusalOf x p) refl e
 
-  pub read-sound : refusalIn (readOf s .answer) ≡ 0 → (wrongLength (length s) (countIn s) ≡ false) × (wrongFields x p ≡ false) × (descends (x .held) ≡ false) × (overFour (inRecord x) ≡ false) × (wrongSituation x ≡ false)
+  pub read-sound : refusalIn (readOf s .answer) ≡ 0 → IsSound s
   read-sound e =
       let g = is-given e in
       let c = clean-of x p (g .1) in
-      (g .0, c .fields, c .order, c .four, c .situation)
+      record { length = g .0; fields = c .fields; order = c .order; four = c .four; situation = c .situation }
 
   pub is-read : refusalIn (readOf s .answer) ≡ 0 → ReadAs s x
   is-read e =
       let g = is-given e in
-      record { form = form-of (length s) (countIn s) (g .0); is-hand = refl; unrefused = g .1 }
+      record { right-length = length-of (length s) (countIn s) (g .0); is-hand = refl; unrefused = g .1 }
 
 -- the widths fill the bytes
 pub filled : (m : ℕ) → m ≤ 4 → (sum (widths m) ≡ 103 - 10 * m + padOf m) × (103 - 10 * m + padOf m ≡ 8 * lengthOf m) × (padOf m < 8)
@@ -71,7 +74,7 @@ module _ (s buf : List ℕ) (b : Below 256 s) (e : refusalIn (readOf s .answer) 
   h = handIn (countIn s) (bitsOf s)
 
   same-length : lengthOf (h .held .m) ≡ length s
-  same-length = sym (form-is s h (is-read s e) .right)
+  same-length = sym (length-is s h (is-read s e) .right)
 
   same-read : handOf (readOf s) ≡ h
   same-read = ap handOf (as-read s h (is-read s e))

@@ -27,31 +27,31 @@ whole (suc (suc (suc (suc zero)))) h = (refl, omega arith, omega arith, omega ar
 whole (suc (suc (suc (suc (suc m))))) h = absurd (omega arith)
 
 -- a length of n bytes is right for m melds
-pub record Form (n m : ℕ) : Type 0 where
+pub record RightLength (n m : ℕ) : Type 0 where
   pub four : 4 ≤ n
   pub few : m ≤ 4
   pub right : n ≡ lengthOf m
 
-pub form-of : (n m : ℕ) → wrongLength n m ≡ false → Form n m
-form-of n m e =
+pub length-of : (n m : ℕ) → wrongLength n m ≡ false → RightLength n m
+length-of n m e =
     let p = or-both (ltb n 4 || ltb 4 m) (not (eqb n (lengthOf m))) e in
     let q = or-both (ltb n 4) (ltb 4 m) (p .0) in
     record { four = ltb-false n 4 (q .0); few = ltb-false 4 m (q .1); right = eqb-true n (lengthOf m) (not-false (eqb n (lengthOf m)) (p .1)) }
 
-pub form-right : (n m : ℕ) → Form n m → wrongLength n m ≡ false
-form-right n m f = rw (le-ltb n 4 (f .four), le-ltb 4 m (f .few), eq-eqb n (lengthOf m) (f .right))
+pub length-right : (n m : ℕ) → RightLength n m → wrongLength n m ≡ false
+length-right n m f = rw (le-ltb n 4 (f .four), le-ltb 4 m (f .few), eq-eqb n (lengthOf m) (f .right))
 
 -- refusal 1
-pub read-not : (s : List ℕ) → (Form (length s) (countIn s) → ⊥) → readOf s ≡ refusedWith 1
+pub read-not : (s : List ℕ) → (RightLength (length s) (countIn s) → ⊥) → readOf s ≡ refusedWith 1
 unfolding readOf
-read-not s h = rw (bool-true (wrongLength (length s) (countIn s)) (λ e. h (form-of _ _ e)))
+read-not s h = rw (bool-true (wrongLength (length s) (countIn s)) (λ e. h (length-of _ _ e)))
 
 -- a record of the right length, read from its bits with zeros after them
 pub head-fill : (s : List ℕ) → 4 ≤ length s → headOf (fill 104 (bitsOf s)) ≡ headOf (bitsOf s)
 unfolding headOf
 head-fill s h = ap headBy (part-fill 104 0 head (bitsOf s) (omega (arith, length-bitsOf s)))
 
-module _ (s : List ℕ) (m : ℕ) (f : Form (length s) m) where
+module _ (s : List ℕ) (m : ℕ) (f : RightLength (length s) m) where
   melds-fill : meldsOf 25 m (fill 104 (bitsOf s)) ≡ meldsOf 25 m (bitsOf s)
   unfolding meldsOf
   melds-fill = part-fill 104 25 (eights m) (bitsOf s) (omega (arith, sum-replicate m 8, whole m (f .few), length-bitsOf s))
@@ -72,8 +72,8 @@ module _ (s : List ℕ) (m : ℕ) (f : Form (length s) m) where
   judged-fill = rw (head-fill s (f .four), melds-fill, tiles-fill, padding-fill)
 
 -- over what a reader's calls gave
-pub read-by : (s b : List ℕ) (m : ℕ) → b ≡ fill 104 (bitsOf s) → m ≡ headOf b .m → Form (length s) m → judged m b ≡ readOf s
+pub read-by : (s b : List ℕ) (m : ℕ) → b ≡ fill 104 (bitsOf s) → m ≡ headOf b .m → RightLength (length s) m → judged m b ≡ readOf s
 unfolding readOf
-read-by s b m eb em form =
-    let e : countIn s ≡ m = sym (em ∙ ap (λ (l : List ℕ). headOf l .m) eb ∙ ap (λ (h : Head). h .m) (head-fill s (form .four))) in
-    rw (eb, e, form-right (length s) m form) (judged-fill s m form)
+read-by s b m eb em r =
+    let e : countIn s ≡ m = sym (em ∙ ap (λ (l : List ℕ). headOf l .m) eb ∙ ap (λ (h : Head). h .m) (head-fill s (r .four))) in
+    rw (eb, e, length-right (length s) m r) (judged-fill s m r)

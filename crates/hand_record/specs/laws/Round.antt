@@ -23,7 +23,7 @@ use Rattle.hand_record.specs.declared.Answer.the-variants.{Sound, Refuse
 use Rattle.hand_record.specs.Record.{head, headBy, headList, headFor, sixes, lengthOf, padOf, headOf, meldsOf, tilesOf, heldIn, paddingAfter, paddingOf, handIn, refusedWith, soundAs, wrongLength, countIn, answerBy, judged, readOf, widths, valuesOf, recordOf}
 use Rattle.hand_record.specs.laws.Clean.{clean-of, of-clean, kinds-of, Accepted, accepted-of}
 use Rattle.hand_record.specs.laws.Fill.{take-fill, fill-past, fill-take, unused-of, zeros-of}
-use Rattle.hand_record.specs.laws.Read.{whole, Form, form-of, form-right}
+use Rattle.hand_record.specs.laws.Read.{whole, RightLength, length-of, length-right}
 use Rattle.hand_record.specs.laws.Write.{sum-widths, length-widths, few-melds}
 
 -- ---- the fields of a record's bits, part by part
@@ -62,7 +62,7 @@ head-back x b e = ap headBy e
 -- ---- what a sound answer says
 
 pub record ReadAs (s : List ℕ) (h : Hand) : Type 0 where
-  pub form : Form (length s) (countIn s)
+  pub right-length : RightLength (length s) (countIn s)
   pub is-hand : h ≡ handIn (countIn s) (bitsOf s)
   pub unrefused : refusalOf h (paddingOf (countIn s) (bitsOf s)) ≡ 0
 
@@ -96,13 +96,13 @@ read-as s h e =
     let q = cond-sound (ltb 0 j) j (soundAs x) h (p .1) in
     let i : h ≡ x = sym (sound-inj x h (q .1)) in
     let z : j ≡ 0 = omega (arith, ltb-false 0 j (q .0)) in
-    record { form = form-of (length s) m (p .0); is-hand = i; unrefused = rw i z }
+    record { right-length = length-of (length s) m (p .0); is-hand = i; unrefused = rw i z }
 
 pub as-read : (s : List ℕ) (h : Hand) → ReadAs s h → readOf s ≡ soundAs h
 unfolding readOf judged answerBy
 as-read s h y =
     let z : refusalOf (handIn (countIn s) (bitsOf s)) (paddingOf (countIn s) (bitsOf s)) ≡ 0 = rw (y .is-hand) at (y .unrefused) in
-    rw (form-right (length s) (countIn s) (y .form), z) (ap soundAs (sym (y .is-hand)))
+    rw (length-right (length s) (countIn s) (y .right-length), z) (ap soundAs (sym (y .is-hand)))
 
 -- the parts of the hand that was read
 module _ (s : List ℕ) (h : Hand) (y : ReadAs s h) where
@@ -122,8 +122,8 @@ module _ (s : List ℕ) (h : Hand) (y : ReadAs s h) where
   unfolding handIn heldIn
   tiles-are = ap (λ (x : Hand). x .held .concealed) (y .is-hand) ∙ ap (λ (m : ℕ). fill 13 (tilesOf 25 m (bitsOf s))) (sym count-is)
 
-  pub form-is : Form (length s) (h .held .m)
-  form-is = rw count-is (y .form)
+  pub length-is : RightLength (length s) (h .held .m)
+  length-is = rw count-is (y .right-length)
 
   unrefused-is : refusalOf h (paddingOf (h .held .m) (bitsOf s)) ≡ 0
   unrefused-is = ap (λ (m : ℕ). refusalOf h (paddingOf m (bitsOf s))) count-is ∙ y .unrefused
@@ -149,8 +149,8 @@ module _ (s : List ℕ) (h : Hand) (y : ReadAs s h) where
   unfolding recordOf
   same-bytes bs =
       let m : ℕ = h .held .m in
-      let n : lengthOf m ≡ length s = sym (form-is .right) in
-      rw (values-are, n) (bytes-fields (widths m) s bs (sum-widths m (form-is .few) ∙ ap (λ (k : ℕ). 8 * k) n))
+      let n : lengthOf m ≡ length s = sym (length-is .right) in
+      rw (values-are, n) (bytes-fields (widths m) s bs (sum-widths m (length-is .few) ∙ ap (λ (k : ℕ). 8 * k) n))
 
   -- and the hand is accepted for writing
   pub accepted-back : unwritable h ≡ 0
@@ -163,7 +163,7 @@ module _ (s : List ℕ) (h : Hand) (y : ReadAs s h) where
       not-large =
           let b : List ℕ = bitsOf s in
           let l = length-bitsOf s in
-          let f = form-is in
+          let f = length-is in
           let g : FitIn head (headList (headFor h)) = subst (λ (x : List ℕ). FitIn head x) (sym fields-are) (unpack-fit head b (below-pack (eights (length s)) s) (omega (arith, f .four))) in
           rw (
             le-ltb 4 (h .held .m) (f .few),
@@ -283,9 +283,9 @@ module _ (h : Hand) (e : unwritable h ≡ 0) (lm : length (h .held .melds) ≡ 4
       let ec : countIn (recordOf h) ≡ m = ap (λ (x : Head). x .m) (head-back (headFor h) b (p .0)) in
       let w = whole m few in
       let l = length-record in
-      let fo : Form (length (recordOf h)) m = record { four = omega (arith, w); few = few; right = l } in
+      let fo : RightLength (length (recordOf h)) m = record { four = omega (arith, w); few = few; right = l } in
       as-read (recordOf h) h (record {
-        form = rw ec fo;
+        right-length = rw ec fo;
         is-hand = hand-back ∙ ap (λ (n : ℕ). handIn n b) (sym ec);
         unrefused = ap (λ (n : ℕ). refusalOf h (paddingOf n b)) ec ∙ ap (refusalOf h) (p .3) ∙ of-clean h 0 (y .clean);
       })

@@ -12,7 +12,7 @@ use lib.ListN.{length, getD, take, drop, length-drop}
 use lib.Seq.{take-nil, drop-drop, length-take-le}
 use Rattle.tiles.specs.laws.Below.{or-both}
 use Rattle.hand_record.specs.Record.{headOf, countIn, lengthOf, wrongLength}
-use Rattle.hand_record.specs.laws.Read.{whole, form-right}
+use Rattle.hand_record.specs.laws.Read.{whole, length-right}
 use Rattle.log.specs.Log.{kindAt, argumentAt, isWin, isBroken, recordsFrom, isBad, entryLength, nextOf, partOf}
 use Rattle.log.specs.declared.Next.{Next}
 use Rattle.log.specs.declared.Next.the-variants.{Entry, End, Bad}
@@ -208,7 +208,7 @@ pub record-form : (s : List ℕ) → isBroken s ≡ false → wrongLength (lengt
 record-form s e =
     let u = unbroken s e in
     let l = length-take-le (lengthOf (countIn s)) s (u .3) in
-    rw (count-take s (lengthOf (countIn s)) (u .1) (omega arith), l) (form-right (lengthOf (countIn s)) (countIn s) (record { four = u .1; few = u .0; right = refl }))
+    rw (count-take s (lengthOf (countIn s)) (u .1) (omega arith), l) (length-right (lengthOf (countIn s)) (countIn s) (record { four = u .1; few = u .0; right = refl }))
 
 -- the part of a win after its header
 pub win-part : (log : List ℕ) (at a n : ℕ) → nextOf log at ≡ Entry 1 a n → (a ≡ 0) × (wrongLength (length (drop 1 (partOf log at))) (countIn (drop 1 (partOf log at))) ≡ false)

@@ -7,7 +7,7 @@ use native.Mathlib.Omega.{arith}
 use Rattle.tiles.specs.Below.{every, number}
 use Rattle.tiles.specs.Groups.{isGroup, at, uses}
 use Rattle.tiles.specs.Tally.{tallyOf}
-use Rattle.tiles.specs.laws.Tally.{held}
+use Rattle.tiles.specs.laws.Tally.{ofKind}
 use Rattle.reading.specs.declared.Reading.{Reading}
 use Rattle.reading.specs.Reading.{holds, isSevenPairs, isOrphans, ofShape}
 use Rattle.reading.specs.Order.{Before}
@@ -15,7 +15,7 @@ use Rattle.reading.specs.search.Readings.{concatMap, isEmpty, less, fits
 
 -- of tiles, m melds and the winning kind
 abbrev readingsOf : List ℕ → ℕ → ℕ → List Reading
-readingsOf l m win = readings (tallyOf (held l)) m win
+readingsOf l m win = readings (tallyOf (ofKind l)) m win
 
 record Worked : Type 0 where
   -- line 4: 111222333m 789s 99p by 9s
@@ -45,7 +45,7 @@ record Worked : Type 0 where
   twelve : readingsOf (0 ∷ 8 ∷ 9 ∷ 17 ∷ 18 ∷ 26 ∷ 27 ∷ 28 ∷ 29 ∷ 31 ∷ 32 ∷ 33 ∷ 33 ∷ []) 0 33 ≡ []
 
 worked : Worked
-unfolding concatMap isEmpty less fits without passes step splits placedAt placed paired shaped readings holds isSevenPairs isOrphans every number isGroup at uses held tallyOf
+unfolding concatMap isEmpty less fits without passes step splits placedAt placed paired shaped readings holds isSevenPairs isOrphans every number isGroup at uses ofKind tallyOf
 worked =
     record {
       line-4 = refl;

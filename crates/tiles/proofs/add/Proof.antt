@@ -1,4 +1,4 @@
--- `tiles::add` meets its contract: past the 34 kinds nothing is stored. Assumes nothing.
+-- `tiles::add` meets its contract: past the 34 kinds nothing is stored.
 use borrow.Author.Needs.{needs}
 use mathlib.Core.Path.{_≡_, refl, sym}
 use native.Mathlib.Omega.{arith}

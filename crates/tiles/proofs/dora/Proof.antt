@@ -1,4 +1,4 @@
--- `tiles::dora` meets its contract, suit by suit. Assumes nothing.
+-- `tiles::dora` meets its contract, suit by suit.
 use borrow.Author.Needs.{needs}
 use native.Mathlib.Omega.{arith}
 use borrow.Author.Tests.{lt-ltb, le-ltb}

@@ -1,4 +1,4 @@
--- What a loop over the numbers below n needs of a test or a sum: at the start, one more, stopped early, done. Assumes nothing.
+-- What a loop over the numbers below n needs of a test or a sum: at the start, one more, stopped early, done.
 use mathlib.Core.Path.{_≡_, refl, sym}
 use mathlib.Core.Bool.{Bool, true, false, _&&_, _||_, and-false, cond}
 use mathlib.Core.Logic.{⊎-elim}

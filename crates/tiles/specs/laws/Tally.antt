@@ -1,4 +1,4 @@
--- What a tally holds at a kind, and that it is known by that. Assumes nothing.
+-- What a tally holds at a kind, and that it is known by that.
 use mathlib.Core.Path.{_≡_, refl, sym, ap, _∙_}
 use mathlib.Core.Bool.{Bool, true, false, cond}
 use mathlib.Core.List.{List, [], _∷_}
@@ -19,9 +19,9 @@ unfoldable pub more : List ℕ → ℕ → ℕ → List ℕ
 more t k n = set t k (getD t k 0 + n)
 
 -- how many of the tiles of a list are of kind k
-unfoldable pub held : List ℕ → ℕ → ℕ
-held [] k = 0
-held (x ∷ l) k = at x 1 k + held l k
+unfoldable pub ofKind : List ℕ → ℕ → ℕ
+ofKind [] k = 0
+ofKind (x ∷ l) k = at x 1 k + ofKind l k
 
 pub length-tally : (f : ℕ → ℕ) → length (tallyOf f) ≡ 34
 unfolding tallyOf
