@@ -1,4 +1,4 @@
--- `handset::fields_of` meets its contract, case by case. Assumes nothing.
+-- `handset::fields_of` meets its contract, case by case.
 use borrow.Author.Needs.{needs}
 use mathlib.Core.Path.{ap, sym}
 use Rattle.hand_record.specs.Record.{fieldsOf}

@@ -1,4 +1,4 @@
--- `handset::hb_read` meets its contract. Assumes nothing.
+-- `handset::hb_read` meets its contract.
 use borrow.Author.Needs.{needs}
 use Rattle.handset.specs.Interface.{readHandOf}
 use Rattle.handset.proofs.hb_read.Statement.{statement}
