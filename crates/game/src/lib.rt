@@ -13,8 +13,6 @@ ghost use Rattle.ledger.specs.Runs.{Booked};
 ghost use Rattle.ledger.specs.laws.Bounds.{mostChange};
 ghost use Rattle.ledger.specs.laws.Form.{Open};
 ghost use Rattle.game.specs.laws.Won.{Won};
-use hand::Hand;
-use hand_record::Answer;
 use ledger::Game;
 use score::Scored;
 
@@ -203,16 +201,14 @@ pub fn win(g: Game, s: &[u8]) -> Outcome
             game: g,
         };
     }
-    let r = hand_record::read(s);
-    let a = r.answer;
-    let Answer::Sound(f) = a else {
+    let r = hand_record::read_hand(s);
+    if 0 < r.refusal {
         return Outcome {
-            refusal: hand_record::refusal(a),
+            refusal: r.refusal,
             game: g,
         };
-    };
-    let held = r.held;
-    let h = Hand { fields: f, held };
+    }
+    let h = r.hand;
     let v = score::settle(h, g.dealer, g.wind);
     win_scored(g, h.fields.winner, h.fields.riichi, v)
 }

@@ -1,4 +1,4 @@
--- A game and a booking as the machine holds them, for both walks over a lent game. Assumes nothing.
+-- A game and a booking as the machine holds them, for both walks over a lent game.
 use mathlib.Core.Path.{subst}
 use Prim.Native.Nat.{_<_, _^_}
 use mathlib.Core.List.{[], _∷_, List}

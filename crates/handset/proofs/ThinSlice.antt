@@ -1,5 +1,5 @@
 -- A booking function over a lent game, once for all of the same parameters: `fn f(g: &mut Game, s0: &[u8]) -> u8 { let b = k(*g, s0); *g = b.game; b.refusal }`, for any callee k whose contract is a relation P of the game, these, the refusal and the game after.
--- A proof of such a function cites `thin-meets`. Assumes nothing.
+-- A proof of such a function cites `thin-meets`.
 use mathlib.Core.Path.{refl, ap}
 use Prim.Native.Nat.{ℕ, _<_, _^_}
 use mathlib.Core.List.{[], _∷_, List}

@@ -1,2 +1,2 @@
--- Interface  what the calls give where an refusal is an enum, which is not exported
+-- Interface  what the calls give where the proved one answers by an enum or a part, which are not exported
 pub mod Interface

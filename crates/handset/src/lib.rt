@@ -1,17 +1,23 @@
-// The public calls as the handset's firmware links them, with one prefix. They take all input; the bookings are lent the game and update it there.
+// The public calls as the handset's firmware links them, with one prefix. They take all input. The bookings are lent the game and update it there:
+// each gives 0, or its refusal with the game as it was.
 ghost use mathlib.Core.Path.{_≡_};
+ghost use mathlib.Core.List.{[], _++_};
+ghost use Prim.Native.Nat.{_+_, _≤_, _<_};
+ghost use lib.ListN.{length, take, drop};
 ghost use Rattle.hand_record.specs.Record.{readHandOf, writtenOf, bufferOf};
 ghost use Rattle.score.specs.Score.{scoreOf};
 ghost use Rattle.ledger.specs.Booking as Booking;
 ghost use Rattle.ledger.specs.Ledger.{fresh};
 ghost use Rattle.ledger.specs.Runs.{Booked};
 ghost use Rattle.text.specs.Text.{lineOf, lengthIn, bufferWith};
-ghost use Rattle.handset.specs.Interface.{nextEntryBy, nextEntryOf};
+ghost use Rattle.play.specs.Play.{started, textLeft, linesOf};
+ghost use Rattle.handset.specs.Interface.{nextEntryOf};
+use ledger::Game;
 use hand::Hand;
 use hand_record::ReadHand;
 use hand_record::Written;
-use ledger::Game;
-use log::Next;
+use play::Printed;
+use play::Walk;
 use score::Scored;
 
 // What Next entry gives: an entry with its length, header included; the log's end; or refusal 14. Else all zero.
@@ -24,7 +30,7 @@ pub struct NextEntry {
     pub length: usize,
 }
 
-// Read: 0 and the hand, or the refusal and an all-zero hand.
+// Read: the hand of a sound record, or the refusal.
 #[no_mangle]
 pub extern "C" fn hb_read(s: &[u8]) -> ReadHand
     ensures { λ r. ⌜ r ≡ readHandOf (now (s .entry)) ⌝ }
@@ -32,7 +38,7 @@ pub extern "C" fn hb_read(s: &[u8]) -> ReadHand
     hand_record::read_hand(s)
 }
 
-// Write: the hand's record into the buffer, and its length; or the refusal, and no byte stored.
+// Write: a hand's record at the start of a buffer, and its length, or the refusal.
 #[no_mangle]
 pub extern "C" fn hb_write(h: Hand, buf: &mut [u8]) -> Written
     ensures { λ r. ⌜ r ≡ writtenOf h (now (buf .entry)) ⌝ }
@@ -41,6 +47,7 @@ pub extern "C" fn hb_write(h: Hand, buf: &mut [u8]) -> Written
     hand_record::write(h, buf)
 }
 
+// Score: what a record is worth for a dealer and a round wind, or the refusal.
 #[no_mangle]
 pub extern "C" fn hb_score(s: &[u8], dealer: u8, wind: u8) -> Scored
     ensures { λ r. ⌜ r ≡ scoreOf (now (s .entry)) dealer wind ⌝ }
@@ -48,6 +55,7 @@ pub extern "C" fn hb_score(s: &[u8], dealer: u8, wind: u8) -> Scored
     score::score(s, dealer, wind)
 }
 
+// A game before its first booking.
 #[no_mangle]
 pub extern "C" fn hb_fresh() -> Game
     ensures { λ r. ⌜ r ≡ fresh ⌝ }
@@ -55,6 +63,7 @@ pub extern "C" fn hb_fresh() -> Game
     game::fresh_game()
 }
 
+// Riichi of a seat.
 #[no_mangle]
 pub extern "C" fn hb_riichi(g: &mut Game, seat: u8) -> u8
     ensures { λ r. ⌜ Booked (now (g .entry)) (Booking.riichi seat) r (now (g .exit)) ⌝ }
@@ -64,6 +73,7 @@ pub extern "C" fn hb_riichi(g: &mut Game, seat: u8) -> u8
     b.refusal
 }
 
+// A win by a record.
 #[no_mangle]
 pub extern "C" fn hb_win(g: &mut Game, s: &[u8]) -> u8
     ensures { λ r. ⌜ Booked (now (g .entry)) (Booking.win (now (s .entry))) r (now (g .exit)) ⌝ }
@@ -73,6 +83,7 @@ pub extern "C" fn hb_win(g: &mut Game, s: &[u8]) -> u8
     b.refusal
 }
 
+// A draw, by four bits of who is ready, seat 0 first.
 #[no_mangle]
 pub extern "C" fn hb_draw(g: &mut Game, bits: u8) -> u8
     ensures { λ r. ⌜ Booked (now (g .entry)) (Booking.draw bits) r (now (g .exit)) ⌝ }
@@ -82,6 +93,7 @@ pub extern "C" fn hb_draw(g: &mut Game, bits: u8) -> u8
     b.refusal
 }
 
+// Chombo of a seat.
 #[no_mangle]
 pub extern "C" fn hb_chombo(g: &mut Game, seat: u8) -> u8
     ensures { λ r. ⌜ Booked (now (g .entry)) (Booking.chombo seat) r (now (g .exit)) ⌝ }
@@ -91,45 +103,52 @@ pub extern "C" fn hb_chombo(g: &mut Game, seat: u8) -> u8
     b.refusal
 }
 
-fn flat(n: Next) -> NextEntry
-    ensures { λ r. ⌜ r ≡ nextEntryBy n ⌝ }
-{
-    match n {
-        Next::Entry {
-            kind,
-            argument,
-            length,
-        } => NextEntry {
-            refusal: 0,
-            end: false,
-            kind,
-            argument,
-            length,
-        },
-        Next::End => NextEntry {
-            refusal: 0,
-            end: true,
-            kind: 0,
-            argument: 0,
-            length: 0,
-        },
-        Next::Bad => NextEntry {
-            refusal: 14,
-            end: false,
-            kind: 0,
-            argument: 0,
-            length: 0,
-        },
-    }
-}
-
+// Next entry of a log from an offset: its kind, argument and length, header included. Where there is none all is zero but the refusal, 14, or `end`.
 #[no_mangle]
 pub extern "C" fn hb_next(s: &[u8], at: usize) -> NextEntry
     ensures { λ r. ⌜ r ≡ nextEntryOf (now (s .entry)) at ⌝ }
 {
-    flat(log::next_entry(s, at))
+    let part = log::next_entry(s, at);
+    let length = part.len();
+    if length == 0 {
+        let refusal = log::refusal_at(s, at);
+        return NextEntry {
+            refusal,
+            end: refusal == 0,
+            kind: 0,
+            argument: 0,
+            length: 0,
+        };
+    }
+    let header = part[0];
+    NextEntry {
+        refusal: 0,
+        end: false,
+        kind: log::kind(header),
+        argument: log::argument(header),
+        length,
+    }
 }
 
+// A walk over a log before its first entry, with a fresh game.
+#[no_mangle]
+pub extern "C" fn hb_start() -> Walk
+    ensures { λ r. ⌜ r ≡ started ⌝ }
+{
+    play::start()
+}
+
+// Books entries of a log from where a walk stands and writes their lines into a buffer, as many whole lines as fit: how many bytes, and where the walk then stands.
+#[no_mangle]
+pub extern "C" fn hb_lines(w: Walk, s: &[u8], buf: &mut [u8]) -> Printed
+    ensures { λ r. ⌜ r ≡ linesOf (length (now (buf .entry))) w (now (s .entry)) ⌝ }
+    ensures { λ r. ⌜ now (buf .exit) ≡ take (r .written) (textLeft w (now (s .entry))) ++ drop (r .written) (now (buf .entry)) ⌝ }
+    ensures { λ r. ⌜ (83 + r .written ≤ length (now (buf .entry)) → r .walk .entry < 4294967295 → textLeft (r .walk) (now (s .entry)) ≡ []) ⌝ }
+{
+    play::lines(w, s, buf)
+}
+
+// A line of `tally` at the start of a buffer, or nothing where it does not fit: an entry's number, letter and refusal, and the game's scores and sticks.
 #[no_mangle]
 pub extern "C" fn hb_line(buf: &mut [u8], entry: u32, letter: u8, refusal: u8, g: Game) -> usize
     ensures { λ r. ⌜ r ≡ lengthIn (now (buf .entry)) (lineOf entry letter refusal (g .scores) (g .sticks)) ⌝ }

@@ -4,46 +4,52 @@ use mathlib.Core.Bool.{true, false}
 use mathlib.Core.Logic.{_⊎_, _↔_}
 use mathlib.Core.List.{List, _∷_}
 use Prim.Native.Nat.{ℕ, _+_, _≤_, _<_}
+use native.Mathlib.Omega.{arith}
 use lib.ListN.{length, take, drop}
 use Rattle.hand_record.specs.Record.{countIn, wrongLength}
-use Rattle.log.specs.Log.{isBad, nextOf, refusalIn, partOf}
-use Rattle.log.specs.Walk.{entryAt, entriesFrom, stopFrom, laid}
+use Rattle.log.specs.Kinds.{kindIn, argumentIn, isBroken}
+use Rattle.log.specs.Log.{partAt, refusalAt, partsOf, laid, stopOf}
 use Rattle.log.specs.laws.Next as next
 use Rattle.log.specs.laws.Walk as laws
-use Rattle.log.specs.declared.Next.the-variants.{Entry, End, Bad}
 
--- "From an offset at or past the log's end it says "end"", and from no other
-pub end-only-at-end : (log : List ℕ) (at : ℕ) → (nextOf log at ≡ End) ↔ (length log ≤ at)
+-- "From an offset at or past the log's end it says "end", with an empty part", and from no other
+pub end-only-at-end : (log : List ℕ) (at : ℕ) → ((length (partAt log at) ≡ 0) × (refusalAt log at ≡ 0)) ↔ (length log ≤ at)
 end-only-at-end log at = laws.end-exactly log at
 
--- 14 exactly where "Refusal 14" names a reason
-pub bad-only-when-named : (log : List ℕ) (at : ℕ) → (nextOf log at ≡ Bad) ↔ ((at < length log) × (isBad log at ≡ true))
+-- "Refusal 14: kind over 3, win argument not 0, m over 4, or bytes missing": there and nowhere else
+pub bad-only-when-named : (log : List ℕ) (at : ℕ) → let s = drop at log in (refusalAt log at ≡ 14) ↔ ((at < length log) × ((3 < kindIn s) ⊎ ((kindIn s ≡ 1) × ((argumentIn s ≡ 0 → ⊥) ⊎ (isBroken (drop 1 s) ≡ true)))))
 bad-only-when-named log at = laws.bad-exactly log at
 
--- "that very part of the log": an entry's part ends within the log, after its start
-pub step-inside : (log : List ℕ) (at k a n : ℕ) → nextOf log at ≡ Entry k a n → (0 < n) × (at + n ≤ length log)
-step-inside log at k a n e = next.step-inside log at k a n e
+-- "it returns an empty part"
+pub bad-empty : (log : List ℕ) (at : ℕ) → refusalAt log at ≡ 14 → length (partAt log at) ≡ 0
+bad-empty log at h = laws.bad-part log at h
+
+-- "that very part of the log": it lies inside it, and ends after its start where it is not empty
+pub part-inside : (log : List ℕ) (at : ℕ) → 0 < length (partAt log at) → at + length (partAt log at) ≤ length log
+part-inside log at h = omega (arith, h, next.part-inside log at)
 
 -- "kind 4 bits (0 riichi, 1 win, 2 draw, 3 chombo), argument 4"; "kind over 3" is refused
-pub kind-and-argument : (log : List ℕ) (at k a n : ℕ) → nextOf log at ≡ Entry k a n → (k ≤ 3) × (a ≤ 15)
-kind-and-argument log at k a n e = (next.entry-kind log at k a n e, next.entry-argument log at k a n e)
+pub kind-and-argument : (log : List ℕ) (at : ℕ) → 0 < length (partAt log at) → (kindIn (partAt log at) ≤ 3) × (argumentIn (partAt log at) ≤ 15)
+unfolding partAt
+kind-and-argument log at h = (next.part-kind (drop at log) h, omega arith)
 
 -- "A win has argument 0 and its record follows": a stretch of the length that Read wants
-pub win-record : (log : List ℕ) (at a n : ℕ) → nextOf log at ≡ Entry 1 a n → (a ≡ 0) × (wrongLength (length (drop 1 (partOf log at))) (countIn (drop 1 (partOf log at))) ≡ false)
-win-record = next.win-part
+pub win-record : (log : List ℕ) (at : ℕ) → 0 < length (partAt log at) → kindIn (partAt log at) ≡ 1 → (argumentIn (partAt log at) ≡ 0) × (wrongLength (length (drop 1 (partAt log at))) (countIn (drop 1 (partAt log at))) ≡ false)
+unfolding partAt
+win-record log at h w = next.part-win (drop at log) h w
 
--- the walk's entries are those that "Next entry hands back", one after the other
-pub entries-follow : (log : List ℕ) (at k a n : ℕ) → nextOf log at ≡ Entry k a n → entriesFrom log at ≡ entryAt log at k a n ∷ entriesFrom log (at + n)
-entries-follow log at k a n e = laws.entries-turn log at k a n e
+-- the walk's parts are those that "Next entry hands back", one after the other
+pub parts-follow : (log : List ℕ) (at : ℕ) → 0 < length (partAt log at) → partsOf (drop at log) ≡ partAt log at ∷ partsOf (drop (at + length (partAt log at)) log)
+parts-follow log at h = laws.parts-turn log at h
 
 -- "that very part of the log": the parts of the walk laid end to end are the walked prefix of the log
-pub parts-end-to-end : (log : List ℕ) → laid (entriesFrom log 0) ≡ take (stopFrom log 0) log
+pub parts-end-to-end : (log : List ℕ) → laid (partsOf log) ≡ take (stopOf log) log
 parts-end-to-end log = laws.laid-prefix log
 
--- the walk says "end", or "the walk ends" at 14, inside the log, after at most as many entries as the log has bytes
-pub walk-ends : (log : List ℕ) → ((nextOf log (stopFrom log 0) ≡ End) ⊎ (refusalIn (nextOf log (stopFrom log 0)) ≡ 14)) × (stopFrom log 0 ≤ length log) × (length (entriesFrom log 0) ≤ length log)
-walk-ends log = (laws.ends-at log 0, laws.stop-within log, laws.entries-within log)
+-- the walk comes to the log's end, or "the walk ends" at 14, inside the log, after at most as many entries as the log has bytes
+pub walk-ends : (log : List ℕ) → ((length log ≡ stopOf log) ⊎ (refusalAt log (stopOf log) ≡ 14)) × (stopOf log ≤ length log) × (length (partsOf log) ≤ length log)
+walk-ends log = (laws.ends-at log, laws.stop-within log, laws.parts-few log)
 
 -- a log that meets no "Refusal 14" is walked whole
-pub whole-unless-14 : (log : List ℕ) → (refusalIn (nextOf log (stopFrom log 0)) ≡ 14 → ⊥) → laid (entriesFrom log 0) ≡ log
+pub whole-unless-14 : (log : List ℕ) → (refusalAt log (stopOf log) ≡ 14 → ⊥) → laid (partsOf log) ≡ log
 whole-unless-14 log h = laws.laid-all log h

@@ -1,8 +1,8 @@
--- Log     what Next entry gives at an offset
--- Walk    the entries of a log, and where the walk ends
--- Claims  the theorems: end-only-at-end, kind-and-argument, win-record, entries-follow, parts-end-to-end, walk-ends, whole-unless-14
+-- Kinds   the number, letter and length of each kind of entry
+-- Log     what Next entry gives at an offset, and the parts of the walk
+-- Claims  the theorems: end and 14 exactly where the paper says, what a part is, what the walk hands back and where it ends
 -- laws    what they stand on, and examples
+pub mod Kinds
 pub mod Log
-pub mod Walk
 pub mod laws
 pub mod Claims

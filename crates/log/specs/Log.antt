@@ -1,58 +1,44 @@
--- The log (01, Log): its entries, and what Next entry gives at an offset.
-use mathlib.Core.Bool.{Bool, _&&_, _||_, cond, not}
-use mathlib.Core.List.{List, []}
-use Prim.Native.Nat.{ℕ, _+_, _/_, _%_}
-use lib.Dec.{ltb, leb, eqb}
-use lib.ListN.{length, getD, take, drop}
-use Rattle.hand_record.specs.Record.{lengthOf, countIn}
-use Rattle.log.specs.declared.Next.{Next}
-use Rattle.log.specs.declared.Next.the-variants.{Entry, End, Bad}
+-- Next entry (01, Log): what it gives at an offset of a log, and the parts that a walk hands back, one after the other.
+use mathlib.Core.Bool.{cond}
+use mathlib.Core.List.{List, [], _∷_, _++_}
+use Prim.Native.Nat.{ℕ, zero, suc}
+use lib.Dec.{leb, eqb}
+use lib.ListN.{length, take, drop}
+use Rattle.log.specs.Kinds.{entryLength}
 
--- "Header byte: kind 4 bits (0 riichi, 1 win, 2 draw, 3 chombo), argument 4"
-abbrev pub kindAt : List ℕ → ℕ → ℕ
-kindAt log at = getD log at 0 / 16
-
--- "argument 4"
-abbrev pub argumentAt : List ℕ → ℕ → ℕ
-argumentAt log at = getD log at 0 % 16
-
--- "1 win"
-abbrev pub isWin : List ℕ → ℕ → Bool
-isWin log at = eqb (kindAt log at) 1
-
--- of the record that bytes start with, "m over 4, or bytes missing": under the four that hold m, or under m's length
-abbrev pub isBroken : List ℕ → Bool
-isBroken s = ltb (length s) 4 || ltb 4 (countIn s) || ltb (length s) (lengthOf (countIn s))
-
--- the bytes after a header: "its record follows"
-abbrev pub recordsFrom : List ℕ → ℕ → List ℕ
-recordsFrom log at = drop (at + 1) log
-
--- "Refusal 14: kind over 3, win argument not 0, m over 4, or bytes missing"
-unfoldable pub isBad : List ℕ → ℕ → Bool
-isBad log at = ltb 3 (kindAt log at) || (isWin log at && (not (eqb (argumentAt log at) 0) || isBroken (recordsFrom log at)))
-
--- how many bytes an entry has: its header and, of a win, "its record follows"
-unfoldable pub entryLength : List ℕ → ℕ → ℕ
-entryLength log at = cond (isWin log at) (lengthOf (countIn (recordsFrom log at)) + 1) 1
-
--- "From an offset at or past the log's end it says "end""
-unfoldable pub nextOf : List ℕ → ℕ → Next
-nextOf log at =
-    cond (leb (length log) at) End (cond (isBad log at) Bad (Entry (kindAt log at) (argumentAt log at) (entryLength log at)))
-
--- the number of an answer: "Refusal 14", else 0
-abbrev pub refusalIn : Next → ℕ
-refusalIn (Entry kind argument n) = 0
-refusalIn End = 0
-refusalIn Bad = 14
+-- the entry that bytes start with, header included; empty where there is none
+abbrev pub firstPart : List ℕ → List ℕ
+firstPart s = take (entryLength s) s
 
 -- "hands back that very part of the log, from its header on"; "an empty part" at 14 and at the end
-abbrev pub partBy : Next → List ℕ → ℕ → List ℕ
-partBy (Entry kind argument n) log at = take n (drop at log)
-partBy End log at = []
-partBy Bad log at = []
+unfoldable pub partAt : List ℕ → ℕ → List ℕ
+partAt log at = firstPart (drop at log)
 
--- "Next entry hands back": its part at an offset
-unfoldable pub partOf : List ℕ → ℕ → List ℕ
-partOf log at = partBy (nextOf log at) log at
+-- "Refusal 14" where no entry stands; 0 at an entry and, with the empty part, "from an offset at or past the log's end": "end"
+unfoldable pub refusalAt : List ℕ → ℕ → ℕ
+refusalAt log at = cond (leb (length log) at) 0 (cond (eqb (entryLength (drop at log)) 0) 14 0)
+
+-- ---- the walk
+
+-- by the length n of the entry that bytes start with: none where it is 0, else its part and what `more` finds after it
+abbrev pub partsBy : ℕ → List ℕ → (List ℕ → List (List ℕ)) → List (List ℕ)
+partsBy zero s more = []
+partsBy (suc n) s more = take (suc n) s ∷ more (drop (suc n) s)
+
+-- at most `fuel` parts, one after the other, until there is no entry: "the walk ends"
+unfoldable pub partsFew : ℕ → List ℕ → List (List ℕ)
+partsFew zero s = []
+partsFew (suc fuel) s = partsBy (entryLength s) s (λ rest. partsFew fuel rest)
+
+-- all parts of bytes: at most as many as there are bytes (`walk-ends`), so that this fuel is enough (`parts-follow`)
+unfoldable pub partsOf : List ℕ → List (List ℕ)
+partsOf s = partsFew (length s) s
+
+-- parts laid end to end: a tool for the claims
+abbrev pub laid : List (List ℕ) → List ℕ
+laid [] = []
+laid (part ∷ rest) = part ++ laid rest
+
+-- the offset at which the walk over a log ends: after all its parts
+abbrev pub stopOf : List ℕ → ℕ
+stopOf log = length (laid (partsOf log))

@@ -1,104 +1,127 @@
-// Next entry (01, Log): what stands at an offset of a log, and that very part of it. Both public calls take all input.
+// The log (01, Log): the kinds of its entries, and Next entry. The public calls take all input.
 ghost use mathlib.Core.Path.{_≡_};
-ghost use Prim.Native.Nat.{_+_, _≤_};
-ghost use lib.ListN.{length, drop};
+ghost use Prim.Native.Nat.{_/_, _%_, _≤_};
+ghost use lib.ListN.{length};
 ghost use Rattle.hand_record.specs.Record.{countIn};
-ghost use Rattle.log.specs.Log.{nextOf, partOf};
-ghost use Rattle.log.specs.laws.Next.{recordLength};
+ghost use Rattle.log.specs.Kinds.{letterOf, recordLength, entryLength};
+ghost use Rattle.log.specs.Log.{partAt, refusalAt};
 
+// The kinds by their numbers. Each one's letter stands in `letter`, its length in `entry_length`.
+pub const RIICHI: u8 = 0;
+
+pub const WIN: u8 = 1;
+
+pub const DRAW: u8 = 2;
+
+pub const CHOMBO: u8 = 3;
+
+// The bytes of a record with 0 to 4 melds.
 const LENGTHS: [usize; 5] = [13, 12, 11, 10, 8];
 
-// A whole entry with its length, header included; the log's end; or refusal 14.
-pub enum Next {
-    Entry {
-        kind: u8,
-        argument: u8,
-        length: usize,
-    },
-    End,
-    Bad,
+// The kind that a header byte names.
+pub fn kind(header: u8) -> u8
+    ensures { λ r. ⌜ r ≡ header / 16 ⌝ }
+{
+    header / 16
 }
 
-// The meld count of the record that starts at an offset: its 3 bits from bit 22.
-fn meld_count(s: &[u8], at: usize) -> u8
-    requires { ⌜ at + 4 ≤ length (now s) ⌝ }
-    ensures { λ r. ⌜ r ≡ countIn (drop at (now (s .entry))) ⌝ }
+// A header byte's argument: a seat, or who is ready.
+pub fn argument(header: u8) -> u8
+    ensures { λ r. ⌜ r ≡ header % 16 ⌝ }
 {
-    s[at + 2] % 4 * 2 + s[at + 3] / 128
+    header % 16
 }
 
-// The length of the record that starts at an offset, 0 where m is over 4 or bytes are missing.
-fn record_length(s: &[u8], at: usize) -> usize
-    requires { ⌜ at ≤ length (now s) ⌝ }
-    ensures { λ r. ⌜ r ≡ recordLength (drop at (now (s .entry))) ⌝ }
+// The letter that `tally` prints for a kind.
+pub fn letter(kind: u8) -> u8
+    ensures { λ r. ⌜ r ≡ letterOf kind ⌝ }
 {
-    let left = s.len() - at;
-    if left < 4 {
+    if kind == RIICHI {
+        return b'R';
+    }
+    if kind == WIN {
+        return b'W';
+    }
+    if kind == DRAW {
+        return b'D';
+    }
+    b'C'
+}
+
+// The meld count of the record that bytes start with: its 3 bits from bit 22.
+fn meld_count(s: &[u8]) -> u8
+    requires { ⌜ 4 ≤ length (now s) ⌝ }
+    ensures { λ r. ⌜ r ≡ countIn (now (s .entry)) ⌝ }
+{
+    s[2] % 4 * 2 + s[3] / 128
+}
+
+// How many bytes the record has that bytes start with, 0 where m is over 4 or bytes are missing.
+fn record_length(s: &[u8]) -> usize
+    ensures { λ r. ⌜ r ≡ recordLength (now (s .entry)) ⌝ }
+{
+    if s.len() < 4 {
         return 0;
     }
-    let m = meld_count(s, at) as usize;
+    let m = meld_count(s) as usize;
     if 4 < m {
         return 0;
     }
     let n = LENGTHS[m];
-    if left < n {
+    if s.len() < n {
         return 0;
     }
     n
 }
 
-// Next entry.
-pub fn next_entry(log: &[u8], at: usize) -> Next
-    ensures { λ r. ⌜ r ≡ nextOf (now (log .entry)) at ⌝ }
+// How many bytes the entry has that bytes start with, 0 where there is none.
+fn entry_length(s: &[u8]) -> usize
+    ensures { λ r. ⌜ r ≡ entryLength (now (s .entry)) ⌝ }
 {
-    if log.len() <= at {
-        return Next::End;
+    if s.len() == 0 {
+        return 0;
     }
-    let header = log[at];
-    let kind = header / 16;
-    let argument = header % 16;
-    if 3 < kind {
-        return Next::Bad;
+    let header = s[0];
+    let k = kind(header);
+    if k == WIN {
+        if argument(header) != 0 {
+            return 0;
+        }
+        let n = record_length(&s[1..]);
+        if n == 0 {
+            return 0;
+        }
+        return n + 1;
     }
-    if kind != 1 {
-        return Next::Entry {
-            kind,
-            argument,
-            length: 1,
-        };
+    if CHOMBO < k {
+        return 0;
     }
-    if argument != 0 {
-        return Next::Bad;
-    }
-    let n = record_length(log, at + 1);
-    if n == 0 {
-        return Next::Bad;
-    }
-    Next::Entry {
-        kind,
-        argument,
-        length: n + 1,
-    }
+    1
 }
 
-// That very part of the log, from its header on; empty where there is no entry.
-pub fn part(log: &[u8], at: usize) -> &[u8]
-    ensures { λ r. ⌜ now r ≡ partOf (now (log .entry)) at ⌝ }
+// Next entry: the part of the log that the entry at an offset takes, its header first. The part is empty where there is no entry;
+// `refusal_at` then tells 14 from the log's end.
+pub fn next_entry(log: &[u8], at: usize) -> &[u8]
+    ensures { λ r. ⌜ now r ≡ partAt (now (log .entry)) at ⌝ }
 {
-    match next_entry(log, at) {
-        Next::Entry {
-            kind: _,
-            argument: _,
-            length,
-        } => {
-            let end = at + length;
-            return &log[at..end];
-        }
-        Next::End => {
-            return &log[..0];
-        }
-        Next::Bad => {
-            return &log[..0];
-        }
+    if log.len() <= at {
+        return &log[..0];
     }
+    let n = entry_length(&log[at..]);
+    let end = at + n;
+    &log[at..end]
+}
+
+// 14 where bytes are left at an offset and they start with no entry; 0 at an entry and at the log's end.
+pub fn refusal_at(log: &[u8], at: usize) -> u8
+    ensures { λ r. ⌜ r ≡ refusalAt (now (log .entry)) at ⌝ }
+{
+    if at >= log.len() {
+        return 0;
+    }
+    let n = entry_length(&log[at..]);
+    if n == 0 {
+        return 14;
+    }
+    0
 }

@@ -1,5 +1,5 @@
--- Play    the bookings of a log, an entry booked, and the text that tally prints
--- Claims  demand 3 for every log; the text of a log line by line; the example of document 01
+-- Play    the bookings of a log, an entry booked, the text that tally prints, and as many lines of it as fit in a buffer
+-- Claims  demand 3 for every log; the text of a log a buffer at a time; the example of document 01
 -- laws    what they stand on
 pub mod Play
 pub mod laws

@@ -1,78 +1,87 @@
 -- A log booked into a game (01, Log): its bookings, one entry booked, and the text that program `tally` prints.
-use mathlib.Core.Bool.{_||_, cond}
+use mathlib.Core.Bool.{true, false, _||_, cond}
 use mathlib.Core.List.{List, [], _∷_, _++_, map}
 use Prim.Native.Nat.{ℕ, _+_}
-use lib.Dec.{eqb}
-use lib.ListN.{take, drop}
+use lib.Dec.{ltb, eqb}
+use lib.ListN.{length, take, drop}
 use Rattle.ledger.specs.declared.Game.{Game}
 use Rattle.ledger.specs.Booking.{Booking, riichi, win, draw, chombo}
 use Rattle.ledger.specs.Ledger.{fresh, refusalFor, after}
-use Rattle.log.specs.Log.{nextOf}
-use Rattle.log.specs.Walk.{LogEntry, entryAt, entriesFrom}
-use Rattle.log.specs.declared.Next.{Next}
-use Rattle.log.specs.declared.Next.the-variants.{Entry, End, Bad}
+use Rattle.log.specs.Kinds.{riichiKind, winKind, drawKind, letterOf, kindIn, argumentIn}
+use Rattle.log.specs.Log.{partAt, refusalAt, partsOf}
 use Rattle.text.specs.Text.{lineOf}
+use Rattle.play.specs.declared.BookedEntry.{BookedEntry}
 use Rattle.play.specs.declared.Step.{Step}
-use Rattle.play.specs.declared.Turn.{Turn}
+use Rattle.play.specs.declared.Walk.{Walk}
+use Rattle.play.specs.declared.Printed.{Printed}
 
 -- "kind (0 riichi, 1 win, 2 draw, 3 chombo)"; Next entry gives no other
 abbrev pub bookingBy : ℕ → ℕ → List ℕ → Booking
 bookingBy kind argument s =
-    cond (eqb kind 0) (riichi argument) (cond (eqb kind 1) (win s) (cond (eqb kind 2) (draw argument) (chombo argument)))
+    cond (eqb kind riichiKind) (riichi argument) (cond (eqb kind winKind) (win s) (cond (eqb kind drawKind) (draw argument) (chombo argument)))
 
 -- of a win "its record follows" the header, and "is passed on as that stretch"
-unfoldable pub bookingOf : LogEntry → Booking
-bookingOf entry = bookingBy (entry .kind) (entry .argument) (drop 1 (entry .bytes))
+unfoldable pub bookingOf : List ℕ → Booking
+bookingOf part = bookingBy (kindIn part) (argumentIn part) (drop 1 part)
 
--- the bookings of a log from an offset on
-unfoldable pub bookingsFrom : List ℕ → ℕ → List Booking
-bookingsFrom log at = map bookingOf (entriesFrom log at)
+-- the bookings of a log
+unfoldable pub bookingsOf : List ℕ → List Booking
+bookingsOf log = map bookingOf (partsOf log)
 
--- an entry booked: its refusal, kind and length and the game after it; no length and the game as it was at "end", and with 14
-abbrev pub stepBy : Next → Game → List ℕ → ℕ → Step
-stepBy (Entry kind argument n) g log at =
-    let b = bookingOf (entryAt log at kind argument n) in
-    record { refusal = refusalFor g b; kind = kind; length = n; game = after g b }
-stepBy End g log at = record { refusal = 0; kind = 0; length = 0; game = g }
-stepBy Bad g log at = record { refusal = 14; kind = 0; length = 0; game = g }
+-- ---- an entry booked
+
+-- no entry: "end", or 14
+abbrev pub noEntry : ℕ → BookedEntry
+noEntry refusal = record { refusal = refusal; end = eqb refusal 0; letter = 0; length = 0 }
+
+-- the part that Next entry hands back, booked; the game as it was where that part is empty
+abbrev pub stepBy : List ℕ → ℕ → Game → Step
+stepBy [] refusal g = record { entry = noEntry refusal; game = g }
+stepBy (header ∷ rest) refusal g =
+    let part = header ∷ rest in
+    let b = bookingOf part in
+    record { entry = record { refusal = refusalFor g b; end = false; letter = letterOf (kindIn part); length = length part }; game = after g b }
 
 -- what Next entry gives at an offset, booked
 unfoldable pub stepOf : Game → List ℕ → ℕ → Step
-stepOf g log at = stepBy (nextOf log at) g log at
+stepOf g log at = stepBy (partAt log at) (refusalAt log at) g
 
--- "letter R W D C"
-abbrev pub letterOf : ℕ → ℕ
-letterOf kind = cond (eqb kind 0) 82 (cond (eqb kind 1) 87 (cond (eqb kind 2) 68 67))
+-- ---- the text
 
--- the line of entry k, of a kind, with its refusal and the game after it
+-- "entry from 1, letter R W D C, refusal (0 accepted), scores of seats 0 to 3, sticks": the line of entry k, of the game after it
 unfoldable pub entryLine : ℕ → ℕ → ℕ → Game → List ℕ
-entryLine k kind refusal g = lineOf k (letterOf kind) refusal (g .scores) (g .sticks)
+entryLine k letter refusal g = lineOf k letter refusal (g .scores) (g .sticks)
 
--- "books every entry, refused or not, printing" a line for each: the text from entry k on
-unfoldable pub textFrom : ℕ → Game → List LogEntry → List ℕ
+-- "books every entry, refused or not, printing" a line for each: the text of parts from entry k on
+unfoldable pub textFrom : ℕ → Game → List (List ℕ) → List ℕ
 textFrom k g [] = []
-textFrom k g (entry ∷ rest) =
-    let b = bookingOf entry in
-    entryLine k (entry .kind) (refusalFor g b) (after g b) ++ textFrom (k + 1) (after g b) rest
+textFrom k g (part ∷ rest) =
+    let b = bookingOf part in
+    entryLine k (letterOf (kindIn part)) (refusalFor g b) (after g b) ++ textFrom (k + 1) (after g b) rest
 
 -- what `tally` prints of a log: "entry from 1"; "Bytes past 65,536 aren't read. At 14 it stops, with no line for it."
 unfoldable pub tallyText : List ℕ → List ℕ
-tallyText log = textFrom 1 fresh (entriesFrom (take 65536 log) 0)
+tallyText log = textFrom 1 fresh (partsOf (take 65536 log))
 
--- ---- line by line
+-- ---- as many whole lines as fit in a buffer
 
--- the text from where a walk stands
-abbrev pub textLeft : Turn → List ℕ → List ℕ
-textLeft t log = textFrom (t .entry) (t .game) (entriesFrom log (t .at))
+-- a walk before the first entry
+abbrev pub started : Walk
+started = record { game = fresh; at = 0; entry = 1 }
 
--- the line of the entry there, booked: none where there is no entry, or no number for it in 32 bits
-unfoldable pub nextLine : Turn → List ℕ → List ℕ
-nextLine t log =
-    let s = stepOf (t .game) log (t .at) in
-    cond (eqb (s .length) 0 || eqb (t .entry) 4294967295) [] (entryLine (t .entry) (s .kind) (s .refusal) (s .game))
+-- the text that is left from where a walk stands
+abbrev pub textLeft : Walk → List ℕ → List ℕ
+textLeft w log = textFrom (w .entry) (w .game) (partsOf (drop (w .at) log))
 
--- where the walk then stands, n bytes being written: as before where none are
-unfoldable pub turnBy : ℕ → Turn → List ℕ → Turn
-turnBy n t log =
-    let s = stepOf (t .game) log (t .at) in
-    cond (eqb n 0) (record { game = t .game; at = t .at; entry = t .entry; written = 0 }) (record { game = s .game; at = t .at + s .length; entry = t .entry + 1; written = n })
+-- the lines of parts, one after the other while they fit in `room` bytes, of which `written` are taken, and while the next number fits in 32 bits
+unfoldable pub filled : ℕ → ℕ → Walk → List (List ℕ) → Printed
+filled room written w [] = record { written = written; walk = w }
+filled room written w (part ∷ rest) =
+    let b = bookingOf part in
+    let h = after (w .game) b in
+    let n = written + length (entryLine (w .entry) (letterOf (kindIn part)) (refusalFor (w .game) b) h) in
+    cond (ltb room n || eqb (w .entry) 4294967295) (record { written = written; walk = w }) (filled room n (record { game = h; at = w .at + length part; entry = w .entry + 1 }) rest)
+
+-- as many whole lines of a log as fit in `room` bytes, from where a walk stands: how many bytes they are, and where it then stands
+unfoldable pub linesOf : ℕ → Walk → List ℕ → Printed
+linesOf room w log = filled room 0 w (partsOf (drop (w .at) log))

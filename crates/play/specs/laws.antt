@@ -1,2 +1,3 @@
 pub mod Turn
-pub mod Line
+pub mod Fill
+pub mod Through

@@ -1,21 +1,27 @@
-// A log booked into a game (01, Log). The public calls take all input.
+// A log booked into a game, and its text (01, Log). The public calls take all input.
 ghost use mathlib.Core.Path.{_≡_};
-ghost use Prim.Native.Nat.{_≤_};
-ghost use lib.ListN.{length};
-ghost use Rattle.ledger.specs.Ledger.{fresh, ledgerFrom};
+ghost use mathlib.Core.List.{[], _++_};
+ghost use Prim.Native.Nat.{_+_, _≤_, _<_};
+ghost use lib.ListN.{length, take, drop};
 ghost use Rattle.ledger.specs.Runs.{Booked};
 ghost use Rattle.text.specs.Text.{lengthIn, bufferWith};
-ghost use Rattle.play.specs.Play.{bookingBy, bookingsFrom, stepOf, letterOf, entryLine, nextLine, turnBy};
-use game::Outcome;
+ghost use Rattle.play.specs.Play.{bookingBy, noEntry, stepOf, entryLine, started, textLeft, linesOf};
 use ledger::Game;
-use log::Next;
+use game::Outcome;
 
-// An entry booked: its refusal, its kind, its length with the header, the game after it. Where there is no entry the length is 0,
-// the refusal 0 at the log's end and 14 otherwise, and the game is as it was.
-pub struct Step {
+// An entry booked: its refusal, its letter and its length, header included. Where there is no entry the letter and the length are 0,
+// and either `end` is set or the refusal is 14.
+#[repr(C)]
+pub struct BookedEntry {
     pub refusal: u8,
-    pub kind: u8,
+    pub end: bool,
+    pub letter: u8,
     pub length: usize,
+}
+
+// An entry booked, and the game after it.
+pub struct Step {
+    pub entry: BookedEntry,
     pub game: Game,
 }
 
@@ -23,161 +29,141 @@ pub struct Step {
 fn book(g: Game, kind: u8, argument: u8, s: &[u8]) -> Outcome
     ensures { λ r. ⌜ Booked g (bookingBy kind argument (now (s .entry))) (r .refusal) (r .game) ⌝ }
 {
-    if kind == 0 {
+    if kind == log::RIICHI {
         return game::riichi(g, argument);
     }
-    if kind == 1 {
+    if kind == log::WIN {
         return game::win(g, s);
     }
-    if kind == 2 {
+    if kind == log::DRAW {
         return game::draw(g, argument);
     }
     game::chombo(g, argument)
 }
 
+// No entry: the game stays, and a refusal of 0 means the log's end.
 fn no_entry(g: Game, refusal: u8) -> Step
-    ensures { λ r. ⌜ r ≡ record { refusal = refusal; kind = 0; length = 0; game = g } ⌝ }
+    ensures { λ r. ⌜ r ≡ record { entry = noEntry refusal; game = g } ⌝ }
 {
-    Step {
+    let entry = BookedEntry {
         refusal,
-        kind: 0,
+        end: refusal == 0,
+        letter: 0,
         length: 0,
-        game: g,
-    }
+    };
+    Step { entry, game: g }
 }
 
-// Books the entry at an offset.
+// Books the entry at an offset of a log.
 pub fn book_at(g: Game, s: &[u8], at: usize) -> Step
     ensures { λ r. ⌜ r ≡ stepOf g (now (s .entry)) at ⌝ }
 {
-    match log::next_entry(s, at) {
-        Next::Entry {
-            kind,
-            argument,
-            length,
-        } => {
-            let from = at + 1;
-            let end = at + length;
-            let b = book(g, kind, argument, &s[from..end]);
-            let after = b.game;
-            return Step {
-                refusal: b.refusal,
-                kind,
-                length,
-                game: after,
-            };
-        }
-        Next::End => {
-            return no_entry(g, 0);
-        }
-        Next::Bad => {
-            return no_entry(g, 14);
-        }
+    let part = log::next_entry(s, at);
+    let end = part.len();
+    if end == 0 {
+        return no_entry(g, log::refusal_at(s, at));
     }
+    let header = part[0];
+    let kind = log::kind(header);
+    let b = book(g, kind, log::argument(header), &part[1..end]);
+    let entry = BookedEntry {
+        refusal: b.refusal,
+        end: false,
+        letter: log::letter(kind),
+        length: end,
+    };
+    let after = b.game;
+    Step { entry, game: after }
 }
 
-// Books every entry of a log, until its end or 14.
-pub fn play(g: Game, s: &[u8]) -> Game
-    ensures { λ r. ⌜ r ≡ ledgerFrom g (bookingsFrom (now (s .entry)) 0) ⌝ }
+// Books the entry that bytes start with: those of a log from an offset on.
+pub fn book_first(g: Game, s: &[u8]) -> Step
+    ensures { λ r. ⌜ r ≡ stepOf g (now (s .entry)) 0 ⌝ }
 {
-    let mut h = g;
-    let mut at = 0usize;
-    while at < s.len() {
-        let t = book_at(h, s, at);
-        if t.length == 0 {
-            return h;
-        }
-        at += t.length;
-        h = t.game;
-    }
-    h
-}
-
-fn letter(k: u8) -> u8
-    ensures { λ r. ⌜ r ≡ letterOf k ⌝ }
-{
-    if k == 0 {
-        return b'R';
-    }
-    if k == 1 {
-        return b'W';
-    }
-    if k == 2 {
-        return b'D';
-    }
-    b'C'
+    book_at(g, s, 0)
 }
 
 // The line of entry k, booked, at the start of a buffer, or nothing where the buffer is too short.
 fn entry_line(buf: &mut [u8], k: u32, t: Step) -> usize
-    ensures { λ r. ⌜ r ≡ lengthIn (now (buf .entry)) (entryLine k (t .kind) (t .refusal) (t .game)) ⌝ }
-    ensures { λ _. ⌜ now (buf .exit) ≡ bufferWith (now (buf .entry)) (entryLine k (t .kind) (t .refusal) (t .game)) ⌝ }
-    ensures { λ _. ⌜ length (entryLine k (t .kind) (t .refusal) (t .game)) ≤ 83 ⌝ }
+    ensures { λ r. ⌜ r ≡ lengthIn (now (buf .entry)) (entryLine k (t .entry .letter) (t .entry .refusal) (t .game)) ⌝ }
+    ensures { λ _. ⌜ now (buf .exit) ≡ bufferWith (now (buf .entry)) (entryLine k (t .entry .letter) (t .entry .refusal) (t .game)) ⌝ }
+    ensures { λ _. ⌜ length (entryLine k (t .entry .letter) (t .entry .refusal) (t .game)) ≤ 83 ⌝ }
 {
     let s = t.game.scores;
-    text::line(buf, k, letter(t.kind), t.refusal, s, t.game.sticks)
+    text::line(buf, k, t.entry.letter, t.entry.refusal, s, t.game.sticks)
 }
 
-// Where a walk that prints stands: the game, the offset and the number of the next entry, and how many bytes were written last.
-pub struct Turn {
+// Where a walk over a log stands: the game so far, and the offset and the number of the next entry.
+#[repr(C)]
+pub struct Walk {
     pub game: Game,
     pub at: usize,
     pub entry: u32,
-    pub written: usize,
 }
 
-// Before the first entry.
-pub fn start() -> Turn
-    ensures { λ r. ⌜ r ≡ record { game = fresh; at = 0; entry = 1; written = 0 } ⌝ }
+// A walk before the first entry, over a fresh game.
+pub fn start() -> Walk
+    ensures { λ r. ⌜ r ≡ started ⌝ }
 {
-    let g = game::fresh_game();
-    Turn {
-        game: g,
+    let game = game::fresh_game();
+    Walk {
+        game,
         at: 0,
         entry: 1,
-        written: 0,
     }
 }
 
-// Where it stands, nothing being written.
-fn stay(t: Turn) -> Turn
-    ensures { λ r. ⌜ r ≡ record { game = t .game; at = t .at; entry = t .entry; written = 0 } ⌝ }
-{
-    let g = t.game;
-    Turn {
-        game: g,
-        at: t.at,
-        entry: t.entry,
-        written: 0,
-    }
+// How many bytes were written, and where the walk then stands.
+#[repr(C)]
+pub struct Printed {
+    pub written: usize,
+    pub walk: Walk,
 }
 
-// Books the next entry of a log and writes its line at the start of a buffer; nothing where there is no entry or no room.
-pub fn next_line(t: Turn, s: &[u8], buf: &mut [u8]) -> Turn
-    ensures { λ r. ⌜ r ≡ turnBy (lengthIn (now (buf .entry)) (nextLine t (now (s .entry)))) t (now (s .entry)) ⌝ }
-    ensures { λ _. ⌜ now (buf .exit) ≡ bufferWith (now (buf .entry)) (nextLine t (now (s .entry))) ⌝ }
-    ensures { λ _. ⌜ length (nextLine t (now (s .entry))) ≤ 83 ⌝ }
+// Books entries of a log, from where a walk stands, and writes their lines into a buffer, one after the other: as many whole lines as fit.
+// Bytes past the last line stay. A buffer of 83 bytes has room for every line, so that nothing is written only where no text is left.
+pub fn lines(w: Walk, s: &[u8], buf: &mut [u8]) -> Printed
+    ensures { λ r. ⌜ r ≡ linesOf (length (now (buf .entry))) w (now (s .entry)) ⌝ }
+    ensures { λ r. ⌜ now (buf .exit) ≡ take (r .written) (textLeft w (now (s .entry))) ++ drop (r .written) (now (buf .entry)) ⌝ }
+    ensures { λ r. ⌜ (83 + r .written ≤ length (now (buf .entry)) → r .walk .entry < 4294967295 → textLeft (r .walk) (now (s .entry)) ≡ []) ⌝ }
 {
-    let g = t.game;
-    let at = t.at;
-    let entry = t.entry;
-    let b = book_at(g, s, at);
-    let length = b.length;
-    if length == 0 {
-        return stay(t);
+    let mut v = w;
+    let mut n = 0usize;
+    while v.at < s.len() {
+        let g = v.game;
+        let at = v.at;
+        let k = v.entry;
+        let b = book_at(g, s, at);
+        let length = b.entry.length;
+        if length == 0 {
+            return Printed {
+                written: n,
+                walk: v,
+            };
+        }
+        if k == 4294967295 {
+            return Printed {
+                written: n,
+                walk: v,
+            };
+        }
+        let m = entry_line(&mut buf[n..], k, b);
+        if m == 0 {
+            return Printed {
+                written: n,
+                walk: v,
+            };
+        }
+        n += m;
+        let after = b.game;
+        v = Walk {
+            game: after,
+            at: at + length,
+            entry: k + 1,
+        };
     }
-    if entry == 4294967295 {
-        return stay(t);
-    }
-    let n = entry_line(buf, entry, b);
-    if n == 0 {
-        return stay(t);
-    }
-    let after = b.game;
-    Turn {
-        game: after,
-        at: at + length,
-        entry: entry + 1,
+    Printed {
         written: n,
+        walk: v,
     }
 }

@@ -1,41 +1,41 @@
--- What holds before every line that is printed: what is printed and what is left make up the text. Assumes nothing.
+-- What holds before every buffer that is printed: what is printed and what is left make up the text.
 use mathlib.Core.Path.{_≡_, ap}
-use mathlib.Core.List.{List}
+use mathlib.Core.List.{List, []}
 use Prim.Native.Nat.{ℕ, _+_, _*_, _≤_, _<_}
 use native.Mathlib.Omega.{arith}
 use lib.ListN.{length}
-use lib.Seq.{take-all}
-use Rattle.ledger.specs.Ledger.{fresh}
-use Rattle.text.specs.Text.{lengthIn}
-use Rattle.play.specs.declared.Turn.{Turn}
-use Rattle.play.specs.Play.{tallyText, textLeft, nextLine, turnBy}
-use Rattle.play.specs.laws.Line.{line-turned, written-short, line-ended, past-text}
+use Rattle.play.specs.declared.Walk.{Walk}
+use Rattle.play.specs.declared.Printed.{Printed}
+use Rattle.play.specs.Play.{started, tallyText, textLeft, linesOf}
+use Rattle.play.specs.laws.Through.{moved, lengths, text-whole}
 
-abbrev pub Kept : List ℕ → List ℕ → Turn → ℕ → Type 0
-Kept s line t printed =
-    (length line ≡ 83) × (t .at ≤ length s) × (t .entry ≤ t .at + 1) × (printed ≤ 83 * t .at) × (printed + length (textLeft t s) ≡ length (tallyText s))
+abbrev pub Kept : List ℕ → List ℕ → Walk → ℕ → Type 0
+Kept s page w printed =
+    (length page ≡ 65536) × (w .at ≤ length s) × (w .entry ≤ w .at + 1) × (printed ≤ 65536 * w .at) × (printed + length (textLeft w s) ≡ length (tallyText s))
 
 module _ (s : List ℕ) (h : length s ≤ 65536) where
-  -- a log of at most 65,536 bytes is read whole
-  whole : textLeft (record { game = fresh; at = 0; entry = 1; written = 0 }) s ≡ tallyText s
-  unfolding tallyText
-  whole = rw (take-all 65536 s h)
+  pub starts : (page : List ℕ) (w : Walk) → length page ≡ 65536 → w ≡ started → Kept s page w 0
+  starts page w l e = rw e (l, omega arith, omega arith, omega arith, omega (arith, ap length (text-whole s h)))
 
-  pub starts : (line : List ℕ) (t : Turn) → length line ≡ 83 → t ≡ record { game = fresh; at = 0; entry = 1; written = 0 } → Kept s line t 0
-  starts line t l e = rw e (l, omega arith, omega arith, omega arith, omega (arith, ap length whole))
+  -- r is what `lines` gives
+  module _ (page : List ℕ) (w : Walk) (printed : ℕ) (k : Kept s page w printed) (r : Printed) (e : r ≡ linesOf (length page) w s) where
+    left : r .written + length (textLeft (r .walk) s) ≡ length (textLeft w s)
+    left = rw e (lengths (length page) w s)
 
-  module _ (line : List ℕ) (t : Turn) (printed : ℕ) (k : Kept s line t printed) where
-    pub past : length s ≤ t .at → printed ≡ length (tallyText s)
-    past g = omega (arith, k, ap length (past-text t s g))
+    inside : r .walk .at ≤ length s
+    inside = rw e (moved (length page) w s .inside (k .1))
 
-    module _ (u : Turn) (e : u ≡ turnBy (lengthIn line (nextLine t s)) t s) (short : length (nextLine t s) ≤ 83) where
-      pub ends : u .written ≡ 0 → printed ≡ length (tallyText s)
-      ends z = omega (arith, k, ap length (line-ended t s line u e z short (omega (arith, k)) (omega (arith, k, h))))
+    count : r .walk .entry ≤ r .walk .at + 1
+    count = rw e (omega (arith, moved (length page) w s .count, k .2))
 
-      pub fits : u .written ≤ 83
-      fits = written-short t s line u e short
+    pub fits : r .written ≤ 65536
+    fits = let f : r .written ≤ length page = rw e (moved (length page) w s .fits (omega arith)) in omega (arith, f, k .0)
 
-      pub turns : (out : List ℕ) → length out ≡ 83 → (u .written ≡ 0 → ⊥) → Kept s out u (printed + u .written) × (t .at < u .at)
-      turns out l w =
-          let y = line-turned t s line u e w in
-          ((l, y .inside, omega (arith, k, y .entry, y .after), omega (arith, k, fits, y .after), omega (arith, k, y .text)), y .after)
+    ahead : (r .written ≡ 0 → ⊥) → w .at < r .walk .at
+    ahead = rw e (λ z. moved (length page) w s .ahead (omega (arith, z, moved (length page) w s .size)))
+
+    pub ends : r .written ≡ 0 → (83 + r .written ≤ length page → r .walk .entry < 4294967295 → textLeft (r .walk) s ≡ []) → printed ≡ length (tallyText s)
+    ends z none = omega (arith, k .4, left, z, ap length (none (omega (arith, z, k .0)) (omega (arith, count, inside, h))))
+
+    pub turns : (out : List ℕ) → length out ≡ 65536 → (r .written ≡ 0 → ⊥) → Kept s out (r .walk) (printed + r .written) × (length (textLeft (r .walk) s) < length (textLeft w s))
+    turns out l z = ((l, inside, count, omega (arith, k .3, fits, ahead z), omega (arith, k .4, left)), omega (arith, left, z))

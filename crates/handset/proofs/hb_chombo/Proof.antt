@@ -1,4 +1,4 @@
--- `handset::hb_chombo` meets its contract: it is `proofs/ThinNumber.antt`'s function over `game::chombo`. Assumes nothing.
+-- `handset::hb_chombo` meets its contract: it is `proofs/ThinNumber.antt`'s function over `game::chombo`.
 use Prim.Native.Nat.{ℕ}
 use contract.Running.{givenOf, tables, tablesOf}
 use denote.Triple.Spec.{tripleOf}

@@ -1,4 +1,4 @@
--- `handset::hb_draw` meets its contract: it is `proofs/ThinNumber.antt`'s function over `game::draw`. Assumes nothing.
+-- `handset::hb_draw` meets its contract: it is `proofs/ThinNumber.antt`'s function over `game::draw`.
 use Prim.Native.Nat.{ℕ}
 use contract.Running.{givenOf, tables, tablesOf}
 use denote.Triple.Spec.{tripleOf}

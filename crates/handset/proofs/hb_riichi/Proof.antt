@@ -1,4 +1,4 @@
--- `handset::hb_riichi` meets its contract: it is `proofs/ThinNumber.antt`'s function over `game::riichi`. Assumes nothing.
+-- `handset::hb_riichi` meets its contract: it is `proofs/ThinNumber.antt`'s function over `game::riichi`.
 use Prim.Native.Nat.{ℕ}
 use contract.Running.{givenOf, tables, tablesOf}
 use denote.Triple.Spec.{tripleOf}

@@ -1,4 +1,4 @@
--- `handset::hb_win` meets its contract: it is `proofs/ThinSlice.antt`'s function over `game::win`. Assumes nothing.
+-- `handset::hb_win` meets its contract: it is `proofs/ThinSlice.antt`'s function over `game::win`.
 use Prim.Native.Nat.{ℕ}
 use mathlib.Core.List.{List}
 use contract.Running.{givenOf, tables, tablesOf}

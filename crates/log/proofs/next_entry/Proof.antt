@@ -1,61 +1,34 @@
--- `log::next_entry` meets its contract, return by return. Assumes nothing.
-use mathlib.Core.Path.{sym, ap, _∙_}
-use Prim.Native.Nat.{ℕ, _+_}
+-- `log::next_entry` meets its contract: an entry lies inside the log.
+use mathlib.Core.Path.{_≡_, sym, ap, _∙_}
+use mathlib.Core.List.{List}
+use Prim.Native.Nat.{ℕ}
 use native.Mathlib.Omega.{arith}
+use lib.ListN.{drop, length-drop}
 use borrow.Author.Needs.{needs}
-use Rattle.log.specs.Log.{kindAt, argumentAt, recordsFrom}
-use Rattle.log.specs.declared.Next.the-variants.{Entry}
-use Rattle.log.specs.laws.Next.{next-end, next-bad, next-entry, bad-kind, bad-argument, bad-record, plain-entry, win-entry, broken-zero, unbroken-more, record-13}
+use Rattle.log.specs.Kinds.{entryLength}
+use Rattle.log.specs.laws.Next.{from-on, length-inside, part-past, part-is}
 use Rattle.log.proofs.next_entry.Statement.{statement}
 use Rattle.log.proofs.next_entry.Tie as tie
 
-returns : tie.Need-returns
-returns c = sym (next-end (c .before .before .args .log .now) (c .before .before .args .at) (c .if1 .taken))
+-- the bytes from the offset on, and how long their entry is
+abbrev left : tie.After-entry-length → List ℕ
+left k = drop (k .before .before .before .before .args .at) (k .before .before .before .before .args .log .now)
 
-returns-2 : tie.Need-returns-2
-returns-2 c =
-    let l = c .before .before .before .before .args .log .now in
-    let at = c .before .before .before .before .args .at in
-    sym (next-bad l at (c .before .before .if1 .left) (bad-kind l at (c .if2 .taken)))
-
-returns-3 : tie.Need-returns-3
-returns-3 c =
-    let l = c .before .before .before .before .before .args .log .now in
-    let at = c .before .before .before .before .before .args .at in
-    let p = plain-entry l at (c .before .if2 .left) (c .if3 .taken) in
-    sym (next-entry l at (c .before .before .before .if1 .left) (p .0) ∙ ap (Entry (kindAt l at) (argumentAt l at)) (p .1))
-
-returns-4 : tie.Need-returns-4
-returns-4 c =
-    let l = c .before .before .before .before .before .before .args .log .now in
-    let at = c .before .before .before .before .before .before .args .at in
-    sym (next-bad l at (c .before .before .before .before .if1 .left) (bad-argument l at (c .before .if3 .left) (c .if4 .taken)))
-
-returns-5 : tie.Need-returns-5
-returns-5 c =
-    let l = c .before .before .before .before .before .before .before .before .args .log .now in
-    let at = c .before .before .before .before .before .before .before .before .args .at in
-    sym (next-bad l at (c .before .before .before .before .before .before .if1 .left) (bad-record l at (c .before .before .before .if3 .left) (c .before .before .if4 .left) (broken-zero (recordsFrom l at) (sym (c .before .record-length .ensures) ∙ c .if5 .taken))))
-
-returns-6 : tie.Need-returns-6
-returns-6 c =
-    let l = c .before .before .before .before .before .before .before .before .args .log .now in
-    let at = c .before .before .before .before .before .before .before .before .args .at in
-    let u = unbroken-more (recordsFrom l at) (λ e. c .if5 .left (c .before .record-length .ensures ∙ e)) in
-    let w = win-entry l at (c .before .before .before .if3 .left) (c .before .before .if4 .left) (u .0) in
-    sym (next-entry l at (c .before .before .before .before .before .before .if1 .left) (w .0) ∙ ap (Entry (kindAt l at) (argumentAt l at)) (w .1 ∙ ap (λ (n : ℕ). n + 1) (sym (c .before .record-length .ensures ∙ u .1))))
+length-is : (k : tie.After-entry-length) → k .entry-length .result ≡ entryLength (left k)
+length-is k = k .entry-length .ensures ∙ ap entryLength (from-on (k .before .before .before .before .args .at) (k .before .before .before .before .args .log .now))
 
 pub next-entry-spec : {M : Type 1} → statement M
 next-entry-spec =
     tie.close
     (tie.spec
-    returns
     (λ c. search needs)
-    returns-2
-    returns-3
-    returns-4
+    (λ c. sym (part-past (c .before .before .before .args .log .now) (c .before .before .before .args .at) (c .before .if1 .taken)))
+    (λ c. search needs)
+    (λ c. search needs)
     (λ c. search needs)
     (λ c κs. search needs)
-    returns-5
-    (λ c. omega (arith, c .before .record-length .ensures, record-13 (recordsFrom (c .before .before .before .before .before .before .before .before .args .log .now) (c .before .before .before .before .before .before .before .before .args .at))))
-    returns-6)
+    (λ c. omega (arith, length-is c, length-inside (left c), length-drop (c .before .before .before .before .args .at) (c .before .before .before .before .args .log .now)))
+    (λ c. search needs)
+    (λ c. search needs)
+    (λ c. omega (arith, length-is c, length-inside (left c), length-drop (c .before .before .before .before .args .at) (c .before .before .before .before .args .log .now)))
+    (λ c. part-is (c .before .before .before .before .before .args .log .now) (c .before .before .before .before .before .args .at) _ (length-is (c .before))))

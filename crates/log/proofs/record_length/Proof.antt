@@ -1,8 +1,6 @@
--- `log::record_length` meets its contract. Assumes nothing.
+-- `log::record_length` meets its contract, return by return.
 use mathlib.Core.Path.{_≡_, sym, ap, _∙_}
-use Prim.Native.Nat.{_-_}
 use native.Mathlib.Omega.{arith}
-use lib.ListN.{length, drop, length-drop}
 use borrow.Author.Needs.{needs}
 use Rattle.hand_record.specs.Record.{countIn, lengthOf}
 use Rattle.log.specs.laws.Next.{record-short, record-over, record-cut, record-whole}
@@ -10,44 +8,27 @@ use Rattle.log.proofs.record_length.Statement.{statement}
 use Rattle.log.proofs.record_length.Tie as tie
 
 returns : tie.Need-returns
-returns c =
-    let s = c .before .before .args in
-    sym (record-short (drop (s .at) (s .s .now)) (rw length-drop (omega arith)))
+returns c = sym (record-short (c .before .before .args .s .now) (omega arith))
 
 returns-2 : tie.Need-returns-2
 returns-2 c =
-    let s = c .before .before .before .before .args in
-    let r = drop (s .at) (s .s .now) in
-    let l : length r ≡ length (s .s .now) - s .at = length-drop (s .at) (s .s .now) in
-    let e : c .before .meld-count .result ≡ countIn r = c .before .meld-count .ensures in
-    sym (record-over r (omega arith) (omega arith))
+    let s = c .before .before .before .before .args .s .now in
+    let e : c .before .meld-count .result ≡ countIn s = c .before .meld-count .ensures in
+    sym (record-over s (omega arith) (omega arith))
 
 returns-3 : tie.Need-returns-3
 returns-3 c =
-    let s = c .before .before .before .before .before .args in
-    let r = drop (s .at) (s .s .now) in
-    let l : length r ≡ length (s .s .now) - s .at = length-drop (s .at) (s .s .now) in
-    let e : c .before .before .meld-count .result ≡ countIn r = c .before .before .meld-count .ensures in
-    sym (record-cut r (omega arith) (omega arith) (rw (← e) (omega arith)))
+    let s = c .before .before .before .before .before .args .s .now in
+    let e : c .before .before .meld-count .result ≡ countIn s = c .before .before .meld-count .ensures in
+    sym (record-cut s (omega arith) (omega arith) (rw (← e) (omega arith)))
 
 returns-4 : tie.Need-returns-4
 returns-4 c =
-    let s = c .before .before .before .before .before .args in
-    let r = drop (s .at) (s .s .now) in
-    let l : length r ≡ length (s .s .now) - s .at = length-drop (s .at) (s .s .now) in
-    let e : c .before .before .meld-count .result ≡ countIn r = c .before .before .meld-count .ensures in
-    ap lengthOf e ∙ sym (record-whole r (omega arith) (omega arith) (rw (← e) (omega arith)))
+    let s = c .before .before .before .before .before .args .s .now in
+    let e : c .before .before .meld-count .result ≡ countIn s = c .before .before .meld-count .ensures in
+    ap lengthOf e ∙ sym (record-whole s (omega arith) (omega arith) (rw (← e) (omega arith)))
 
 pub record-length-spec : {M : Type 1} → statement M
 record-length-spec =
     tie.close
-    (tie.spec
-    (λ c. search needs)
-    returns
-    (λ c κs. search needs)
-    (λ c. search needs)
-    returns-2
-    (λ c. search needs)
-    (λ c. search needs)
-    returns-3
-    returns-4)
+    (tie.spec returns (λ c κs. search needs) (λ c. search needs) returns-2 (λ c. search needs) (λ c. search needs) returns-3 returns-4)

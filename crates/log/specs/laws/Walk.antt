@@ -1,161 +1,167 @@
--- The walk a step at a time, and what holds all along it. Assumes nothing.
+-- The walk a part at a time, and what holds all along it.
 use mathlib.Core.Path.{_≡_, refl, ap, sym, _∙_}
-use mathlib.Core.Bool.{true}
 use mathlib.Core.Logic.{_⊎_, inl, inr, ⊎-elim, _↔_}
-use mathlib.Core.List.{List, [], _∷_}
-use Prim.Native.Nat.{ℕ, zero, suc, _+_, _-_, _≤_, _<_}
+use mathlib.Core.Bool.{false≢true}
+use mathlib.Core.List.{List, [], _∷_, _++_, append-assoc}
+use Prim.Native.Nat.{ℕ, zero, suc, _+_, _≤_, _<_}
 use native.Mathlib.Omega.{arith}
-use lib.ListN.{length, take, drop}
-use lib.Seq.{take-add, drop-drop, take-all}
-use Rattle.log.specs.Log.{isBad, nextOf, refusalIn}
-use Rattle.log.specs.Walk.{LogEntry, entryAt, walk, entriesFrom, stopFrom, laid}
-use Rattle.log.specs.laws.Next.{next-end, next-bad, told, step-inside}
-use Rattle.log.specs.declared.Next.{Next}
-use Rattle.log.specs.declared.Next.the-variants.{Entry, End, Bad}
+use lib.ListN.{length, take, drop, length-append, length-drop, take-append-drop}
+use lib.Seq.{drop-drop, take-append-seam, take-all}
+use Rattle.log.specs.Kinds.{kindIn, argumentIn, entryLength}
+use Rattle.log.specs.Log.{firstPart, partAt, refusalAt, partsBy, partsFew, partsOf, laid, stopOf}
+use Rattle.log.specs.laws.Next.{IsBad, Told, bad, won, plain, told, none-empty, length-inside, part-length, length-part, part-past, some-left, refusal-end, refusal-bad, refusal-entry, by-place}
 
--- an answer, with the equation that says so
-pub either : (P : Type 0) (x : Next) → (x ≡ End → P) → (x ≡ Bad → P) → ((k a n : ℕ) → x ≡ Entry k a n → P) → P
-either P (Entry k a n) end bad entry = entry k a n refl
-either P End end bad entry = end refl
-either P Bad end bad entry = bad refl
-
--- what holds where the walk ends, and at an entry whenever at the offset after it, holds at every offset
-module _ (log : List ℕ) (P : ℕ → Type 0) (end : (at : ℕ) → nextOf log at ≡ End → P at) (bad : (at : ℕ) → nextOf log at ≡ Bad → P at)
-    (entry : (at k a n : ℕ) → nextOf log at ≡ Entry k a n → P (at + n) → P at) where
-  along-fuel : (fuel at : ℕ) → length log ≤ fuel + at → P at
-  along-fuel zero at h = end at (next-end log at (omega arith))
-  along-fuel (suc fuel) at h =
-      either (P at) (nextOf log at) (end at) (bad at) (λ k a n e. entry at k a n e (along-fuel fuel (at + n) (omega (arith, step-inside log at k a n e))))
-
-  pub along : (at : ℕ) → P at
-  along at = along-fuel (length log) at (omega arith)
-
--- ---- a walk step by step
-
-module _ {A : Type 0} (stop : ℕ → A) (step : LogEntry → A → A) (log : List ℕ) where
-  pub walk-end : (fuel at : ℕ) → nextOf log at ≡ End → walk stop step fuel log at ≡ stop at
-  unfolding walk
-  walk-end zero at e = refl
-  walk-end (suc fuel) at e = rw e
-
-  pub walk-bad : (fuel at : ℕ) → nextOf log at ≡ Bad → walk stop step fuel log at ≡ stop at
-  unfolding walk
-  walk-bad zero at e = refl
-  walk-bad (suc fuel) at e = rw e
-
-  walk-entry : (fuel at k a n : ℕ) → nextOf log at ≡ Entry k a n → walk stop step (suc fuel) log at ≡ step (entryAt log at k a n) (walk stop step fuel log (at + n))
-  unfolding walk
-  walk-entry fuel at k a n e = rw e
-
-  -- more fuel changes nothing
-  pub walk-enough : (at fuel more : ℕ) → length log ≤ fuel + at → length log ≤ more + at → walk stop step fuel log at ≡ walk stop step more log at
-  walk-enough =
-      along log (λ at. (fuel more : ℕ) → length log ≤ fuel + at → length log ≤ more + at → walk stop step fuel log at ≡ walk stop step more log at)
-      (λ at e f m h g. walk-end f at e ∙ sym (walk-end m at e)) (λ at e f m h g. walk-bad f at e ∙ sym (walk-bad m at e))
-      (λ at k a n e rest f m. both at k a n e rest f m)
+-- what holds where no entry stands, and at an entry whenever after it, holds of all bytes
+module _ (P : List ℕ → Type 0) (none : (s : List ℕ) → entryLength s ≡ 0 → P s) (entry : (s : List ℕ) → 0 < entryLength s → P (drop (entryLength s) s) → P s) where
+  along-fuel : (fuel : ℕ) (s : List ℕ) → length s ≤ fuel → P s
+  along-fuel zero s h = none s (none-empty s (omega arith))
+  along-fuel (suc fuel) s h = go (λ p. along-fuel fuel (drop (entryLength s) s) (omega (arith, p, length-drop (entryLength s) s))) (entryLength s) refl
     where
-      both : (at k a n : ℕ) → nextOf log at ≡ Entry k a n → ((fuel more : ℕ) → length log ≤ fuel + (at + n) → length log ≤ more + (at + n) → walk stop step fuel log (at + n) ≡ walk stop step more log (at + n)) → (fuel more : ℕ) → length log ≤ fuel + at → length log ≤ more + at → walk stop step fuel log at ≡ walk stop step more log at
-      both at k a n e rest zero m h g = absurd (omega (arith, step-inside log at k a n e))
-      both at k a n e rest (suc f) zero h g = absurd (omega (arith, step-inside log at k a n e))
-      both at k a n e rest (suc f) (suc m) h g =
-          let i = step-inside log at k a n e in
-          walk-entry f at k a n e ∙ ap (step (entryAt log at k a n)) (rest f m (omega arith) (omega arith)) ∙ sym (walk-entry m at k a n e)
+      go : (0 < entryLength s → P (drop (entryLength s) s)) → (n : ℕ) → entryLength s ≡ n → P s
+      go r zero e = none s e
+      go r (suc n) e = let p : 0 < entryLength s = omega (arith, e) in entry s p (r p)
 
-  -- a turn: the entry, and then what the walk from the offset after it gives
-  pub walk-turn : (fuel at k a n : ℕ) → length log ≤ fuel + at → nextOf log at ≡ Entry k a n → walk stop step fuel log at ≡ step (entryAt log at k a n) (walk stop step fuel log (at + n))
-  walk-turn fuel at k a n h e =
-      let i = step-inside log at k a n e in
-      walk-enough at fuel (suc fuel) h (omega arith) ∙ walk-entry fuel at k a n e
+  pub along : (s : List ℕ) → P s
+  along s = along-fuel (length s) s (omega arith)
 
--- ---- the entries of a log, and where the walk ends
+-- ---- parts
+
+by-none : (n : ℕ) (s : List ℕ) (more : List ℕ → List (List ℕ)) → n ≡ 0 → partsBy n s more ≡ []
+by-none zero s more e = refl
+by-none (suc n) s more e = absurd (omega (arith, e))
+
+by-some : (n : ℕ) (s : List ℕ) (more : List ℕ → List (List ℕ)) → 0 < n → partsBy n s more ≡ take n s ∷ more (drop n s)
+by-some zero s more h = absurd (omega arith)
+by-some (suc n) s more h = refl
+
+few-none : (fuel : ℕ) (s : List ℕ) → entryLength s ≡ 0 → partsFew fuel s ≡ []
+unfolding partsFew
+few-none zero s e = refl
+few-none (suc fuel) s e = by-none (entryLength s) s (λ rest. partsFew fuel rest) e
+
+few-some : (fuel : ℕ) (s : List ℕ) → 0 < entryLength s → partsFew (suc fuel) s ≡ firstPart s ∷ partsFew fuel (drop (entryLength s) s)
+unfolding partsFew
+few-some fuel s h = by-some (entryLength s) s (λ rest. partsFew fuel rest) h
+
+-- more fuel changes nothing
+few-enough : (s : List ℕ) (fuel more : ℕ) → length s ≤ fuel → length s ≤ more → partsFew fuel s ≡ partsFew more s
+few-enough =
+    along (λ s. (fuel more : ℕ) → length s ≤ fuel → length s ≤ more → partsFew fuel s ≡ partsFew more s) (λ s e f m h g. few-none f s e ∙ sym (few-none m s e)) both
+  where
+    both : (s : List ℕ) → 0 < entryLength s → ((fuel more : ℕ) → length (drop (entryLength s) s) ≤ fuel → length (drop (entryLength s) s) ≤ more → partsFew fuel (drop (entryLength s) s) ≡ partsFew more (drop (entryLength s) s)) → (fuel more : ℕ) → length s ≤ fuel → length s ≤ more → partsFew fuel s ≡ partsFew more s
+    both s p r zero m h g = absurd (omega (arith, length-inside s))
+    both s p r (suc f) zero h g = absurd (omega (arith, length-inside s))
+    both s p r (suc f) (suc m) h g =
+        let l = length-drop (entryLength s) s in
+        few-some f s p ∙ ap (λ (rest : List (List ℕ)). firstPart s ∷ rest) (r f m (omega arith) (omega arith)) ∙ sym (few-some m s p)
+
+module _ (s : List ℕ) where
+  pub parts-none : entryLength s ≡ 0 → partsOf s ≡ []
+  unfolding partsOf
+  parts-none e = few-none (length s) s e
+
+  pub parts-some : 0 < entryLength s → partsOf s ≡ firstPart s ∷ partsOf (drop (entryLength s) s)
+  unfolding partsOf
+  parts-some h =
+      let l = length-drop (entryLength s) s in
+      few-enough s (length s) (suc (length s)) (omega arith) (omega arith) ∙ few-some (length s) s h
+      ∙ ap (λ (rest : List (List ℕ)). firstPart s ∷ rest) (few-enough (drop (entryLength s) s) (length s) (length (drop (entryLength s) s)) (omega arith) (omega arith))
+
+-- ---- from an offset of a log
 
 module _ (log : List ℕ) (at : ℕ) where
-  pub entries-turn : (k a n : ℕ) → nextOf log at ≡ Entry k a n → entriesFrom log at ≡ entryAt log at k a n ∷ entriesFrom log (at + n)
-  unfolding entriesFrom
-  entries-turn k a n e = walk-turn (λ end. []) (λ entry rest. entry ∷ rest) log (length log) at k a n (omega arith) e
+  pub parts-end : length (partAt log at) ≡ 0 → partsOf (drop at log) ≡ []
+  parts-end z = parts-none (drop at log) (sym (length-part log at) ∙ z)
 
-  pub entries-end : nextOf log at ≡ End → entriesFrom log at ≡ []
-  unfolding entriesFrom
-  entries-end e = walk-end (λ end. []) (λ entry rest. entry ∷ rest) log (length log) at e
-
-  pub entries-bad : nextOf log at ≡ Bad → entriesFrom log at ≡ []
-  unfolding entriesFrom
-  entries-bad e = walk-bad (λ end. []) (λ entry rest. entry ∷ rest) log (length log) at e
-
-  pub stop-turn : (k a n : ℕ) → nextOf log at ≡ Entry k a n → stopFrom log at ≡ stopFrom log (at + n)
-  unfolding stopFrom
-  stop-turn k a n e = walk-turn (λ end. end) (λ entry end. end) log (length log) at k a n (omega arith) e
-
-  pub stop-end : nextOf log at ≡ End → stopFrom log at ≡ at
-  unfolding stopFrom
-  stop-end e = walk-end (λ end. end) (λ entry end. end) log (length log) at e
-
-  pub stop-bad : nextOf log at ≡ Bad → stopFrom log at ≡ at
-  unfolding stopFrom
-  stop-bad e = walk-bad (λ end. end) (λ entry end. end) log (length log) at e
+  pub parts-turn : 0 < length (partAt log at) → partsOf (drop at log) ≡ partAt log at ∷ partsOf (drop (at + length (partAt log at)) log)
+  unfolding partAt
+  parts-turn h =
+      let l = length-part log at in
+      rw (l, ← drop-drop (entryLength (drop at log)) at log) (parts-some (drop at log) (omega (arith, l)))
 
 -- ---- the whole walk
 
-module _ (log : List ℕ) where
-  -- the walk ends after its start
-  pub stop-after : (at : ℕ) → at ≤ stopFrom log at
-  stop-after =
-      along log (λ at. at ≤ stopFrom log at) (λ at e. omega (arith, stop-end log at e)) (λ at e. omega (arith, stop-bad log at e))
-      (λ at k a n e h. omega (arith, stop-turn log at k a n e))
+-- where an entry stands
+module _ (s : List ℕ) (p : 0 < entryLength s) where
+  abbrev after : List ℕ
+  after = drop (entryLength s) s
 
-  -- the parts laid end to end
-  pub laid-from : (at : ℕ) → laid (entriesFrom log at) ≡ take (stopFrom log at - at) (drop at log)
-  laid-from =
-      along log (λ at. laid (entriesFrom log at) ≡ take (stopFrom log at - at) (drop at log)) (λ at e. ends at (entries-end log at e) (stop-end log at e))
-      (λ at e. ends at (entries-bad log at e) (stop-bad log at e)) turns
+  stop-turn : stopOf s ≡ entryLength s + stopOf after
+  stop-turn = rw (parts-some s p, length-append (firstPart s) (laid (partsOf after)), part-length s)
+
+  left-turn : drop (stopOf s) s ≡ drop (stopOf after) after
+  left-turn = ap (λ (n : ℕ). drop n s) stop-turn ∙ sym (drop-drop (stopOf after) (entryLength s) s)
+
+-- the parts laid end to end start the bytes
+pub laid-start : (s : List ℕ) → laid (partsOf s) ++ drop (stopOf s) s ≡ s
+laid-start = along (λ s. laid (partsOf s) ++ drop (stopOf s) s ≡ s) (λ s e. rw (parts-none s e)) turn
+  where
+    turn : (s : List ℕ) (p : 0 < entryLength s) → laid (partsOf (after s p)) ++ drop (stopOf (after s p)) (after s p) ≡ after s p → laid (partsOf s) ++ drop (stopOf s) s ≡ s
+    turn s p r =
+        ap (λ (l : List ℕ). laid (partsOf s) ++ l) (left-turn s p)
+        ∙ rw (parts-some s p, append-assoc (firstPart s) (laid (partsOf (after s p))) (drop (stopOf (after s p)) (after s p)), r) (take-append-drop (entryLength s) s)
+
+pub laid-prefix : (log : List ℕ) → laid (partsOf log) ≡ take (stopOf log) log
+laid-prefix log = sym (take-append-seam (laid (partsOf log)) (drop (stopOf log) log)) ∙ ap (take (stopOf log)) (laid-start log)
+
+-- it ends inside the log, where no entry stands
+pub stop-within : (log : List ℕ) → stopOf log ≤ length log
+stop-within log = omega (arith, ap length (laid-start log), length-append (laid (partsOf log)) (drop (stopOf log) log))
+
+pub no-entry-left : (s : List ℕ) → entryLength (drop (stopOf s) s) ≡ 0
+no-entry-left = along (λ s. entryLength (drop (stopOf s) s) ≡ 0) (λ s e. rw (parts-none s e) e) (λ s p r. rw (left-turn s p) r)
+
+-- a part has a byte at least
+pub parts-few : (s : List ℕ) → length (partsOf s) ≤ length s
+parts-few =
+    along (λ s. length (partsOf s) ≤ length s) (λ s e. rw (parts-none s e) (omega arith))
+    (λ s p r. rw (parts-some s p) (omega (arith, r, length-drop (entryLength s) s, length-inside s)))
+
+-- ---- end and 14 apart
+
+module _ (log : List ℕ) (at : ℕ) where
+  pub end-exactly : ((length (partAt log at) ≡ 0) × (refusalAt log at ≡ 0)) ↔ (length log ≤ at)
+  end-exactly = (
+    λ h. by-place log at (λ g. g) (λ l e. absurd (omega (arith, h .1, refusal-bad log at l e))) (λ l e. absurd (e (sym (length-part log at) ∙ h .0))),
+    λ g. (ap length (part-past log at g), refusal-end log at g),
+  )
+
+  pub bad-length : (refusalAt log at ≡ 14) ↔ ((at < length log) × (entryLength (drop at log) ≡ 0))
+  bad-length = (
+    λ h. by-place log at (λ g. absurd (omega (arith, h, refusal-end log at g))) (λ l e. (l, e)) (λ l e. absurd (omega (arith, h, refusal-entry log at l e))),
+    λ h. refusal-bad log at (h .0) (h .1),
+  )
+
+  pub bad-part : refusalAt log at ≡ 14 → length (partAt log at) ≡ 0
+  bad-part h = length-part log at ∙ bad-length .0 h .1
+
+  -- in the paper's words
+  zero-bad : at < length log → entryLength (drop at log) ≡ 0 → IsBad (kindIn (drop at log)) (argumentIn (drop at log)) (drop 1 (drop at log))
+  zero-bad l e = go (told (drop at log) (some-left log at l))
     where
-      ends : (at : ℕ) → entriesFrom log at ≡ [] → stopFrom log at ≡ at → laid (entriesFrom log at) ≡ take (stopFrom log at - at) (drop at log)
-      ends at e s =
-          let z : at - at ≡ 0 = omega arith in
-          rw (e, s, z)
+      go : Told (kindIn (drop at log)) (argumentIn (drop at log)) (drop 1 (drop at log)) (entryLength (drop at log)) → IsBad (kindIn (drop at log)) (argumentIn (drop at log)) (drop 1 (drop at log))
+      go (bad b z) = b
+      go (won k a u z) = absurd (omega (arith, e, z))
+      go (plain k h z) = absurd (omega (arith, e, z))
 
-      turns : (at k a n : ℕ) → nextOf log at ≡ Entry k a n → laid (entriesFrom log (at + n)) ≡ take (stopFrom log (at + n) - (at + n)) (drop (at + n) log) → laid (entriesFrom log at) ≡ take (stopFrom log at - at) (drop at log)
-      turns at k a n e h =
-          let l : stopFrom log (at + n) - at ≡ n + (stopFrom log (at + n) - (at + n)) = omega (arith, stop-after (at + n)) in
-          rw (entries-turn log at k a n e, stop-turn log at k a n e, h, l, take-add, drop-drop)
+  bad-zero : at < length log → IsBad (kindIn (drop at log)) (argumentIn (drop at log)) (drop 1 (drop at log)) → entryLength (drop at log) ≡ 0
+  bad-zero l b = go b (told (drop at log) (some-left log at l))
+    where
+      go : IsBad (kindIn (drop at log)) (argumentIn (drop at log)) (drop 1 (drop at log)) → Told (kindIn (drop at log)) (argumentIn (drop at log)) (drop 1 (drop at log)) (entryLength (drop at log)) → entryLength (drop at log) ≡ 0
+      go x (bad b z) = z
+      go (inl o) (won k a u z) = absurd (omega (arith, o, k))
+      go (inr (w, inl o)) (won k a u z) = absurd (o a)
+      go (inr (w, inr o)) (won k a u z) = absurd (false≢true (sym u ∙ o))
+      go (inl o) (plain k h z) = absurd (omega (arith, o, h))
+      go (inr (w, o)) (plain k h z) = absurd (k w)
 
-  pub laid-prefix : laid (entriesFrom log 0) ≡ take (stopFrom log 0) log
-  laid-prefix =
-      let z : stopFrom log 0 - 0 ≡ stopFrom log 0 = omega arith in
-      laid-from 0 ∙ rw z
+  pub bad-exactly : (refusalAt log at ≡ 14) ↔ ((at < length log) × IsBad (kindIn (drop at log)) (argumentIn (drop at log)) (drop 1 (drop at log)))
+  bad-exactly = (λ h. let b = bad-length .0 h in (b .0, zero-bad (b .0) (b .1)), λ h. bad-length .1 (h .0, bad-zero (h .0) (h .1)))
 
-  -- where it ends stands no entry
-  pub ends-at : (at : ℕ) → (nextOf log (stopFrom log at) ≡ End) ⊎ (refusalIn (nextOf log (stopFrom log at)) ≡ 14)
-  ends-at =
-      along log (λ at. (nextOf log (stopFrom log at) ≡ End) ⊎ (refusalIn (nextOf log (stopFrom log at)) ≡ 14))
-      (λ at e. inl (rw (stop-end log at e, e))) (λ at e. inr (rw (stop-bad log at e, e))) (λ at k a n e h. rw (stop-turn log at k a n e) h)
+-- where the walk ends
+pub ends-at : (log : List ℕ) → (length log ≡ stopOf log) ⊎ (refusalAt log (stopOf log) ≡ 14)
+ends-at log =
+    by-place log (stopOf log) (λ g. inl (omega (arith, g, stop-within log))) (λ l e. inr (refusal-bad log (stopOf log) l e)) (λ l e. absurd (e (no-entry-left log)))
 
-  -- an entry has a byte at least
-  pub entries-few : (at : ℕ) → length (entriesFrom log at) ≤ length log - at
-  entries-few =
-      along log (λ at. length (entriesFrom log at) ≤ length log - at) (λ at e. rw (entries-end log at e) (omega arith)) (λ at e. rw (entries-bad log at e) (omega arith))
-      (λ at k a n e h. rw (entries-turn log at k a n e) (omega (arith, step-inside log at k a n e)))
-
-  pub stop-inside : (at : ℕ) → at ≤ length log → stopFrom log at ≤ length log
-  stop-inside =
-      along log (λ at. at ≤ length log → stopFrom log at ≤ length log) (λ at e h. rw (stop-end log at e) h) (λ at e h. rw (stop-bad log at e) h)
-      (λ at k a n e r h. rw (stop-turn log at k a n e) (r (step-inside log at k a n e .1)))
-
--- from the start
-pub stop-within : (log : List ℕ) → stopFrom log 0 ≤ length log
-stop-within log = stop-inside log 0 (omega arith)
-
-pub entries-within : (log : List ℕ) → length (entriesFrom log 0) ≤ length log
-entries-within log = omega (arith, entries-few log 0)
-
--- ---- the answers apart
-
-pub end-exactly : (log : List ℕ) (at : ℕ) → (nextOf log at ≡ End) ↔ (length log ≤ at)
-end-exactly log at = (λ e. rw e at (told log at), next-end log at)
-
-pub bad-exactly : (log : List ℕ) (at : ℕ) → (nextOf log at ≡ Bad) ↔ ((at < length log) × (isBad log at ≡ true))
-bad-exactly log at = (λ e. rw e at (told log at), λ h. next-bad log at (h .0) (h .1))
-
-pub laid-all : (log : List ℕ) → (refusalIn (nextOf log (stopFrom log 0)) ≡ 14 → ⊥) → laid (entriesFrom log 0) ≡ log
-laid-all log h =
-    ⊎-elim (λ e. laid-prefix log ∙ take-all (stopFrom log 0) log (end-exactly log (stopFrom log 0) .0 e)) (λ e. absurd (h e)) (ends-at log 0)
+pub laid-all : (log : List ℕ) → (refusalAt log (stopOf log) ≡ 14 → ⊥) → laid (partsOf log) ≡ log
+laid-all log h = ⊎-elim (λ e. laid-prefix log ∙ take-all (stopOf log) log (omega (arith, e))) (λ e. absurd (h e)) (ends-at log)

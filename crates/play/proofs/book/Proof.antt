@@ -1,4 +1,4 @@
--- `play::book` meets its contract, kind by kind. Assumes nothing.
+-- `play::book` meets its contract, kind by kind.
 use borrow.Author.Needs.{needs}
 use borrow.Author.Tests.{eq-eqb, ne-eqb}
 use Rattle.play.proofs.book.Statement.{statement}

@@ -1,4 +1,4 @@
--- `play::start` meets its contract. Assumes nothing.
+-- `play::start` meets its contract.
 use borrow.Author.Needs.{needs}
 use Rattle.play.proofs.start.Statement.{statement}
 use Rattle.play.proofs.start.Tie as tie

@@ -1,86 +1,76 @@
--- A log booked entry by entry, and its text line by line. Assumes nothing.
-use mathlib.Core.Path.{_≡_, sym, ap, _∙_}
-use mathlib.Core.List.{List, [], _++_}
-use Prim.Native.Nat.{ℕ, _+_, _-_, _≤_, _<_}
+-- An entry booked, and what it is of the log's text.
+use mathlib.Core.Path.{_≡_, refl, sym, ap, _∙_}
+use mathlib.Core.Bool.{false}
+use mathlib.Core.List.{List, [], _∷_, _++_}
+use Prim.Native.Nat.{ℕ, zero, suc, _+_, _-_, _≤_, _<_}
 use native.Mathlib.Omega.{arith}
 use lib.ListN.{length, take, drop}
 use Rattle.ledger.specs.declared.Game.{Game}
-use Rattle.ledger.specs.Ledger.{ledgerFrom}
+use Rattle.ledger.specs.Ledger.{refusalFor, after}
 use Rattle.ledger.specs.Runs.{Booked}
-use Rattle.log.specs.Log.{nextOf}
-use Rattle.log.specs.Walk.{entriesFrom}
-use Rattle.log.specs.laws.Next.{next-end, step-inside, after-header}
-use Rattle.log.specs.laws.Walk.{either, entries-turn, entries-end, entries-bad}
-use Rattle.log.specs.declared.Next.{Next}
-use Rattle.log.specs.declared.Next.the-variants.{Entry, End, Bad}
-use Rattle.play.specs.Play.{bookingBy, bookingOf, bookingsFrom, stepBy, stepOf, entryLine, textFrom}
+use Rattle.log.specs.Kinds.{letterOf, kindIn, argumentIn}
+use Rattle.log.specs.Log.{partAt, refusalAt, partsOf}
+use Rattle.log.specs.laws.Next.{from-on, part-inside}
+use Rattle.log.specs.laws.Walk.{parts-end, parts-turn}
+use Rattle.play.specs.Play.{bookingBy, bookingOf, noEntry, stepBy, stepOf}
 use Rattle.play.specs.declared.Step.{Step}
 
+-- a part booked: nothing, or its booking
+by-none : (part : List ℕ) (refusal : ℕ) (g : Game) → length part ≡ 0 → stepBy part refusal g ≡ record { entry = noEntry refusal; game = g }
+by-none [] refusal g e = refl
+by-none (x ∷ part) refusal g e = absurd (omega arith)
+
+by-some : (part : List ℕ) (refusal : ℕ) (g : Game) → 0 < length part → stepBy part refusal g ≡ record { entry = record { refusal = refusalFor g (bookingOf part); end = false; letter = letterOf (kindIn part); length = length part }; game = after g (bookingOf part) }
+by-some [] refusal g h = absurd (omega arith)
+by-some (x ∷ part) refusal g h = refl
+
 module _ (g : Game) (log : List ℕ) (at : ℕ) where
-  abbrev this : Step
-  this = stepOf g log at
+  abbrev part : List ℕ
+  part = partAt log at
 
-  -- by what Next entry says
-  step-is : (x : Next) → nextOf log at ≡ x → stepOf g log at ≡ stepBy x g log at
+  abbrev booked : Step
+  booked = record { entry = record { refusal = refusalFor g (bookingOf part); end = false; letter = letterOf (kindIn part); length = length part }; game = after g (bookingOf part) }
+
+  pub step-none : length part ≡ 0 → stepOf g log at ≡ record { entry = noEntry (refusalAt log at); game = g }
   unfolding stepOf
-  step-is x e = rw e
+  step-none e = by-none part (refusalAt log at) g e
 
-  -- an entry booked, its record handed on as a stretch of the log
-  pub step-entry : (k a n : ℕ) → nextOf log at ≡ Entry k a n → (x : ℕ) (h : Game) → Booked g (bookingBy k a (take (at + n - (at + 1)) (drop (at + 1) log))) x h → record { refusal = x; kind = k; length = n; game = h } ≡ stepOf g log at
+  step-some : 0 < length part → stepOf g log at ≡ booked
+  unfolding stepOf
+  step-some h = by-some part (refusalAt log at) g h
+
+  -- as the code has it: the record is a stretch of the part
+  pub step-entry : (s : List ℕ) → s ≡ part → (length s ≡ 0 → ⊥) → (k a y : ℕ) → k ≡ kindIn s → a ≡ argumentIn s → y ≡ letterOf k → (x : ℕ) (h : Game) → Booked g (bookingBy k a (take (length s - 1) (drop 1 s))) x h → record { entry = record { refusal = x; end = false; letter = y; length = length s }; game = h } ≡ stepOf g log at
   unfolding bookingOf
-  step-entry k a n e x h b =
-      let m = at + n - (at + 1) in
-      let l : n ≡ m + 1 = omega (arith, step-inside log at k a n e) in
-      let r : drop 1 (take n (drop at log)) ≡ take m (drop (at + 1) log) = ap (λ (j : ℕ). drop 1 (take j (drop at log))) l ∙ after-header log at m in
-      rw (step-is (Entry k a n) e, r, b .0, b .1)
+  step-entry s e l k a y ek ea ey x h b =
+      let c = rw (from-on 1 s, ek, ea) at b in
+      let m : 0 < length part = omega (arith, l, ap length e) in
+      rw (step-some m, ← e, ey, ek, c .0, c .1)
 
-  pub step-end : nextOf log at ≡ End → record { refusal = 0; kind = 0; length = 0; game = g } ≡ stepOf g log at
-  step-end e = sym (step-is End e)
+  -- what `book_at` gives, by the length that it tells
+  pub step-length : stepOf g log at .entry .length ≡ length part
+  step-length = go (length part) refl
+    where
+      go : (n : ℕ) → length part ≡ n → stepOf g log at .entry .length ≡ length part
+      go zero e = rw (step-none e) (sym e)
+      go (suc n) e = rw (step-some (omega (arith, e)))
 
-  pub step-bad : nextOf log at ≡ Bad → record { refusal = 14; kind = 0; length = 0; game = g } ≡ stepOf g log at
-  step-bad e = sym (step-is Bad e)
+  pub no-parts : stepOf g log at .entry .length ≡ 0 → partsOf (drop at log) ≡ []
+  no-parts z = parts-end log at (sym step-length ∙ z)
 
-  -- no entry: nothing is booked and nothing printed
-  pub none-left : this .length ≡ 0 → entriesFrom log at ≡ []
-  none-left z =
-      either (entriesFrom log at ≡ []) (nextOf log at) (entries-end log at) (entries-bad log at)
-      (λ k a n e. absurd (omega (arith, step-inside log at k a n e, sym (ap (λ (t : Step). t .length) (step-is (Entry k a n) e)) ∙ z)))
+  module _ (l : stepOf g log at .entry .length ≡ 0 → ⊥) where
+    some-part : 0 < length part
+    some-part = go (length part) refl
+      where
+        go : (n : ℕ) → length part ≡ n → 0 < length part
+        go zero e = absurd (l (step-length ∙ e))
+        go (suc n) e = omega (arith, e)
 
-  -- an entry: its booking and its line come first
-  module _ (l : this .length ≡ 0 → ⊥) where
-    either-entry : {P : Type 0} → ((k a n : ℕ) → nextOf log at ≡ Entry k a n → P) → P
-    either-entry {P} f =
-        either P (nextOf log at) (λ e. absurd (l (ap (λ (t : Step). t .length) (step-is End e)))) (λ e. absurd (l (ap (λ (t : Step). t .length) (step-is Bad e)))) f
+    pub step-is : stepOf g log at ≡ booked
+    step-is = step-some some-part
 
-    pub step-ends : (0 < this .length) × (at + this .length ≤ length log)
-    step-ends = either-entry (λ k a n e. rw (step-is (Entry k a n) e) (step-inside log at k a n e))
+    pub parts-are : partsOf (drop at log) ≡ part ∷ partsOf (drop (at + length part) log)
+    parts-are = parts-turn log at some-part
 
-    pub ledger-turn : ledgerFrom g (bookingsFrom log at) ≡ ledgerFrom (this .game) (bookingsFrom log (at + this .length))
-    unfolding bookingsFrom ledgerFrom
-    ledger-turn = either-entry (λ k a n e. rw (step-is (Entry k a n) e, entries-turn log at k a n e))
-
-    pub text-turn : (i : ℕ) → textFrom i g (entriesFrom log at) ≡ entryLine i (this .kind) (this .refusal) (this .game) ++ textFrom (i + 1) (this .game) (entriesFrom log (at + this .length))
-    unfolding textFrom
-    text-turn i = either-entry (λ k a n e. rw (step-is (Entry k a n) e, entries-turn log at k a n e))
-
-  -- at the end of the walk
-  pub ledger-none : this .length ≡ 0 → ledgerFrom g (bookingsFrom log at) ≡ g
-  unfolding bookingsFrom ledgerFrom
-  ledger-none z = rw (none-left z)
-
-  pub text-none : this .length ≡ 0 → (i : ℕ) → textFrom i g (entriesFrom log at) ≡ []
-  unfolding textFrom
-  text-none z i = rw (none-left z)
-
-  -- the same of what `book_at` gives
-  pub turned : (t : Step) → t ≡ this → (t .length ≡ 0 → ⊥) → (0 < t .length) × (at + t .length ≤ length log) × (ledgerFrom (t .game) (bookingsFrom log (at + t .length)) ≡ ledgerFrom g (bookingsFrom log at))
-  turned t e l =
-      let n : this .length ≡ 0 → ⊥ = rw e at l in
-      rw e (step-ends n .0, step-ends n .1, sym (ledger-turn n))
-
-  pub stopped : (t : Step) → t ≡ this → t .length ≡ 0 → g ≡ ledgerFrom g (bookingsFrom log at)
-  stopped t e z = sym (ledger-none (rw e at z))
-
-  pub past-end : length log ≤ at → g ≡ ledgerFrom g (bookingsFrom log at)
-  unfolding bookingsFrom ledgerFrom
-  past-end h = rw (entries-end log at (next-end log at h))
+    pub inside : (0 < length part) × (at + length part ≤ length log)
+    inside = (some-part, omega (arith, some-part, part-inside log at))

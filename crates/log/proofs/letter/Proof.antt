@@ -1,7 +1,7 @@
--- `play::letter` meets its contract, kind by kind. Assumes nothing.
+-- `log::letter` meets its contract, kind by kind.
 use borrow.Author.Tests.{eq-eqb, ne-eqb}
-use Rattle.play.proofs.letter.Statement.{statement}
-use Rattle.play.proofs.letter.Tie as tie
+use Rattle.log.proofs.letter.Statement.{statement}
+use Rattle.log.proofs.letter.Tie as tie
 
 pub letter-spec : {M : Type 1} → statement M
 letter-spec =
