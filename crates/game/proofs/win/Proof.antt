@@ -1,10 +1,8 @@
 -- `game::win` meets its contract: each refusal is the first that meets it, and past them the hand that read is scored.
 use mathlib.Core.Path.{_≡_, sym, _∙_}
-use mathlib.Core.Bool.{_||_, false}
 use native.Mathlib.Omega.{arith}
 use borrow.Author.Needs.{needs}
 use borrow.Author.Tests.{le-ltb}
-use lib.Dec.{ltb}
 use Rattle.hand.specs.declared.Hand.{Hand}
 use Rattle.hand_record.specs.laws.Bounds.{Bounds, hand-is, hand-bounds}
 use Rattle.score.specs.laws.Changes.{score-within}
