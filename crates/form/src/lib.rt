@@ -1,7 +1,7 @@
 // Whether a game is open (01, The game, refusal 9): marked over, at its last hand, or out of form. Any value of the struct may be given.
 ghost use mathlib.Core.Path.{_≡_};
 ghost use mathlib.Core.Bool.{false};
-ghost use Prim.Native.Nat.{ℕ, _≤_};
+ghost use Prim.Native.Nat.{_≤_};
 ghost use lib.IntN.{pos};
 ghost use lib.ListN.{getD};
 ghost use lib.Signed.{ltZ};

@@ -155,9 +155,17 @@ shareOf r ready = cond (eqb r 0 || eqb r 4) (pos 0) (cond ready (pos (3000 / r))
 unfoldable pub drawGives : ℕ → ℕ → ℤ
 drawGives bits i = shareOf (readySeats bits) (isReady bits i)
 
--- "A chombo costs the seat 9,000 and gives each other seat 3,000; each declared seat gets 1,000 back"
+-- "A chombo costs the seat 9,000 and gives each other seat 3,000"
+abbrev pub fineOf : ℕ → ℕ → ℤ
+fineOf seat i = cond (eqb i seat) (negℤ (pos 9000)) (pos 3000)
+
+-- "each declared seat gets 1,000 back"
+abbrev pub backTo : Game → ℕ → ℤ
+backTo l i = cond (isDeclared l i) (pos 1000) (pos 0)
+
+-- what a chombo gives seat i
 unfoldable pub chomboGives : Game → ℕ → ℕ → ℤ
-chomboGives l seat i = cond (eqb i seat) (negℤ (pos 9000)) (pos 3000) +ℤ cond (isDeclared l i) (pos 1000) (pos 0)
+chomboGives l seat i = fineOf seat i +ℤ backTo l i
 
 -- riichi "adds a stick and declares the seat"; a win "leaving none"; of a chombo "a stick less for each" declared seat;
 -- "The deal passes on a child's win or a draw with the dealer not ready"

@@ -15,7 +15,7 @@ use Rattle.score.specs.laws.Z.{up, dn, add-law, parts-eq}
 use Rattle.score.specs.laws.Changes.{score-within, zero-sum}
 use Rattle.ledger.specs.declared.Game.{Game}
 use Rattle.ledger.specs.Booking.{Booking, riichi, win, draw, chombo}
-use Rattle.ledger.specs.Ledger.{lastHand, mark, isDeclared, declarations, notOpen, isReady, handFor, scoredFor, readySeats, shareOf, refusalFor, riichiGives, winGives, drawGives, chomboGives, effectOf}
+use Rattle.ledger.specs.Ledger.{lastHand, mark, isDeclared, declarations, isReady, handFor, scoredFor, readySeats, shareOf, refusalFor, riichiGives, winGives, drawGives, fineOf, backTo, chomboGives, effectOf}
 use Rattle.ledger.specs.laws.Bounds.{costs, worst}
 use Rattle.ledger.specs.laws.Form.{open-of}
 use Rattle.ledger.specs.laws.Accepted.{riichi-accepted, chombo-accepted, draw-accepted, win-accepted}
@@ -132,7 +132,7 @@ module _ (g : Game) where
   backs : declarations g ≤ g .sticks → Turns (λ i. back (isDeclared g i)) (g .sticks) (g .sticks - declarations g)
   backs h = omega (arith, back-is (isDeclared g 0), back-is (isDeclared g 1), back-is (isDeclared g 2), back-is (isDeclared g 3))
 
-fines : (seat : ℕ) → seat ≤ 3 → Turns (λ i. cond (eqb i seat) (negℤ (pos 9000)) (pos 3000)) 0 0
+fines : (seat : ℕ) → seat ≤ 3 → Turns (fineOf seat) 0 0
 fines zero h = refl
 fines (suc zero) h = refl
 fines (suc (suc zero)) h = refl
@@ -142,7 +142,7 @@ fines (suc (suc (suc (suc n)))) h = absurd (omega arith)
 module _ (g : Game) (seat : ℕ) where
   chombo-balanced : seat ≤ 3 → declarations g ≤ g .sticks → Turns (chomboGives g seat) (g .sticks) (g .sticks - declarations g)
   unfolding chomboGives
-  chombo-balanced h d = both-turn (λ i. cond (eqb i seat) (negℤ (pos 9000)) (pos 3000)) (λ i. back (isDeclared g i)) (g .sticks) (g .sticks - declarations g) (fines seat h) (backs g d)
+  chombo-balanced h d = both-turn (fineOf seat) (backTo g) (g .sticks) (g .sticks - declarations g) (fines seat h) (backs g d)
 
   chombo-bounded : (i : ℕ) → dn (chomboGives g seat i) ≤ 9000
   unfolding chomboGives

@@ -1,5 +1,4 @@
 -- `moves::finish` meets its contract: each call gives its field.
-use native.Mathlib.Omega.{arith}
 use borrow.Author.Needs.{needs}
 use Rattle.ledger.specs.Ledger.{applied}
 use Rattle.ledger.specs.laws.Form.{score-within}
