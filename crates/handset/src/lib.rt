@@ -10,7 +10,7 @@ ghost use Rattle.ledger.specs.Booking as Booking;
 ghost use Rattle.ledger.specs.Ledger.{fresh};
 ghost use Rattle.ledger.specs.Runs.{Booked};
 ghost use Rattle.text.specs.Text.{lineOf, lengthIn, bufferWith};
-ghost use Rattle.play.specs.Play.{started, textLeft, linesOf};
+ghost use Rattle.play.specs.Play.{BookedPart, started, textLeft, linesOf};
 ghost use Rattle.handset.specs.Interface.{nextEntryOf};
 use ledger::Game;
 use hand::Hand;
@@ -20,13 +20,14 @@ use play::Printed;
 use play::Walk;
 use score::Scored;
 
-// What Next entry gives: an entry with its length, header included; the log's end; or refusal 14. Else all zero.
+// What Next entry gives: an entry with its letter in `tally` and its length, header included; the log's end; or refusal 14. Else all zero.
 #[repr(C)]
 pub struct NextEntry {
     pub refusal: u8,
     pub end: bool,
     pub kind: u8,
     pub argument: u8,
+    pub letter: u8,
     pub length: usize,
 }
 
@@ -103,7 +104,7 @@ pub extern "C" fn hb_chombo(g: &mut Game, seat: u8) -> u8
     b.refusal
 }
 
-// Next entry of a log from an offset: its kind, argument and length, header included. Where there is none all is zero but the refusal, 14, or `end`.
+// Next entry of a log from an offset: its kind, argument, letter and length, header included. Where there is none all is zero but the refusal, 14, or `end`.
 #[no_mangle]
 pub extern "C" fn hb_next(s: &[u8], at: usize) -> NextEntry
     ensures { λ r. ⌜ r ≡ nextEntryOf (now (s .entry)) at ⌝ }
@@ -117,17 +118,30 @@ pub extern "C" fn hb_next(s: &[u8], at: usize) -> NextEntry
             end: refusal == 0,
             kind: 0,
             argument: 0,
+            letter: 0,
             length: 0,
         };
     }
     let header = part[0];
+    let kind = log::kind(header);
     NextEntry {
         refusal: 0,
         end: false,
-        kind: log::kind(header),
+        kind,
         argument: log::argument(header),
+        letter: log::letter(kind),
         length,
     }
+}
+
+// Books the entry that bytes start with, such as the part of a log that Next entry gave, into the lent game; 14 where they start with none.
+#[no_mangle]
+pub extern "C" fn hb_book(g: &mut Game, s: &[u8]) -> u8
+    ensures { λ r. ⌜ BookedPart (now (g .entry)) (now (s .entry)) r (now (g .exit)) ⌝ }
+{
+    let b = play::book_part(*g, s);
+    *g = b.game;
+    b.refusal
 }
 
 // A walk over a log before its first entry, with a fresh game.

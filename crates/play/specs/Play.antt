@@ -1,5 +1,6 @@
 -- A log booked into a game (01, Log): its bookings, one entry booked, and the text that program `tally` prints.
-use mathlib.Core.Bool.{true, false, _||_, cond}
+use mathlib.Core.Path.{_≡_}
+use mathlib.Core.Bool.{false, _||_, cond}
 use mathlib.Core.List.{List, [], _∷_, _++_, map}
 use Prim.Native.Nat.{ℕ, _+_}
 use lib.Dec.{ltb, eqb}
@@ -45,6 +46,12 @@ stepBy (header ∷ rest) refusal g =
 -- what Next entry gives at an offset, booked
 unfoldable pub stepOf : Game → List ℕ → ℕ → Step
 stepOf g log at = stepBy (partAt log at) (refusalAt log at) g
+
+-- the entry that bytes start with, booked as a part by itself: its refusal and the game after it; "Refusal 14" and the game as it was where they start with none
+abbrev pub BookedPart : Game → List ℕ → ℕ → Game → Type 0
+BookedPart g s refusal h =
+    let t = stepOf g s 0 in
+    (refusal ≡ cond (eqb (t .entry .length) 0) 14 (t .entry .refusal)) × (h ≡ t .game)
 
 -- ---- the text
 

@@ -5,7 +5,7 @@ ghost use Prim.Native.Nat.{_+_, _≤_, _<_};
 ghost use lib.ListN.{length, take, drop};
 ghost use Rattle.ledger.specs.Runs.{Booked};
 ghost use Rattle.text.specs.Text.{lengthIn, bufferWith};
-ghost use Rattle.play.specs.Play.{bookingBy, noEntry, stepOf, entryLine, started, textLeft, linesOf};
+ghost use Rattle.play.specs.Play.{bookingBy, noEntry, stepOf, BookedPart, entryLine, started, textLeft, linesOf};
 use ledger::Game;
 use game::Outcome;
 
@@ -76,11 +76,22 @@ pub fn book_at(g: Game, s: &[u8], at: usize) -> Step
     Step { entry, game: after }
 }
 
-// Books the entry that bytes start with: those of a log from an offset on.
-pub fn book_first(g: Game, s: &[u8]) -> Step
-    ensures { λ r. ⌜ r ≡ stepOf g (now (s .entry)) 0 ⌝ }
+// Books the entry that bytes start with, as a part that Next entry hands back; 14 where they start with none.
+pub fn book_part(g: Game, s: &[u8]) -> Outcome
+    ensures { λ r. ⌜ BookedPart g (now (s .entry)) (r .refusal) (r .game) ⌝ }
 {
-    book_at(g, s, 0)
+    let t = book_at(g, s, 0);
+    let after = t.game;
+    if t.entry.length == 0 {
+        return Outcome {
+            refusal: 14,
+            game: after,
+        };
+    }
+    Outcome {
+        refusal: t.entry.refusal,
+        game: after,
+    }
 }
 
 // The line of entry k, booked, at the start of a buffer, or nothing where the buffer is too short.
