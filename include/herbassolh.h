@@ -6,7 +6,6 @@
  * The caller owes every call:
  * - a pointer with a length is valid for that length and not null, also where the length is 0;
  * - a pointer to a game is valid and not null;
- * - each bool of a game is 0 or 1;
  * - a game and the bytes lent with it do not overlap;
  * - one thread at a time for each game and each buffer.
  */
@@ -105,7 +104,7 @@ enum { HB_ORDINARY = 0, HB_RINSHAN = 1, HB_CHANKAN = 2, HB_LAST_TILE = 3, HB_FIR
 /* Meld kinds; the tile of a chi is its lowest. */
 enum { HB_MELD_CHI = 0, HB_MELD_PON = 1, HB_MELD_OPEN_KAN = 2, HB_MELD_CLOSED_KAN = 3 };
 
-/* A meld as HbHand holds it. */
+/* A meld as HbHeld holds it. */
 #define HB_MELD(kind, tile) ((uint8_t)(64 * (kind) + (tile)))
 
 /* Round winds. */
@@ -128,14 +127,20 @@ enum {
 
 /* The numbers of a hand. */
 typedef struct {
-    uint8_t how, winner, discarder, riichi, situation, indicator, winning, m;
+    uint8_t how, winner, discarder, riichi, situation, indicator, winning;
 } HbFields;
 
-/* A hand: m melds, 13 - 3m concealed tiles without the winning tile; unused places are 0. */
+/* The tiles held: m melds, 13 - 3m concealed tiles without the winning tile; unused places are 0. */
 typedef struct {
-    HbFields fields;
+    uint8_t m;
     uint8_t melds[4];
     uint8_t concealed[13];
+} HbHeld;
+
+/* A hand. */
+typedef struct {
+    HbFields fields;
+    HbHeld held;
 } HbHand;
 
 /* What Read gives: a refusal and an all-zero hand, or 0 and the hand. */
@@ -159,13 +164,13 @@ typedef struct {
     int32_t changes[4];  /* points of seats 0 to 3, summing to 0; sticks left out */
 } HbScored;
 
-/* The game, lent to each booking. */
+/* The game, lent to each booking. Any bytes are a game; an accepted booking sets declared and over to 0 or 1. */
 typedef struct {
     int32_t scores[4];
     uint32_t sticks;
-    bool declared[4];
+    uint8_t declared[4];  /* not 0 where the seat has declared riichi in this hand */
     uint8_t dealer, wind, hands;
-    bool over;
+    uint8_t over;         /* not 0 where the game is marked over */
 } HbGame;
 
 /* What stands at an offset of a log: an entry, the end (end set, all else zero), or refusal 14 (all else zero). */
@@ -185,7 +190,7 @@ HbWritten hb_write(HbHand hand, uint8_t *buf, size_t buf_len);
 /* Score. The reported reading of a record, for a dealer and round wind; refusals 8, 1 to 7 in order. */
 HbScored hb_score(const uint8_t *record, size_t record_len, uint8_t dealer, uint8_t wind);
 
-/* A game at its start: 30,000 each, all else 0 or unset. */
+/* A game at its start: 30,000 each, all else 0. */
 HbGame hb_fresh(void);
 
 /* The bookings: each gives 0 and updates the game, or gives its refusal and leaves the game. */

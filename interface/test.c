@@ -183,11 +183,11 @@ static void fields(void)
     HbHand one = hb_read(table[0].record, 13).hand;
     CHECK(one.fields.how == HB_RON && one.fields.winner == 1 && one.fields.discarder == 3);
     CHECK(one.fields.riichi == HB_RIICHI_NONE && one.fields.situation == HB_ORDINARY);
-    CHECK(one.fields.indicator == HB_NORTH && one.fields.winning == HB_SOU + 7 && one.fields.m == 0);
-    CHECK(memcmp(one.melds, no_hand.melds, 4) == 0 && memcmp(one.concealed, tiles_1, 13) == 0);
+    CHECK(one.fields.indicator == HB_NORTH && one.fields.winning == HB_SOU + 7 && one.held.m == 0);
+    CHECK(memcmp(one.held.melds, no_hand.held.melds, 4) == 0 && memcmp(one.held.concealed, tiles_1, 13) == 0);
     HbHand six = hb_read(table[5].record, 12).hand;
-    CHECK(six.fields.m == 1 && six.melds[0] == HB_MELD(HB_MELD_CHI, HB_MAN + 1));
-    CHECK(memcmp(six.melds + 1, no_hand.melds, 3) == 0 && memcmp(six.concealed, tiles_6, 13) == 0);
+    CHECK(six.held.m == 1 && six.held.melds[0] == HB_MELD(HB_MELD_CHI, HB_MAN + 1));
+    CHECK(memcmp(six.held.melds + 1, no_hand.held.melds, 3) == 0 && memcmp(six.held.concealed, tiles_6, 13) == 0);
 }
 
 /* Refusals 1 to 8 of Read and Score. */
@@ -231,7 +231,7 @@ static void writing(void)
     for (size_t length = 0; length < 13; length++)
         CHECK_CASE(length, write_refused(sound, length, HB_REFUSAL_BUFFER));
 
-    hand = sound, hand.fields.m = 5;
+    hand = sound, hand.held.m = 5;
     CHECK(write_refused(hand, 16, HB_REFUSAL_FIELD));
     hand = sound, hand.fields.how = 2;
     CHECK(write_refused(hand, 16, HB_REFUSAL_FIELD));
@@ -239,11 +239,11 @@ static void writing(void)
     CHECK(write_refused(hand, 16, HB_REFUSAL_FIELD));
     hand = sound, hand.fields.winning = 34;
     CHECK(write_refused(hand, 16, HB_REFUSAL_FIELD));
-    hand = sound, hand.melds[3] = 1;
+    hand = sound, hand.held.melds[3] = 1;
     CHECK(write_refused(hand, 16, HB_REFUSAL_FIELD));
-    hand = hb_read(table[5].record, 12).hand, hand.concealed[12] = 1;
+    hand = hb_read(table[5].record, 12).hand, hand.held.concealed[12] = 1;
     CHECK(write_refused(hand, 16, HB_REFUSAL_FIELD));
-    hand = sound, hand.concealed[0] = HB_CHUN;
+    hand = sound, hand.held.concealed[0] = HB_CHUN;
     CHECK(write_refused(hand, 16, HB_REFUSAL_DESCENDING));
     hand = hb_read(table[9].record, 13).hand, hand.fields.indicator = HB_MAN;
     CHECK(write_refused(hand, 16, HB_REFUSAL_OVER_FOUR));
@@ -328,7 +328,7 @@ static void refused_bookings(void)
     CHECK(hb_win(&game, table[6].record, 12) == HB_REFUSAL_NO_YAKU && memcmp(&game, &fresh, sizeof game) == 0);
     CHECK(hb_win(&game, table[9].record, 13) == HB_REFUSAL_NO_READING && memcmp(&game, &fresh, sizeof game) == 0);
 
-    game = fresh, game.over = true;
+    game = fresh, game.over = 1;
     CHECK(all_refused(&game, HB_REFUSAL_NOT_OPEN));
     CHECK(hb_riichi(&game, 4) == HB_REFUSAL_ARGUMENT && hb_win(&game, table[0].record, 3) == HB_REFUSAL_NOT_OPEN);
     game = fresh, game.hands = 200;
@@ -339,7 +339,7 @@ static void refused_bookings(void)
     CHECK(all_refused(&game, HB_REFUSAL_NOT_OPEN));
     game = fresh, game.wind = 2;
     CHECK(all_refused(&game, HB_REFUSAL_NOT_OPEN));
-    game = fresh, game.declared[2] = true;
+    game = fresh, game.declared[2] = 1;
     CHECK(all_refused(&game, HB_REFUSAL_NOT_OPEN));
     game = fresh, game.scores[0] = 30001;
     CHECK(all_refused(&game, HB_REFUSAL_NOT_OPEN));
@@ -349,6 +349,27 @@ static void refused_bookings(void)
     CHECK(all_refused(&game, HB_REFUSAL_NOT_OPEN));
     game = fresh, game.scores[0] = -9770000, game.scores[1] = 9770000 + 60000;
     CHECK(hb_riichi(&game, 3) == 0);
+}
+
+/* Marks of a game that are neither 0 nor 1: they are set, a refused booking leaves them, an accepted one sets 0 or 1. */
+static void marks(void)
+{
+    static const uint8_t set[4] = {0, 1, 1, 0}, cleared[4] = {0, 0, 0, 0};
+    HbGame game = hb_fresh(), before;
+    game.over = 2;
+    CHECK(all_refused(&game, HB_REFUSAL_NOT_OPEN));
+    game.over = 0xff;
+    CHECK(all_refused(&game, HB_REFUSAL_NOT_OPEN));
+
+    game = hb_fresh();
+    game.declared[2] = 0xfe, game.sticks = 1, game.scores[2] -= 1000;
+    before = game;
+    CHECK(hb_riichi(&game, 2) == HB_REFUSAL_DECLARED && memcmp(&game, &before, sizeof game) == 0);
+    CHECK(hb_draw(&game, 0) == HB_REFUSAL_NOT_READY && memcmp(&game, &before, sizeof game) == 0);
+    CHECK(hb_riichi(&game, 1) == 0 && game.sticks == 2 && memcmp(game.declared, set, sizeof set) == 0);
+    game = before;
+    CHECK(hb_chombo(&game, 0) == 0 && game.sticks == 0 && game.scores[2] == 33000);
+    CHECK(memcmp(game.declared, cleared, sizeof cleared) == 0);
 }
 
 /* The end by the deal after eight draws with none ready, and at 200 hands of chombo. */
@@ -495,6 +516,7 @@ int main(void)
     writing();
     bookings();
     refused_bookings();
+    marks();
     ends();
     entries();
     logs();
