@@ -28,11 +28,12 @@ pub struct Setting {
     pub ways: [u8; 4],
 }
 
-// What the search keeps: whether a reading was seen, whether one had a yaku, and the best of those.
+// What the search keeps: whether a reading was seen, whether one had a yaku, the best of those and what it is worth.
 pub struct Best {
     pub seen: bool,
     pub valued: bool,
     pub value: Value,
+    pub reading: Reading,
 }
 
 // The group of a reading or, where it has none, of the melds.
@@ -42,6 +43,7 @@ fn pick(g: u8, c: u8) -> u8
     if g == 68 { c } else { g }
 }
 
+// The groups of a reading and of the melds, in four places.
 fn joined(g: [u8; 4], c: [u8; 4]) -> [u8; 4]
     ensures { λ r. ⌜ r ≡ joinedOf g c ⌝ }
 {
@@ -53,6 +55,7 @@ fn joined(g: [u8; 4], c: [u8; 4]) -> [u8; 4]
     ]
 }
 
+// The reading with the melds.
 fn parts(t: Setting, r: Reading) -> Parts
     requires { ⌜ r .place ≤ 4 ⌝ }
     ensures { λ p. ⌜ p ≡ partsIn t r ⌝ }
@@ -71,6 +74,7 @@ fn parts(t: Setting, r: Reading) -> Parts
     }
 }
 
+// What a reading is worth.
 fn worth(t: Setting, r: Reading) -> Value
     requires { ⌜ Ready t × (r .place ≤ 4) ⌝ }
     ensures { λ v. ⌜ v ≡ worthIn t r ⌝ }
@@ -81,6 +85,7 @@ fn worth(t: Setting, r: Reading) -> Value
     value::value_of(w, x, parts(t, r), t.dora, s)
 }
 
+// The value v is above w: by gain, then h, then fu.
 fn beats(v: Value, w: Value) -> bool
     ensures { λ r. ⌜ r ≡ beatsOf v w ⌝ }
 {
@@ -89,6 +94,7 @@ fn beats(v: Value, w: Value) -> bool
             & ((w.han.0 < v.han.0) | ((v.han.0 == w.han.0) & (w.fu.0 < v.fu.0))))
 }
 
+// What is kept before any reading.
 fn none() -> Best
     ensures { λ r. ⌜ r ≡ noneOf ⌝ }
 {
@@ -100,10 +106,12 @@ fn none() -> Best
         basic: Points(0),
         gain: Points(0),
     };
+    let r = reading::of_shape(0);
     Best {
         seen: false,
         valued: false,
         value: v,
+        reading: r,
     }
 }
 
@@ -120,13 +128,12 @@ fn judge(t: Setting, b: Best, r: Reading) -> Best
             seen: true,
             valued: true,
             value: v,
+            reading: r,
         };
     }
-    Best {
-        seen: true,
-        valued: b.valued,
-        value: kept,
-    }
+    let mut same = b;
+    same.seen = true;
+    same
 }
 
 // Each place of a pair and groups that holds the winning kind.
@@ -201,7 +208,7 @@ fn split(
     found
 }
 
-// The forms without groups.
+// The shapes without groups.
 fn shapes(h: Setting, t: [u8; 34], m: u8, best: Best) -> Best
     requires { ⌜ Ready h ⌝ }
     ensures { λ r. ⌜ r ≡ judged (judgeOf (worthIn h)) best (shaped t m) ⌝ }
@@ -219,7 +226,7 @@ fn shapes(h: Setting, t: [u8; 34], m: u8, best: Best) -> Best
     b
 }
 
-// The best of every reading of the tally t with m melds, won by the kind win.
+// The best reading of the tally t with m melds, won by the kind win, and what it is worth: every reading is held against the others.
 pub fn best_of(h: Setting, t: [u8; 34], m: u8, win: u8) -> Best
     requires { ⌜ Ready h × (m ≤ 4) ⌝ }
     ensures { λ r. ⌜ r ≡ bestOf (worthIn h) t m win ⌝ }

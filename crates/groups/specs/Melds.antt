@@ -1,5 +1,6 @@
 -- The groups that a hand's melds are (01, "kind 2: 0 chi, 1 pon, 2 open kan, 3 closed kan; tile 6, the lowest of a chi"): a meld byte b is 64 * kind + tile.
--- A group's way says how it was made: 0 concealed, 1 open, 2 open kan, 3 closed kan (01, Fu and points: "open 2/4, concealed 4/8, open kan 8/16, closed kan 16/32").
+-- A group's way says how it was made: 0 concealed, 1 open, 2 open kan, 3 closed kan
+-- (01, Fu and points: "open 2/4, concealed 4/8, open kan 8/16, closed kan 16/32").
 use mathlib.Core.Bool.{cond}
 use Prim.Native.Nat.{ℕ, _+_, _/_, _%_}
 use lib.Dec.{eqb, leb}

@@ -41,6 +41,7 @@ pub fn ways_at(ways: [u8; 4], ron: bool, place: u8) -> [u8; 4]
     u
 }
 
+// 1 where b holds.
 fn one(b: bool) -> u8
     ensures { λ r. ⌜ r ≡ cond b 1 0 ⌝ }
     ensures { λ r. ⌜ r ≤ 1 ⌝ }
@@ -48,6 +49,7 @@ fn one(b: bool) -> u8
     if b { 1 } else { 0 }
 }
 
+// The group c is among the four.
 fn has(g: [u8; 4], c: u8) -> bool
     ensures { λ r. ⌜ r ≡ hasOf g c ⌝ }
 {
@@ -62,12 +64,14 @@ fn one_has(g: [u8; 4], c: u8) -> u8
     one(has(g, c))
 }
 
+// The kind is a value tile: a dragon, the round wind or the own wind.
 pub fn is_value(round: u8, own: u8, k: u8) -> bool
     ensures { λ r. ⌜ r ≡ isValue round own k ⌝ }
 {
     ((31 <= k) & (k <= 33)) | (k == round) | (k == own)
 }
 
+// How many dragon triplets there are.
 pub fn dragons(g: [u8; 4]) -> u8
     ensures { λ r. ⌜ r ≡ dragonsOf g ⌝ }
     ensures { λ r. ⌜ r ≤ 3 ⌝ }
@@ -75,6 +79,7 @@ pub fn dragons(g: [u8; 4]) -> u8
     one_has(g, 65) + one_has(g, 66) + one_has(g, 67)
 }
 
+// Yaku 24: two dragon triplets and a dragon pair.
 pub fn little_dragons(g: [u8; 4], pair: u8) -> bool
     ensures { λ r. ⌜ r ≡ littleDragons g pair ⌝ }
 {
@@ -121,6 +126,7 @@ pub fn placed(g: [u8; 4], place: u8) -> u8
     }
 }
 
+// Yaku 4: closed, four runs, the place a run that earns no wait fu, the pair no value tile.
 pub fn pinfu(closed: bool, g: [u8; 4], pair: u8, place: u8, win: u8, round: u8, own: u8) -> bool
     requires { ⌜ place ≤ 4 ⌝ }
     ensures { λ r. ⌜ r ≡ pinfuOf closed g pair place win round own ⌝ }
@@ -167,7 +173,7 @@ fn in_three_at(low: u8, g: [u8; 4], c: u8) -> bool
     }
 }
 
-// `low` is the lowest code: 0 for runs, 34 for triplets.
+// Yaku 13 and 16: the same group in three suits; `low` is the lowest code, 0 for runs, 34 for triplets.
 pub fn in_three_suits(low: u8, g: [u8; 4]) -> bool
     requires { ⌜ low ≤ 34 ⌝ }
     ensures { λ r. ⌜ r ≡ inThreeSuits low g ⌝ }
@@ -178,6 +184,7 @@ pub fn in_three_suits(low: u8, g: [u8; 4]) -> bool
         | in_three_at(low, g, g[3])
 }
 
+// Yaku 14: 123 456 789 of a suit.
 pub fn straight(g: [u8; 4]) -> bool
     ensures { λ r. ⌜ r ≡ straightOf g ⌝ }
 {
@@ -197,6 +204,7 @@ fn touches(c: u8) -> bool
     }
 }
 
+// Yaku 15 and 22 but for the honour: yaochu in every group and the pair, a run among them.
 pub fn outside(g: [u8; 4], pair: u8) -> bool
     ensures { λ r. ⌜ r ≡ outsideOf g pair ⌝ }
 {
@@ -209,6 +217,7 @@ pub fn outside(g: [u8; 4], pair: u8) -> bool
         & ((a < 34) | (b < 34) | (c < 34) | (d < 34))
 }
 
+// Yaku 17: four triplets.
 pub fn triplets(g: [u8; 4]) -> bool
     ensures { λ r. ⌜ r ≡ tripletsOf g ⌝ }
 {
@@ -222,6 +231,7 @@ pub fn triplets(g: [u8; 4]) -> bool
         & ((34 <= d) & (d < 68))
 }
 
+// 1 where the group is a concealed triplet.
 fn is_concealed(c: u8, way: u8) -> u8
     ensures { λ r. ⌜ r ≡ cond (isConcealed c way) 1 0 ⌝ }
     ensures { λ r. ⌜ r ≤ 1 ⌝ }
@@ -229,6 +239,7 @@ fn is_concealed(c: u8, way: u8) -> u8
     one((34 <= c) & (c < 68) & ((way == 0) | (way == 3)))
 }
 
+// Yaku 18 and 30: how many triplets are concealed.
 pub fn concealed(g: [u8; 4], ways: [u8; 4]) -> u8
     ensures { λ r. ⌜ r ≡ concealedOf g ways ⌝ }
 {
@@ -238,18 +249,21 @@ pub fn concealed(g: [u8; 4], ways: [u8; 4]) -> u8
         + is_concealed(g[3], ways[3])
 }
 
+// Yaku 19 and 31: how many kans there are.
 pub fn kans(ways: [u8; 4]) -> u8
     ensures { λ r. ⌜ r ≡ kansOf ways ⌝ }
 {
     one(2 <= ways[0]) + one(2 <= ways[1]) + one(2 <= ways[2]) + one(2 <= ways[3])
 }
 
+// How many wind triplets there are.
 fn winds(g: [u8; 4]) -> u8
     ensures { λ r. ⌜ r ≡ windsOf g ⌝ }
 {
     one_has(g, 61) + one_has(g, 62) + one_has(g, 63) + one_has(g, 64)
 }
 
+// Yaku 29: three wind triplets and a wind pair, or four wind triplets.
 pub fn four_winds(g: [u8; 4], pair: u8) -> bool
     ensures { λ r. ⌜ r ≡ fourWinds g pair ⌝ }
 {

@@ -1,4 +1,4 @@
--- What holds of every payment (01, Fu and points). Assumes nothing.
+-- What holds of every payment (01, Fu and points).
 use mathlib.Core.Path.{_≡_}
 use mathlib.Core.Bool.{Bool, true, false, cond}
 use Prim.Native.Nat.{ℕ, _+_, _*_, _<_}

@@ -47,7 +47,7 @@ unfoldable pub isOrphans : List ℕ → Bool
 isOrphans t =
     every 34 (λ k. cond (isYaochu k) (eqb (getD t k 0) 1 || eqb (getD t k 0) 2) (eqb (getD t k 0) 0)) && eqb (number 34 (λ k. eqb (getD t k 0) 2)) 1
 
--- "seven pairs", "thirteen orphans": the reading without pair (34), groups (68) and place, of form 1 or 2
+-- "seven pairs", "thirteen orphans": the reading without pair (34), groups (68) and place, of shape 1 or 2
 abbrev pub ofShape : ℕ → Reading
 ofShape f = record { shape = f; pair = 34; groups = 68 ∷ 68 ∷ 68 ∷ 68 ∷ []; place = 0 }
 

@@ -1,5 +1,5 @@
-// Readings of the concealed tiles with the winning tile: what a search for them tests and takes off a tally. A tally is handed over whole, and each
-// removal gives a new one.
+// Readings of the concealed tiles with the winning tile: what a search for them tests and takes off a tally.
+// A tally is handed over whole, and each removal gives a new one.
 ghost use mathlib.Core.Path.{_≡_};
 ghost use mathlib.Core.Bool.{true};
 ghost use Prim.Native.Nat.{_<_, _≤_};
@@ -8,8 +8,8 @@ ghost use Rattle.tiles.specs.Groups.{isGroup};
 ghost use Rattle.reading.specs.Reading.{holds as holdsOf, isSevenPairs, isOrphans, ofShape};
 ghost use Rattle.reading.specs.search.Readings.{isEmpty, less, fits as fitsOf, without as withoutOf, passes as passesOf};
 
-// A reading: form 0 regular, 1 seven pairs, 2 thirteen orphans. groups: the 4 - m codes in order, then 68 in each place that a meld takes. A form
-// without a pair has pair 34; place 0 is the pair, i + 1 the group at i.
+// A reading: shape 0 regular, 1 seven pairs, 2 thirteen orphans. groups: the 4 - m codes in order, then 68 in each place that a meld takes.
+// A shape without a pair has pair 34; place 0 is the pair, i + 1 the group at i.
 pub struct Reading {
     pub shape: u8,
     pub pair: u8,
@@ -17,7 +17,7 @@ pub struct Reading {
     pub place: u8,
 }
 
-// A form without groups.
+// The reading of a shape without groups: seven pairs (1) or thirteen orphans (2).
 pub fn of_shape(shape: u8) -> Reading
     ensures { λ r. ⌜ r ≡ ofShape shape ⌝ }
 {
@@ -29,6 +29,7 @@ pub fn of_shape(shape: u8) -> Reading
     }
 }
 
+// No tile is left.
 pub fn is_empty(t: [u8; 34]) -> bool
     ensures { λ r. ⌜ r ≡ isEmpty t ⌝ }
 {
@@ -108,6 +109,7 @@ pub fn without_pair(t: [u8; 34], k: usize) -> [u8; 34]
     u
 }
 
+// The tiles are seven pairs of different kinds.
 pub fn is_seven_pairs(t: [u8; 34]) -> bool
     ensures { λ r. ⌜ r ≡ isSevenPairs t ⌝ }
 {
@@ -123,6 +125,7 @@ pub fn is_seven_pairs(t: [u8; 34]) -> bool
     kinds == 7
 }
 
+// The tiles are all 13 yaochu kinds, one of them twice.
 pub fn is_orphans(t: [u8; 34]) -> bool
     ensures { λ r. ⌜ r ≡ isOrphans t ⌝ }
 {

@@ -1,4 +1,4 @@
--- What holds of every value (01, Yaku; Fu and points). Assumes nothing.
+-- What holds of every value (01, Yaku; Fu and points).
 use mathlib.Core.Path.{_≡_, refl}
 use mathlib.Core.Bool.{Bool, true, cond}
 use mathlib.Core.List.{List, [], _∷_}

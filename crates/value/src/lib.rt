@@ -30,6 +30,7 @@ pub struct Items {
     pub rounding: Fu,
 }
 
+// What a reading is worth: its yaku, h, fu, the basic points A and the winner's gain.
 pub struct Value {
     pub yaku: [bool; 37],
     pub han: Han,
@@ -55,7 +56,7 @@ fn hand_han(w: Won, p: Parts, y: [bool; 37], dora: u8, yakuman: bool) -> Han
     yaku_han::han(y, w.closed, v, units::han_of(d))
 }
 
-// The value of a reading. `dora` is the kind of the dora.
+// What a reading is worth; `dora` is the kind of the dora.
 pub fn value_of(w: Won, x: TileTests, p: Parts, dora: u8, s: Seats) -> Value
     requires { ⌜ x ≡ tileTestsOf (w .tally) (w .bare) ⌝ }
     requires { ⌜ (p .place ≤ 4) × (w .round < 34) × (w .own < 34) × (dora < 34) ⌝ }

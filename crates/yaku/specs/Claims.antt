@@ -1,4 +1,4 @@
--- What holds of the yaku of every reading (01, Yaku). Assumes nothing.
+-- What holds of the yaku of every reading (01, Yaku).
 use mathlib.Core.Path.{_≡_}
 use mathlib.Core.Bool.{true, false, _&&_, not}
 use Prim.Native.Nat.{ℕ, _<_}

@@ -1,4 +1,4 @@
-// The 36 yaku of a reading, and which of them are listed. Assumes nothing of the tiles.
+// The 36 yaku of a reading, and which of them are listed.
 ghost use mathlib.Core.Path.{_≡_};
 ghost use Prim.Native.Nat.{_<_, _≤_};
 ghost use Rattle.yaku.specs.search.TileTests.{tileTestsOf};
@@ -20,7 +20,7 @@ pub struct Won {
     pub bare: bool,
 }
 
-// A reading with its melds. Form 0 is regular, 1 seven pairs, 2 thirteen orphans. The four groups are the reading's in its
+// A reading with its melds. Shape 0 is regular, 1 seven pairs, 2 thirteen orphans. The four groups are the reading's in its
 // order and then the melds; a way is 0 concealed, 1 open, 2 an open kan, 3 a closed kan. Where there is none, the pair is 34
 // and a group 68.
 pub struct Parts {
@@ -156,7 +156,7 @@ fn listed(y: [bool; 37]) -> [bool; 37]
     }
 }
 
-// The yaku of a reading.
+// The yaku that are listed for a reading: with a yakuman only yakuman.
 pub fn yaku_of(w: Won, x: TileTests, p: Parts) -> [bool; 37]
     requires { ⌜ x ≡ tileTestsOf (w .tally) (w .bare) ⌝ }
     requires { ⌜ (p .place ≤ 4) × (w .round < 34) × (w .own < 34) ⌝ }

@@ -40,6 +40,7 @@ pub fn only(t: [u8; 34], set: u64) -> bool
     true
 }
 
+// Yaku 23: one suit and honours, both present.
 pub fn half_flush(t: [u8; 34]) -> bool
     ensures { λ r. ⌜ r ≡ halfFlush t ⌝ }
 {
@@ -48,12 +49,14 @@ pub fn half_flush(t: [u8; 34]) -> bool
         & !only(t, HONOURS)
 }
 
+// Yaku 25: one suit.
 pub fn flush(t: [u8; 34]) -> bool
     ensures { λ r. ⌜ r ≡ flushOf t ⌝ }
 {
     only(t, MAN) | only(t, PIN) | only(t, SOU)
 }
 
+// Three of the 1 and of the 9 of a suit, and one at least of each between.
 fn gates_of(t: [u8; 34], s: usize) -> bool
     requires { ⌜ s < 3 ⌝ }
     ensures { λ r. ⌜ r ≡ gatesOf t s ⌝ }
@@ -70,6 +73,7 @@ fn gates_of(t: [u8; 34], s: usize) -> bool
         & (3 <= t[i + 8])
 }
 
+// Yaku 35: no meld, one suit's 1112345678999 and one more of it.
 pub fn gates(t: [u8; 34], bare: bool) -> bool
     ensures { λ r. ⌜ r ≡ gatesIs t bare ⌝ }
 {

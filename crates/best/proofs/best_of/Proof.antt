@@ -1,4 +1,4 @@
--- `best::best_of` meets its contract: the pairs of kinds from k on give what is left, and then the forms without groups.
+-- `best::best_of` meets its contract: the pairs of kinds from k on give what is left, and then the shapes without groups.
 use mathlib.Core.Path.{_≡_, refl, _∙_}
 use mathlib.Core.Logic.{⊎-elim}
 use Prim.Native.Nat.{_-_, _≤_}

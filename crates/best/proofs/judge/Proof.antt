@@ -16,21 +16,29 @@ module _ (t : Setting) (b : Best) (r : Reading) (v : Value) (x y : Bool) (ev : v
   test : x && (not (b .valued) || y) ≡ hasYaku (worthIn t r .yaku) && (not (b .valued) || beats (worthIn t r) (b .value))
   test = rw (← ev, ← ex, ← ey)
 
-  taken : x && (not (b .valued) || y) ≡ true → record { seen = true; valued = true; value = v } ≡ judgeOf (worthIn t) b r
+  taken : x && (not (b .valued) || y) ≡ true → record { seen = true; valued = true; value = v; reading = r } ≡ judgeOf (worthIn t) b r
   unfolding judgeOf
-  taken e = rw (sym test ∙ e) (ap (λ (z : Value). record { seen = true; valued = true; value = z }) ev)
+  taken e = rw (sym test ∙ e) (ap (λ (z : Value). record { seen = true; valued = true; value = z; reading = r }) ev)
 
-  left : x && (not (b .valued) || y) ≡ false → record { seen = true; valued = b .valued; value = b .value } ≡ judgeOf (worthIn t) b r
+  left : x && (not (b .valued) || y) ≡ false → record { seen = true; valued = b .valued; value = b .value; reading = b .reading } ≡ judgeOf (worthIn t) b r
   unfolding judgeOf
   left e = rw (sym test ∙ e)
+
+-- the start, from where the new reading was held against the kept one
+abbrev start : tie.After-beats → tie.Start
+start c = c .before .before .before .before .before .before
 
 pub judge-spec : {M : Type 1} → statement M
 judge-spec =
     tie.close
     (tie.spec (λ c κs. search needs) (λ c κs. search needs) (λ c κs. search needs)
     (λ c.
-    let a = c .before .before .before .before .before .before .before .args in
-    taken (a .t) (a .b) (a .r) (c .before .before .before .before .before .worth .result) (c .before .before .before .has-yaku .result) (c .before .beats .result) (c .before .before .before .before .before .worth .ensures) (c .before .before .before .has-yaku .ensures) (c .before .beats .ensures) (c .if1 .taken))
+    let b = c .before in
+    let w = b .before .before .before .before in
+    let a = start b .args in
+    taken (a .t) (a .b) (a .r) (w .worth .result) (b .before .before .has-yaku .result) (b .beats .result) (w .worth .ensures) (b .before .before .has-yaku .ensures) (b .beats .ensures) (c .if1 .taken))
     (λ c.
-    let a = c .before .before .before .before .before .before .before .args in
-    left (a .t) (a .b) (a .r) (c .before .before .before .before .before .worth .result) (c .before .before .before .has-yaku .result) (c .before .beats .result) (c .before .before .before .before .before .worth .ensures) (c .before .before .before .has-yaku .ensures) (c .before .beats .ensures) (c .if1 .left)))
+    let b = c .before in
+    let w = b .before .before .before .before in
+    let a = start b .args in
+    left (a .t) (a .b) (a .r) (w .worth .result) (b .before .before .has-yaku .result) (b .beats .result) (w .worth .ensures) (b .before .before .has-yaku .ensures) (b .beats .ensures) (c .if1 .left)))

@@ -1,9 +1,9 @@
 -- `best::none` meets its contract.
-use mathlib.Core.Path.{refl}
+use borrow.Author.Needs.{needs}
 use Rattle.best.specs.search.Best.{noneOf}
 use Rattle.best.proofs.none.Statement.{statement}
 use Rattle.best.proofs.none.Tie as tie
 
 pub none-spec : {M : Type 1} → statement M
 unfolding noneOf
-none-spec = tie.close (tie.spec (λ c. refl))
+none-spec = tie.close (tie.spec (λ c κs. search needs) (λ c. rw (c .of-shape .ensures)))

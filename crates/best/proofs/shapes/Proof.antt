@@ -1,4 +1,4 @@
--- `best::shapes` meets its contract: each form where its test holds.
+-- `best::shapes` meets its contract: each shape where its test holds.
 use mathlib.Core.Path.{_≡_, sym, ap, _∙_}
 use mathlib.Core.Logic.{⊎-elim}
 use mathlib.Core.List.{[], _∷_}

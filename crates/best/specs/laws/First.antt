@@ -77,7 +77,8 @@ pub record Kept (worth : Reading → Value) (S : Reading → Type 0) (b : Best) 
   pub unseen : b .seen ≡ false → (q : Reading) → S q → ⊥
   pub seen : b .seen ≡ true → (r : Reading) × S r
   pub worthless : b .valued ≡ false → (q : Reading) → S q → withYaku worth q ≡ false
-  pub best : b .valued ≡ true → (r : Reading) × S r × (withYaku worth r ≡ true) × (b .value ≡ worth r) × ((q : Reading) → S q → withYaku worth q ≡ true → Over worth r q)
+  pub best : b .valued ≡ true
+      → S (b .reading) × (withYaku worth (b .reading) ≡ true) × (b .value ≡ worth (b .reading)) × ((q : Reading) → S q → withYaku worth q ≡ true → Over worth (b .reading) q)
 
 abbrev With : (Reading → Type 0) → Reading → Reading → Type 0
 With S x q = S q ⊎ (q ≡ x)
@@ -88,12 +89,12 @@ module _ (worth : Reading → Value) (S : Reading → Type 0) (b : Best) (x : Re
   keeps r o ox q m v = ⊎-elim (λ s. o q s v) (λ e. rw e (ox (rw e at v))) m
 
   -- x is taken: it beats what was kept, or nothing was
-  taken : withYaku worth x ≡ true → (not (b .valued) || beats (worth x) (b .value)) ≡ true → Kept worth (With S x) (record { seen = true; valued = true; value = worth x })
+  taken : withYaku worth x ≡ true → (not (b .valued) || beats (worth x) (b .value)) ≡ true → Kept worth (With S x) (record { seen = true; valued = true; value = worth x; reading = x })
   taken vx e = record {
     unseen = λ z. absurd (false≢true (sym z));
     seen = λ _. (x, inr refl);
     worthless = λ z. absurd (false≢true (sym z));
-    best = λ _. (x, inr refl, vx, refl, λ q m v. ⊎-elim (λ s. over q s v (b .valued) refl) (λ z. inr (ap (λ (y : Reading). figures (worth y)) z, inl (sym z))) m);
+    best = λ _. (inr refl, vx, refl, λ q m v. ⊎-elim (λ s. over q s v (b .valued) refl) (λ z. inr (ap (λ (y : Reading). figures (worth y)) z, inl (sym z))) m);
   }
     where
       above : (r : Reading) → b .value ≡ worth r → beats (worth x) (b .value) ≡ true → Lex (figures (worth r)) (figures (worth x))
@@ -107,17 +108,17 @@ module _ (worth : Reading → Value) (S : Reading → Type 0) (b : Best) (x : Re
       over q s v true z =
           let y = k .best z in
           let h : beats (worth x) (b .value) ≡ true = rw z at e in
-          beyond q (y .0) (y .4 q s v) (above (y .0) (y .3) h)
+          beyond q (b .reading) (y .3 q s v) (above (b .reading) (y .2) h)
 
   -- x is not taken: it has no yaku, or does not beat what is kept
-  passed : (withYaku worth x ≡ true → (b .valued ≡ true) × (beats (worth x) (b .value) ≡ false)) → Kept worth (With S x) (record { seen = true; valued = b .valued; value = b .value })
+  passed : (withYaku worth x ≡ true → (b .valued ≡ true) × (beats (worth x) (b .value) ≡ false)) → Kept worth (With S x) (record { seen = true; valued = b .valued; value = b .value; reading = b .reading })
   passed h = record {
     unseen = λ z. absurd (false≢true (sym z));
     seen = λ _. (x, inr refl);
     worthless = λ z q m. ⊎-elim (λ s. k .worthless z q s) (λ e. rw e (no-yaku z (withYaku worth x) refl)) m;
     best = λ z.
         let y = k .best z in
-        (y .0, inl (y .1), y .2, y .3, keeps (y .0) (y .4) (λ v. behind (y .0) (y .1) (y .3) (h v .1)));
+        (inl (y .0), y .1, y .2, keeps (b .reading) (y .3) (λ v. behind (b .reading) (y .0) (y .2) (h v .1)));
   }
     where
       no-yaku : b .valued ≡ false → (c : Bool) → withYaku worth x ≡ c → withYaku worth x ≡ false
@@ -132,7 +133,7 @@ module _ (worth : Reading → Value) (S : Reading → Type 0) (b : Best) (x : Re
   kept-step = go (withYaku worth x) (b .valued) (beats (worth x) (b .value)) refl refl refl
     where
       go : (v w z : Bool) → withYaku worth x ≡ v → b .valued ≡ w → beats (worth x) (b .value) ≡ z
-          → Kept worth (With S x) (cond (v && (not w || z)) (record { seen = true; valued = true; value = worth x }) (record { seen = true; valued = b .valued; value = b .value }))
+          → Kept worth (With S x) (cond (v && (not w || z)) (record { seen = true; valued = true; value = worth x; reading = x }) (record { seen = true; valued = b .valued; value = b .value; reading = b .reading }))
       go false w z ev ew ez = passed (λ e. absurd (false≢true (sym ev ∙ e)))
       go true false z ev ew ez = taken ev (rw ew refl)
       go true true true ev ew ez = taken ev (rw (ew, ez) refl)
@@ -143,7 +144,7 @@ kept-same worth S T b to from k = record {
   unseen = λ z q s. k .unseen z q (from q s);
   seen = λ z. let y = k .seen z in (y .0, to (y .0) (y .1));
   worthless = λ z q s. k .worthless z q (from q s);
-  best = λ z. let y = k .best z in (y .0, to (y .0) (y .1), y .2, y .3, λ q s v. y .4 q (from q s) v);
+  best = λ z. let y = k .best z in (to (b .reading) (y .0), y .1, y .2, λ q s v. y .3 q (from q s) v);
 }
 
 kept-fold : (worth : Reading → Value) (rs : List Reading) (S : Reading → Type 0) (b : Best) → Kept worth S b → ((q r : Reading) → S q → Member r rs → Before q r) → Pairwise Before rs
@@ -178,7 +179,7 @@ kept-all worth rs p =
 judge-same : (f g : Reading → Value) (b : Best) (r : Reading) → f r ≡ g r → judgeOf f b r ≡ judgeOf g b r
 unfolding judgeOf
 judge-same f g b r e =
-    ap (λ (v : Value). cond (hasYaku (v .yaku) && (not (b .valued) || beats v (b .value))) (record { seen = true; valued = true; value = v }) (record { seen = true; valued = b .valued; value = b .value })) e
+    ap (λ (v : Value). cond (hasYaku (v .yaku) && (not (b .valued) || beats v (b .value))) (record { seen = true; valued = true; value = v; reading = r }) (record { seen = true; valued = b .valued; value = b .value; reading = b .reading })) e
 
 -- where they agree on each reading of a list, the same is kept
 pub judged-same : (f g : Reading → Value) (b : Best) (rs : List Reading) → ((q : Reading) → Member q rs → f q ≡ g q) → judged (judgeOf f) b rs ≡ judged (judgeOf g) b rs

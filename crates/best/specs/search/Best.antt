@@ -6,6 +6,7 @@ use Prim.Native.Nat.{ℕ}
 use lib.Dec.{ltb, eqb}
 use lib.ListN.{replicate}
 use Rattle.reading.specs.declared.Reading.{Reading}
+use Rattle.reading.specs.Reading.{ofShape}
 use Rattle.reading.specs.search.Readings.{readings}
 use Rattle.reading.specs.search.Judged.{judged}
 use Rattle.value.specs.declared.Value.{Value}
@@ -24,14 +25,14 @@ nothing = record { yaku = replicate 37 false; han = record { 0 = 0 }; fu = recor
 
 -- what is kept at first
 unfoldable pub noneOf : Best
-noneOf = record { seen = false; valued = false; value = nothing }
+noneOf = record { seen = false; valued = false; value = nothing; reading = ofShape 0 }
 
 -- "the first": a later reading has to beat the one that is kept
 unfoldable pub judgeOf : (Reading → Value) → Best → Reading → Best
 judgeOf worth b r =
     cond (withYaku worth r && (not (b .valued) || beats (worth r) (b .value)))
-    (record { seen = true; valued = true; value = worth r })
-    (record { seen = true; valued = b .valued; value = b .value })
+    (record { seen = true; valued = true; value = worth r; reading = r })
+    (record { seen = true; valued = b .valued; value = b .value; reading = b .reading })
 
 -- what is kept after all readings of a tally, in their order
 unfoldable pub bestOf : (Reading → Value) → List ℕ → ℕ → ℕ → Best

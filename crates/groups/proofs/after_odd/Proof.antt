@@ -1,4 +1,4 @@
--- `groups::after_odd` meets its contract. Assumes nothing.
+-- `groups::after_odd` meets its contract.
 use native.Mathlib.Omega.{arith}
 use borrow.Author.Tests.{lt-ltb, le-ltb}
 use Rattle.groups.proofs.after_odd.Statement.{statement}

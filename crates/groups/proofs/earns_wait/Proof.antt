@@ -1,4 +1,4 @@
--- `groups::earns_wait` meets its contract. Assumes nothing.
+-- `groups::earns_wait` meets its contract.
 use borrow.Author.Needs.{needs}
 use borrow.Author.Tests.{eq-eqb, ne-eqb, lt-ltb, le-ltb}
 use Rattle.groups.specs.Tests.{earnsWait}

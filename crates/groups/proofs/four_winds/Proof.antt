@@ -1,4 +1,4 @@
--- `groups::four_winds` meets its contract. Assumes nothing.
+-- `groups::four_winds` meets its contract.
 use borrow.Author.Needs.{needs}
 use Rattle.groups.specs.Tests.{fourWinds}
 use Rattle.groups.proofs.four_winds.Statement.{statement}

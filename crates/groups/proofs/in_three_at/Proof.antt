@@ -1,4 +1,4 @@
--- `groups::in_three_at` meets its contract. Assumes nothing.
+-- `groups::in_three_at` meets its contract.
 use borrow.Author.Needs.{needs}
 use borrow.Author.Tests.{lt-ltb, le-ltb, le-leb, lt-leb}
 use Rattle.groups.specs.Tests.{inThreeAt}

@@ -1,4 +1,4 @@
--- `groups::in_three_suits` meets its contract. Assumes nothing.
+-- `groups::in_three_suits` meets its contract.
 use borrow.Author.Needs.{needs}
 use Rattle.groups.specs.Tests.{inThreeSuits}
 use Rattle.groups.proofs.in_three_suits.Statement.{statement}

@@ -1,4 +1,4 @@
--- `groups::little_dragons` meets its contract. Assumes nothing.
+-- `groups::little_dragons` meets its contract.
 use borrow.Author.Needs.{needs}
 use Rattle.groups.specs.Tests.{littleDragons}
 use Rattle.groups.proofs.little_dragons.Statement.{statement}

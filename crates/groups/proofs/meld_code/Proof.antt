@@ -1,4 +1,4 @@
--- `groups::meld_code` meets its contract. Assumes nothing.
+-- `groups::meld_code` meets its contract.
 use borrow.Author.Needs.{needs}
 use borrow.Author.Tests.{eq-eqb, ne-eqb}
 use Rattle.groups.proofs.meld_code.Statement.{statement}

@@ -1,4 +1,4 @@
--- `groups::meld_way` meets its contract. Assumes nothing.
+-- `groups::meld_way` meets its contract.
 use borrow.Author.Needs.{needs}
 use borrow.Author.Tests.{le-leb, lt-leb}
 use Rattle.groups.proofs.meld_way.Statement.{statement}

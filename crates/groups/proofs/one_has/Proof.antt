@@ -1,4 +1,4 @@
--- `groups::one_has` meets its contract. Assumes nothing.
+-- `groups::one_has` meets its contract.
 use borrow.Author.Needs.{needs}
 use Rattle.groups.proofs.one_has.Statement.{statement}
 use Rattle.groups.proofs.one_has.Tie as tie

@@ -1,4 +1,4 @@
--- `groups::outside` meets its contract. Assumes nothing.
+-- `groups::outside` meets its contract.
 use borrow.Author.Needs.{needs}
 use Rattle.groups.specs.Tests.{outside}
 use Rattle.groups.proofs.outside.Statement.{statement}

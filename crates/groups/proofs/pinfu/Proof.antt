@@ -1,4 +1,4 @@
--- `groups::pinfu` meets its contract. Assumes nothing.
+-- `groups::pinfu` meets its contract.
 use borrow.Author.Needs.{needs}
 use Rattle.groups.specs.Tests.{pinfu}
 use Rattle.groups.proofs.pinfu.Statement.{statement}

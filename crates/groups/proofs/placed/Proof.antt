@@ -1,4 +1,4 @@
--- `groups::placed` meets its contract. Assumes nothing.
+-- `groups::placed` meets its contract.
 use borrow.Author.Needs.{needs}
 use Rattle.groups.proofs.placed.Statement.{statement}
 use Rattle.groups.proofs.placed.Tie as tie

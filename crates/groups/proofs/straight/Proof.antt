@@ -1,4 +1,4 @@
--- `groups::straight` meets its contract. Assumes nothing.
+-- `groups::straight` meets its contract.
 use borrow.Author.Needs.{needs}
 use Rattle.groups.specs.Tests.{straight}
 use Rattle.groups.proofs.straight.Statement.{statement}

@@ -1,4 +1,4 @@
--- `groups::touches` meets its contract. Assumes nothing.
+-- `groups::touches` meets its contract.
 use borrow.Author.Needs.{needs}
 use borrow.Author.Tests.{lt-ltb, le-ltb}
 use Rattle.groups.specs.Tests.{touches}

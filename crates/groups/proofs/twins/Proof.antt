@@ -1,4 +1,4 @@
--- `groups::twins` meets its contract: the groups in turn. Assumes nothing.
+-- `groups::twins` meets its contract: the groups in turn.
 use borrow.Author.Needs.{needs}
 use mathlib.Core.Path.{sym}
 use Rattle.groups.specs.laws.Twins.{pairs-in-turn}

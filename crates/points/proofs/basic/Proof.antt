@@ -1,4 +1,4 @@
--- `points::basic` meets its contract. Assumes nothing.
+-- `points::basic` meets its contract.
 use borrow.Author.Needs.{needs}
 use native.Mathlib.Omega.{arith}
 use Rattle.points.specs.Points.{basic}

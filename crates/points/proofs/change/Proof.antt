@@ -1,4 +1,4 @@
--- `points::change` meets its contract: a number below 2^31 is its own bits, and so is 0 less such a number. Assumes nothing.
+-- `points::change` meets its contract: a number below 2^31 is its own bits, and so is 0 less such a number.
 use mathlib.Core.Path.{_≡_}
 use Prim.Native.Nat.{ℕ, zero, suc, _≤_}
 use native.Mathlib.Omega.{arith}

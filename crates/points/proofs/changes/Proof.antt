@@ -1,4 +1,4 @@
--- `points::changes` meets its contract. Assumes nothing.
+-- `points::changes` meets its contract.
 use borrow.Author.Needs.{needs}
 use Rattle.points.specs.laws.Signed.{back}
 use Rattle.points.specs.Points.{change, changes}

@@ -1,4 +1,4 @@
--- `points::limit` meets its contract: each return is the case that its tests say. Assumes nothing.
+-- `points::limit` meets its contract: each return is the case that its tests say.
 use borrow.Author.Needs.{needs}
 use borrow.Author.Tests.{le-leb, lt-leb}
 use Rattle.points.specs.Points.{limit}

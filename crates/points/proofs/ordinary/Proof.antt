@@ -1,4 +1,4 @@
--- `points::ordinary` meets its contract: each return is the case that its tests say. Assumes nothing.
+-- `points::ordinary` meets its contract: each return is the case that its tests say.
 use borrow.Author.Needs.{needs}
 use native.Mathlib.Omega.{arith}
 use borrow.Author.Tests.{lt-ltb, le-ltb, le-leb, lt-leb}

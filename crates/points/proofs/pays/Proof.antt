@@ -1,4 +1,4 @@
--- `points::pays` meets its contract: six times 8,000 at the most. Assumes nothing.
+-- `points::pays` meets its contract: six times 8,000 at the most.
 use borrow.Author.Needs.{needs}
 use native.Mathlib.Omega.{arith}
 use native.Mathlib.Nat.{mul-le-mul}

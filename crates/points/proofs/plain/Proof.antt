@@ -1,4 +1,4 @@
--- `points::plain` meets its contract: nothing is shifted out. Assumes nothing.
+-- `points::plain` meets its contract: nothing is shifted out.
 use borrow.Author.Needs.{needs}
 use native.Mathlib.Omega.{arith}
 use lib.Pow.{shl-exact}

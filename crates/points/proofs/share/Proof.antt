@@ -1,4 +1,4 @@
--- `points::share` meets its contract: each return is the case that its tests say. Assumes nothing.
+-- `points::share` meets its contract: each return is the case that its tests say.
 use borrow.Author.Needs.{needs}
 use borrow.Author.Needs.{needs}
 use borrow.Author.Tests.{eq-eqb, ne-eqb}

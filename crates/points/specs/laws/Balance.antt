@@ -1,4 +1,4 @@
--- The winner pays nothing, and what the others pay is what the winner gains. Assumes nothing.
+-- The winner pays nothing, and what the others pay is what the winner gains.
 use mathlib.Core.Path.{_≡_, refl}
 use mathlib.Core.Bool.{Bool, true, false, cond}
 use Prim.Native.Nat.{ℕ, zero, suc, _+_, _*_, _<_}

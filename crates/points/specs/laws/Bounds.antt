@@ -1,4 +1,4 @@
--- No payment, and no gain, is over 48,000. Assumes nothing.
+-- No payment, and no gain, is over 48,000.
 use mathlib.Core.Path.{_≡_, refl, sym, _∙_}
 use mathlib.Core.Bool.{Bool, true, false, _||_, cond}
 use Prim.Native.Nat.{ℕ, zero, suc, _+_, _*_, _/_, _≤_, _<_}

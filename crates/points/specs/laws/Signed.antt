@@ -1,4 +1,4 @@
--- A signed number passes through its bits unchanged. Assumes nothing.
+-- A signed number passes through its bits unchanged.
 use mathlib.Core.Path.{_≡_, _∙_}
 use Prim.Native.Nat.{_<_, _^_}
 use lib.IntN.{ℤ}

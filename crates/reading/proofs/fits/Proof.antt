@@ -1,4 +1,4 @@
--- `reading::fits` meets its contract: each `return` is the case that its tests say. Assumes nothing.
+-- `reading::fits` meets its contract: each `return` is the case that its tests say.
 use mathlib.Core.Path.{_≡_, sym, _∙_}
 use mathlib.Core.Bool.{true}
 use borrow.Author.Needs.{needs}

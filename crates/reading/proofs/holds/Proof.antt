@@ -1,4 +1,4 @@
--- `reading::holds` meets its contract: each `return` is the case that its tests say. Assumes nothing.
+-- `reading::holds` meets its contract: each `return` is the case that its tests say.
 use mathlib.Core.Path.{sym, _∙_}
 use borrow.Author.Needs.{needs}
 use Rattle.reading.specs.laws.Groups.{run-has, triplet-has, holds-pair, holds-group}

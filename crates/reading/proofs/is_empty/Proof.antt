@@ -1,4 +1,4 @@
--- `reading::is_empty` meets its contract: the loop has found no tile below k. Assumes nothing.
+-- `reading::is_empty` meets its contract: the loop has found no tile below k.
 use mathlib.Core.Path.{_≡_, sym}
 use mathlib.Core.Bool.{true}
 use Prim.Native.Nat.{_≤_, _-_}

@@ -1,4 +1,4 @@
--- `reading::is_group` meets its contract: each `return` is the case that its test says. Assumes nothing.
+-- `reading::is_group` meets its contract: each `return` is the case that its test says.
 use borrow.Author.Needs.{needs}
 use borrow.Author.Tests.{lt-ltb, le-ltb}
 use Rattle.tiles.specs.Groups.{isGroup}

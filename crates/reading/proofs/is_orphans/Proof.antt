@@ -1,4 +1,4 @@
--- `reading::is_orphans` meets its contract: the loop has found each yaochu kind below k held once or twice and no other kind, and counted those held twice. Assumes nothing.
+-- `reading::is_orphans` meets its contract: the loop has found each yaochu kind below k held once or twice and no other kind, and counted those held twice.
 use mathlib.Core.Logic.{⊎-elim}
 use mathlib.Core.Path.{sym, _∙_}
 use mathlib.Core.Bool.{Bool, _||_, cond}

@@ -1,4 +1,4 @@
--- `reading::is_seven_pairs` meets its contract: the loop has found each kind below k held twice or not at all, and counted those held. Assumes nothing.
+-- `reading::is_seven_pairs` meets its contract: the loop has found each kind below k held twice or not at all, and counted those held.
 use mathlib.Core.Logic.{⊎-elim}
 use mathlib.Core.Bool.{Bool, _||_}
 use mathlib.Core.List.{List}

@@ -1,4 +1,4 @@
--- `reading::passes` meets its contract: each `return` is the case that its test says. Assumes nothing.
+-- `reading::passes` meets its contract: each `return` is the case that its test says.
 use borrow.Author.Needs.{needs}
 use borrow.Author.Tests.{lt-ltb, le-ltb}
 use Rattle.reading.specs.search.Readings.{passes}

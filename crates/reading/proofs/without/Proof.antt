@@ -1,4 +1,4 @@
--- `reading::without` meets its contract: a group that fits is there to be taken. Assumes nothing.
+-- `reading::without` meets its contract: a group that fits is there to be taken.
 use mathlib.Core.Path.{_≡_}
 use mathlib.Core.Bool.{true}
 use mathlib.Core.List.{List}

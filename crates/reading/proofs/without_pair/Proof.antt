@@ -1,4 +1,4 @@
--- `reading::without_pair` meets its contract: a kind that is held is one of the 34. Assumes nothing.
+-- `reading::without_pair` meets its contract: a kind that is held is one of the 34.
 use borrow.Author.Needs.{needs}
 use mathlib.Core.Path.{_≡_}
 use lib.ListN.{length}

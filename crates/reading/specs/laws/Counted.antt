@@ -1,4 +1,4 @@
--- A loop that tests each number below m by p and counts those with q: at the start, one more, stopped early, done. Assumes nothing.
+-- A loop that tests each number below m by p and counts those with q: at the start, one more, stopped early, done.
 use mathlib.Core.Path.{_≡_, refl}
 use mathlib.Core.Bool.{Bool, true, false, _&&_}
 use Prim.Native.Nat.{ℕ, _+_, _≤_, _<_}

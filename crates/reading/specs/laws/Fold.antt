@@ -1,5 +1,5 @@
 -- The equations of a search that judges readings as it finds them, for any judge: the loops over places, over codes with a recursion for
--- each group that is taken, and over pairs. In each, what is left to do gives the target. Assumes nothing.
+-- each group that is taken, and over pairs. In each, what is left to do gives the target.
 use mathlib.Core.Path.{_≡_, refl, sym, ap, _∙_}
 use mathlib.Core.Bool.{Bool, true, false, cond}
 use mathlib.Core.List.{List, [], _∷_, _++_, map, append-nil}
@@ -166,7 +166,7 @@ module _ {B : Type 0} (judge : B → Reading → B) where
     unfolding paired
     paired-none b h = judged-none b _ (leb 2 (getD t k 0)) (lt-leb 2 (getD t k 0) h)
 
-  -- ---- the whole: the pairs, then the other forms
+  -- ---- the whole: the pairs, then the other shapes
   module _ (t : List ℕ) (m : ℕ) where
     pub shaped-with : (b x y : B) → m ≡ 0 → x ≡ judged judge b (when (isSevenPairs t) (λ _. ofShape 1 ∷ [])) →
         y ≡ judged judge x (when (isOrphans t) (λ _. ofShape 2 ∷ [])) → y ≡ judged judge b (shaped t m)

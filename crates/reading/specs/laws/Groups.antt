@@ -1,4 +1,4 @@
--- What is true of groups and of taking one off a tally. Assumes nothing.
+-- What is true of groups and of taking one off a tally.
 use mathlib.Core.Path.{_≡_, refl, sym}
 use mathlib.Core.Bool.{Bool, true, false, _&&_, _||_, cond}
 use mathlib.Core.Logic.{_⊎_, inl, inr, ⊎-elim}

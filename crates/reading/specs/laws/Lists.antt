@@ -1,4 +1,4 @@
--- Each element of a list, each pair of elements, and membership: over ++, map, when, concatMap and the numbers of a range. Assumes nothing.
+-- Each element of a list, each pair of elements, and membership: over ++, map, when, concatMap and the numbers of a range.
 use mathlib.Core.Path.{_≡_, refl, sym, subst}
 use mathlib.Core.Bool.{Bool, true, false}
 use mathlib.Core.Logic.{⊎-elim}

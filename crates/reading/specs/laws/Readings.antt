@@ -1,4 +1,4 @@
--- The list `readings` has exactly the readings, in ascending order. Assumes nothing.
+-- The list `readings` has exactly the readings, in ascending order.
 use mathlib.Core.Path.{_≡_, refl, sym, ap, _∙_}
 use mathlib.Core.Bool.{true}
 use mathlib.Core.Logic.{inl, inr}
@@ -129,7 +129,7 @@ OfPair k r = (r .shape ≡ 0) × (r .pair ≡ k)
 abbrev OfGroups : ℕ → List ℕ → Reading → Type 0
 OfGroups k gs r = (p : ℕ) × (r ≡ regularOf k gs p)
 
--- readings of form f come before those of a later form
+-- readings of shape f come before those of a later shape
 later-shape : (f : ℕ) {xs ys : List Reading} → Each (λ r. r .shape ≡ f) xs → Each (λ r. f < r .shape) ys → Each (λ x. Each (Before x) ys) xs
 later-shape f p q = each-imp (λ x e. each-imp (λ y h. inl (rw e h)) q) p
 

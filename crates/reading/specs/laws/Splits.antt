@@ -1,4 +1,4 @@
--- The enumeration `splits` lists exactly the splittings of a tally into groups, in ascending order. Assumes nothing.
+-- The enumeration `splits` lists exactly the splittings of a tally into groups, in ascending order.
 use mathlib.Core.Path.{_≡_, refl, sym, ap, _∙_, subst}
 use mathlib.Core.Bool.{true}
 use mathlib.Core.Logic.{inl, inr, ⊎-elim}

@@ -1,5 +1,5 @@
 -- How the code finds the best reading: what a judge keeps of a list of readings. That the list has all of them, each once, in order is
--- stated in specs/Claims.antt.
+-- stated in search/Claims.
 use mathlib.Core.List.{List, [], _∷_}
 use Rattle.reading.specs.declared.Reading.{Reading}
 

@@ -1,5 +1,5 @@
 -- How the code finds the readings of a hand: a search, code by code, and the list `readings` that it meets. Nobody has to believe it:
--- that the list has all readings, each once, in the document's order and nothing else is stated in specs/Claims.antt.
+-- that the list has all readings, each once, in the document's order and nothing else is stated in search/Claims.
 use mathlib.Core.Bool.{Bool, true, false, _&&_, cond}
 use mathlib.Core.List.{List, [], _∷_, _++_, map}
 use Prim.Native.Nat.{ℕ, zero, suc, _+_, _-_, _%_}
@@ -68,7 +68,7 @@ unfoldable pub paired : List ℕ → ℕ → ℕ → ℕ → List Reading
 paired t m win k =
     when (leb 2 (getD t k 0)) (λ _. concatMap (λ (gs : List ℕ). placed (4 - m) win k (gs ++ replicate m 68)) (splits (4 - m) 68 0 (less t k 2)))
 
--- the readings of the other forms: "m = 0"
+-- the readings of the other shapes: "m = 0"
 unfoldable pub shaped : List ℕ → ℕ → List Reading
 shaped t m = when (eqb m 0) (λ _. when (isSevenPairs t) (λ _. ofShape 1 ∷ []) ++ when (isOrphans t) (λ _. ofShape 2 ∷ []))
 

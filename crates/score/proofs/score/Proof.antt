@@ -22,7 +22,8 @@ score-spec =
     let r = c .before .before .before .before in
     let a = r .before .before .before .args in
     both (a .s .now) (a .dealer) (a .wind) _
-    (found-refused (a .s .now) (a .dealer) (a .wind) (r .read .result) (r .before .if1 .left) (r .read .ensures) _ (c .before .refusal .result) (c .refused2 .result) (c .before .before .enum-told .given .1) (c .before .refusal .ensures) (c .refused2 .ensures)))
+    (found-refused (a .s .now) (a .dealer) (a .wind) (r .read .result) (r .before .if1 .left) (r .read .ensures)
+    _ (c .before .refusal .result) (c .refused2 .result) (c .before .before .enum-told .given .1) (c .before .refusal .ensures) (c .refused2 .ensures)))
     (λ c κs.
     let r = c .before .before .before .before in
     let a = r .before .before .before .args in
@@ -33,4 +34,5 @@ score-spec =
     let r = c .before .before .before .before .before in
     let a = r .before .before .before .args in
     both (a .s .now) (a .dealer) (a .wind) _
-    (found-sound (a .s .now) (a .dealer) (a .wind) (r .read .result) (r .before .if1 .left) (r .read .ensures) _ (c .settle .result) (c .before .before .before .a .given .1) (c .settle .ensures .1))))
+    (found-sound (a .s .now) (a .dealer) (a .wind) (r .read .result) (r .before .if1 .left) (r .read .ensures)
+    _ (c .settle .result) (c .before .before .before .a .given .1) (c .settle .ensures .1))))

@@ -35,6 +35,8 @@ setting-of-spec =
     let a = c .before .before .before .before .before .before .args in
     let w = c .before .before .before .before .before .won-of in
     let v = winds (a .h) (a .dealer) (a .wind) (w .result) (w .ensures) (c .before .before .before .before .before .before .pre .3) in (
-      made (a .h) (a .dealer) (a .wind) (w .result) (w .ensures) (c .before .before .before .tile-tests .result) (c .before .before .meld-codes .result) (c .before .meld-ways .result) (c .dora .result) (c .before .before .before .tile-tests .ensures) (c .before .before .meld-codes .ensures) (c .before .meld-ways .ensures) (c .dora .ensures .0),
+      made (a .h) (a .dealer) (a .wind) (w .result) (w .ensures)
+          (c .before .before .before .tile-tests .result) (c .before .before .meld-codes .result) (c .before .meld-ways .result) (c .dora .result)
+          (c .before .before .before .tile-tests .ensures) (c .before .before .meld-codes .ensures) (c .before .meld-ways .ensures) (c .dora .ensures .0),
       record { tests = c .before .before .before .tile-tests .ensures; round = v .0; own = v .1; dora = c .dora .ensures .1 },
     )))

@@ -18,7 +18,8 @@ kept : (c : tie.After-best-of) → let a = c .before .before .before .args in c 
 kept c =
     let start = c .before .before .before in
     let a = start .args in
-    kept-in (a .h) (start .pre .0) (four start) (a .dealer) (a .wind) (c .before .before .setting-of .result) (c .before .concealed-tally .result) (c .best-of .result)
+    kept-in (a .h) (start .pre .0) (four start) (a .dealer) (a .wind)
+    (c .before .before .setting-of .result) (c .before .concealed-tally .result) (c .best-of .result)
     (c .before .before .setting-of .ensures .0) (c .before .concealed-tally .ensures) (c .best-of .ensures)
 
 pub settle-spec : {M : Type 1} → statement M
@@ -33,14 +34,18 @@ settle-spec =
     (λ c.
     let b = c .before .before .before .before .before in
     let a = b .before .before .before .args in
-    settled-named (a .h) (a .dealer) (a .wind) _ (c .accepted .ensures ∙ settled-accepted (a .h) (a .dealer) (a .wind) (b .best-of .result) (kept b) (c .before .before .before .before .if1 .taken) (c .before .before .before .if2 .taken)))
+    settled-named (a .h) (a .dealer) (a .wind) _
+    (c .accepted .ensures ∙ settled-accepted (a .h) (a .dealer) (a .wind) (b .best-of .result) (kept b)
+    (c .before .before .before .before .if1 .taken) (c .before .before .before .if2 .taken)))
     (λ c κs. search needs)
     (λ c.
     let b = c .before .before .before in
     let a = b .before .before .before .args in
-    settled-named (a .h) (a .dealer) (a .wind) _ (c .refused .ensures ∙ settled-seven (a .h) (a .dealer) (a .wind) (b .best-of .result) (kept b) (c .before .before .if1 .taken) (c .before .if2 .left)))
+    settled-named (a .h) (a .dealer) (a .wind) _
+    (c .refused .ensures ∙ settled-seven (a .h) (a .dealer) (a .wind) (b .best-of .result) (kept b) (c .before .before .if1 .taken) (c .before .if2 .left)))
     (λ c κs. search needs)
     (λ c.
     let b = c .before .before in
     let a = b .before .before .before .args in
-    settled-named (a .h) (a .dealer) (a .wind) _ (c .refused2 .ensures ∙ settled-six (a .h) (a .dealer) (a .wind) (b .best-of .result) (kept b) (c .before .if1 .left))))
+    settled-named (a .h) (a .dealer) (a .wind) _
+    (c .refused2 .ensures ∙ settled-six (a .h) (a .dealer) (a .wind) (b .best-of .result) (kept b) (c .before .if1 .left))))

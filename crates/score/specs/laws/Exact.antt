@@ -26,7 +26,8 @@ module _ (s : List ℕ) (dealer wind : ℕ) where
   by-answer d w (Refused n) e = unread d w n e
   by-answer d w (Sound f) e = read d w f e (named (handOf (readOf s)) dealer wind)
 
-  by-seats : (a b : Bool) → ltb 3 dealer ≡ a → ltb 1 wind ≡ b → IsScore s dealer wind (cond (a || b) (refusedWith 8) (foundBy (readOf s .answer) (handOf (readOf s)) dealer wind))
+  by-seats : (a b : Bool) → ltb 3 dealer ≡ a → ltb 1 wind ≡ b
+      → IsScore s dealer wind (cond (a || b) (refusedWith 8) (foundBy (readOf s .answer) (handOf (readOf s)) dealer wind))
   by-seats true b p q = eight (inl (ltb-true 3 dealer p))
   by-seats false true p q = eight (inr (ltb-true 1 wind q))
   by-seats false false p q = by-answer (ltb-false 3 dealer p) (ltb-false 1 wind q) (readOf s .answer) refl

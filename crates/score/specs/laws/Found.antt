@@ -56,7 +56,7 @@ module _ (of : Reading → Value) (le : (r : Reading) → of r .basic .0 ≤ 800
   unfolding judgeOf
   judge-le b r h = go (withYaku of r && (not (b .valued) || beats (of r) (b .value)))
     where
-      go : (c : Bool) → cond {A = Best} c (record { seen = true; valued = true; value = of r }) (record { seen = true; valued = b .valued; value = b .value }) .value .basic .0 ≤ 8000
+      go : (c : Bool) → cond {A = Best} c (record { seen = true; valued = true; value = of r; reading = r }) (record { seen = true; valued = b .valued; value = b .value; reading = b .reading }) .value .basic .0 ≤ 8000
       go true = le r
       go false = h
 

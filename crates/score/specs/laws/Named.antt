@@ -13,7 +13,7 @@ use Rattle.best.specs.Best.{figures}
 use Rattle.best.specs.laws.Over.{over-same}
 use Rattle.score.specs.declared.Scored.{Scored}
 use Rattle.score.specs.Named.{worth, seatsOf, IsReadingOf, acceptedAs, ReadsWithYaku, IsReported, gainIn, scoredAs, Named, reported, six, seven}
-use Rattle.score.specs.search.Settled.{settledOf}
+use Rattle.score.specs.search.Settled.{keptOf, settledOf}
 use Rattle.score.specs.laws.Best.{over-readings, answers}
 
 -- what comes first in the figures is the gain
@@ -31,8 +31,8 @@ module _ (h : Hand) (dealer wind : ℕ) where
       (λ s v e. let y = k .seen s in by e (seven (y .0) (y .1) (λ r w. absurd (false≢true (sym (k .worthless v r (w .0)) ∙ w .1)))))
       (λ s v e.
       let y = k .best v in
-      by (e ∙ ap (λ (x : Value). acceptedAs x (seatsOf h dealer) (isRon (h .fields))) (y .3))
-      (reported (y .0) (record { yaku = (y .1, y .2); first = λ q w. y .4 q (w .0) (w .1) })))
+      by (e ∙ ap (λ (x : Value). acceptedAs x (seatsOf h dealer) (isRon (h .fields))) (y .2))
+      (reported (keptOf h dealer wind .reading) (record { yaku = (y .0, y .1); first = λ q w. y .3 q (w .0) (w .1) })))
 
   pub only-one : {x y : Scored} → Named h dealer wind x → Named h dealer wind y → x ≡ y
   only-one (reported r a) (reported q b) = ap (scoredAs h dealer wind) (over-same (worth h dealer wind) r q (a .first q (b .yaku)) (b .first r (a .yaku)))

@@ -114,8 +114,10 @@ module _ (x y z w : ℕ) where
       (up-to-four (λ p. p ≤ 4 → WaysAre melds true 0 p) (λ h. refl) (λ h. refl) (λ h. refl) (λ h. refl) (λ h. refl))
       (up-to-four (λ p. p ≤ 3 → WaysAre melds true 1 p) (λ h. refl) (λ h. refl) (λ h. refl) (λ h. refl) (λ h. absurd (omega arith)))
       (up-to-four (λ p. p ≤ 2 → WaysAre melds true 2 p) (λ h. refl) (λ h. refl) (λ h. refl) (λ h. absurd (omega arith)) (λ h. absurd (omega arith)))
-      (up-to-four (λ p. p ≤ 1 → WaysAre melds true 3 p) (λ h. refl) (λ h. refl) (λ h. absurd (omega arith)) (λ h. absurd (omega arith)) (λ h. absurd (omega arith)))
-      (up-to-four (λ p. p ≤ 0 → WaysAre melds true 4 p) (λ h. refl) (λ h. absurd (omega arith)) (λ h. absurd (omega arith)) (λ h. absurd (omega arith)) (λ h. absurd (omega arith)))
+      (up-to-four (λ p. p ≤ 1 → WaysAre melds true 3 p) (λ h. refl) (λ h. refl)
+      (λ h. absurd (omega arith)) (λ h. absurd (omega arith)) (λ h. absurd (omega arith)))
+      (up-to-four (λ p. p ≤ 0 → WaysAre melds true 4 p) (λ h. refl)
+      (λ h. absurd (omega arith)) (λ h. absurd (omega arith)) (λ h. absurd (omega arith)) (λ h. absurd (omega arith)))
 
   by-either : (ron : Bool) (m place : ℕ) → m ≤ 4 → place ≤ 4 - m → WaysAre melds ron m place
   by-either true m place h l = by-ron m h place (omega arith) l
@@ -153,7 +155,8 @@ module _ (h : Hand) (few : h .held .m ≤ 4) (four : length (h .held .melds) ≡
   groups-in r (regular i) =
       ap (λ (g : List ℕ). joined g (tabulate 4 0 (λ k. cond (ltb k (4 - m)) 68 (meldCode (getD (h .held .melds) (k - (4 - m)) 0))))) (i .groups)
       ∙ groups-then-melds m (i .codes) (h .held .melds) few (i .size) (i .order) four
-      ∙ ap (λ (g : List ℕ). g ++ map meldCode (take m (h .held .melds))) (sym (ap (take (4 - m)) (i .groups) ∙ take-at (i .codes) (replicate m 68) (4 - m) (i .size)))
+      ∙ ap (λ (g : List ℕ). g ++ map meldCode (take m (h .held .melds)))
+      (sym (ap (take (4 - m)) (i .groups) ∙ take-at (i .codes) (replicate m 68) (4 - m) (i .size)))
   groups-in r (pairs i) = rw (i .reading) (none-joined (h .held .melds) m (i .closed))
   groups-in r (orphans i) = rw (i .reading) (none-joined (h .held .melds) m (i .closed))
 
@@ -177,7 +180,8 @@ module _ (h : Hand) (few : h .held .m ≤ 4) (four : length (h .held .melds) ≡
   worth-in dealer wind r i = ap (λ (p : Parts). valueOf (wonOf h dealer wind) p (doraOf (h .fields .indicator)) (seatsOf h dealer)) (parts-in dealer wind r i)
 
   -- so that the search keeps the same
-  module _ (dealer wind : ℕ) (t : Setting) (c : List ℕ) (b : Best) (et : t ≡ settingOf h dealer wind) (ec : c ≡ concealedTally h) (eb : b ≡ bestOf (worthIn t) c m (h .fields .winning)) where
+  module _ (dealer wind : ℕ) (t : Setting) (c : List ℕ) (b : Best)
+      (et : t ≡ settingOf h dealer wind) (ec : c ≡ concealedTally h) (eb : b ≡ bestOf (worthIn t) c m (h .fields .winning)) where
     pub kept-in : b ≡ keptOf h dealer wind
     unfolding bestOf keptOf
     kept-in =

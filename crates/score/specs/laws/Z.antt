@@ -1,5 +1,5 @@
 -- Linear arithmetic on ℤ, by way of `omega`: each integer z is read as the difference of two naturals, `up z` and `dn z`.
--- For each sum `a +ℤ b` that a goal speaks of, `add-law a b` is one linear equation; orders, equations and ranges are linear facts. Assumes nothing.
+-- For each sum `a +ℤ b` that a goal speaks of, `add-law a b` is one linear equation; orders, equations and ranges are linear facts.
 use mathlib.Core.Path.{_≡_, refl, ap}
 use mathlib.Core.Bool.{Bool, true, false, cond}
 use mathlib.Core.Logic.{_⊎_, inl, inr, ⊎-elim}

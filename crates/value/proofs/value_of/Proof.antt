@@ -1,4 +1,4 @@
--- `value::value_of` meets its contract. Assumes nothing.
+-- `value::value_of` meets its contract.
 use borrow.Author.Needs.{needs}
 use native.Mathlib.Omega.{arith}
 use Rattle.value.specs.laws.Items.{added-is-fu}

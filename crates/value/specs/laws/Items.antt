@@ -1,4 +1,4 @@
--- The items of fu add up to the fu. Assumes nothing.
+-- The items of fu add up to the fu.
 use mathlib.Core.Path.{_≡_, refl}
 use mathlib.Core.Bool.{Bool, true, false, _&&_, not, cond}
 use Prim.Native.Nat.{ℕ, _+_, _-_, _*_, _/_, _≤_}

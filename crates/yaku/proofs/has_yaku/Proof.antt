@@ -1,4 +1,4 @@
--- `yaku::has_yaku` meets its contract: no yaku below n is listed. Assumes nothing.
+-- `yaku::has_yaku` meets its contract: no yaku below n is listed.
 use Prim.Native.Nat.{_≤_, _-_}
 use mathlib.Core.Path.{_≡_, sym}
 use mathlib.Core.Bool.{false}

@@ -1,4 +1,4 @@
--- `yaku::is_yakuman` meets its contract. Assumes nothing.
+-- `yaku::is_yakuman` meets its contract.
 use borrow.Author.Needs.{needs}
 use Rattle.yaku.specs.Yaku.{isYakuman}
 use Rattle.yaku.proofs.is_yakuman.Statement.{statement}

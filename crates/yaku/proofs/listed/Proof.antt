@@ -1,4 +1,4 @@
--- `yaku::listed` meets its contract. Assumes nothing.
+-- `yaku::listed` meets its contract.
 use borrow.Author.Needs.{needs}
 use mathlib.Core.Path.{sym, _∙_}
 use Rattle.yaku.specs.Yaku.{listed}

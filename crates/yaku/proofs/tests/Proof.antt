@@ -1,4 +1,4 @@
--- `yaku::tests` meets its contract: each place is what its test ensures. Assumes nothing.
+-- `yaku::tests` meets its contract: each place is what its test ensures.
 use mathlib.Core.Path.{refl, ap}
 use borrow.Author.Needs.{needs}
 use Rattle.yaku.specs.search.TileTests.{tileTestsOf}

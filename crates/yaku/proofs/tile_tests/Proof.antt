@@ -1,4 +1,4 @@
--- `yaku::tile_tests` meets its contract: each set is the sort that its name says. Assumes nothing.
+-- `yaku::tile_tests` meets its contract: each set is the sort that its name says.
 use borrow.Author.Needs.{needs}
 use mathlib.Core.Path.{refl, _∙_}
 use Rattle.tiles.specs.Below.{every}

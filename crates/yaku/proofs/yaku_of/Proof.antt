@@ -1,4 +1,4 @@
--- `yaku::yaku_of` meets its contract. Assumes nothing.
+-- `yaku::yaku_of` meets its contract.
 use borrow.Author.Needs.{needs}
 use Rattle.yaku.specs.Yaku.{yakuOf}
 use Rattle.yaku.proofs.yaku_of.Statement.{statement}

@@ -1,4 +1,4 @@
--- The proofs of the claims. Assumes nothing.
+-- The proofs of the claims.
 use mathlib.Core.Path.{_≡_, refl}
 use mathlib.Core.Bool.{true, false, _&&_, not}
 use Prim.Native.Nat.{ℕ, _<_}

@@ -1,4 +1,4 @@
--- Laws of bools and of lists of them. Assumes nothing.
+-- Laws of bools and of lists of them.
 use mathlib.Core.Path.{_≡_, refl}
 use mathlib.Core.Bool.{Bool, true, false, _&&_}
 use mathlib.Core.List.{List, _∷_}

@@ -1,4 +1,4 @@
--- A set of kinds as a number, and a test of each tile by it. Assumes nothing.
+-- A set of kinds as a number, and a test of each tile by it.
 use mathlib.Core.Path.{_≡_, refl}
 use mathlib.Core.Bool.{Bool, true, false, cond, not, _||_}
 use mathlib.Core.List.{List}

@@ -1,4 +1,4 @@
--- `value::fu_items::added` meets its contract. Assumes nothing.
+-- `value::fu_items::added` meets its contract.
 use native.Mathlib.Omega.{arith}
 use Rattle.value.specs.Fu.{added}
 use Rattle.value.proofs.fu_items.added.Statement.{statement}

@@ -1,4 +1,4 @@
--- `value::fu_items::earned` meets its contract: each item is what its function ensures. Assumes nothing.
+-- `value::fu_items::earned` meets its contract: each item is what its function ensures.
 use borrow.Author.Needs.{needs}
 use native.Mathlib.Omega.{arith}
 use Rattle.value.specs.Fu.{earned, added}

@@ -1,4 +1,4 @@
--- `value::fu_items::fu_if` meets its contract. Assumes nothing.
+-- `value::fu_items::fu_if` meets its contract.
 use borrow.Author.Needs.{needs}
 use borrow.Author.Needs.{needs}
 use Rattle.value.proofs.fu_items.fu_if.Statement.{statement}

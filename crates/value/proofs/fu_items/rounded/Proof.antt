@@ -1,4 +1,4 @@
--- `value::fu_items::rounded` meets its contract. Assumes nothing.
+-- `value::fu_items::rounded` meets its contract.
 use borrow.Author.Needs.{needs}
 use native.Mathlib.Omega.{arith}
 use mathlib.Core.Path.{_≡_}

@@ -1,4 +1,4 @@
--- `value::fu_items::triplet_fu` meets its contract: each return is the case that its tests say. Assumes nothing.
+-- `value::fu_items::triplet_fu` meets its contract: each return is the case that its tests say.
 use borrow.Author.Needs.{needs}
 use borrow.Author.Tests.{eq-eqb, ne-eqb}
 use Rattle.value.specs.Fu.{tripletFu}

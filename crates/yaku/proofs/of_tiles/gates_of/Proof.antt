@@ -1,4 +1,4 @@
--- `yaku::of_tiles::gates_of` meets its contract. Assumes nothing.
+-- `yaku::of_tiles::gates_of` meets its contract.
 use borrow.Author.Needs.{needs}
 use native.Mathlib.Nat.{add-zero}
 use Rattle.yaku.proofs.of_tiles.gates_of.Statement.{statement}

@@ -1,4 +1,4 @@
--- `yaku::of_tiles::half_flush` meets its contract: the sets are a suit with the honours, the numbers, the honours. Assumes nothing.
+-- `yaku::of_tiles::half_flush` meets its contract: the sets are a suit with the honours, the numbers, the honours.
 use mathlib.Core.Bool.{_||_}
 use borrow.Author.Needs.{needs}
 use mathlib.Core.Path.{refl, _∙_}

@@ -1,4 +1,4 @@
--- `yaku::of_tiles::only` meets its contract: each kind below k passed the test. Assumes nothing.
+-- `yaku::of_tiles::only` meets its contract: each kind below k passed the test.
 use Prim.Native.Nat.{_≤_, _-_}
 use mathlib.Core.Path.{_≡_, sym}
 use mathlib.Core.Bool.{true, _||_}
