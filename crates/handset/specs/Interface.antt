@@ -1,9 +1,12 @@
 -- What the exported calls give where the proved one answers by an enum or by a part (01, "The form each place takes": "a definition gives this paper's number and values for each of its cases").
+use mathlib.Core.Path.{_≡_}
 use mathlib.Core.Bool.{false}
 use mathlib.Core.List.{List, [], _∷_}
 use Prim.Native.Nat.{ℕ, _/_, _%_}
 use lib.Dec.{eqb}
 use lib.ListN.{length}
+use Rattle.ledger.specs.declared.Game.{Game}
+use Rattle.text.specs.Text.{lineOf, lengthIn, bufferWith}
 use Rattle.log.specs.Kinds.{letterOf}
 use Rattle.log.specs.Log.{partAt, refusalAt}
 use Rattle.handset.specs.declared.NextEntry.{NextEntry}
@@ -16,3 +19,9 @@ nextEntryBy (header ∷ rest) refusal = record { refusal = 0; end = false; kind 
 -- Next entry at an offset
 unfoldable pub nextEntryOf : List ℕ → ℕ → NextEntry
 nextEntryOf log at = nextEntryBy (partAt log at) (refusalAt log at)
+
+-- a line of `tally` at the start of a buffer: how many bytes come back, and what the buffer then holds
+abbrev pub Lined : Game → List ℕ → ℕ → ℕ → ℕ → ℕ → List ℕ → Type 0
+Lined g buf entry letter refusal n out =
+    let line = lineOf entry letter refusal (g .scores) (g .sticks) in
+    (n ≡ lengthIn buf line) × (out ≡ bufferWith buf line)

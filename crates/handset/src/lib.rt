@@ -9,9 +9,8 @@ ghost use Rattle.score.specs.Score.{scoreOf};
 ghost use Rattle.ledger.specs.Booking as Booking;
 ghost use Rattle.ledger.specs.Ledger.{fresh};
 ghost use Rattle.ledger.specs.Runs.{Booked};
-ghost use Rattle.text.specs.Text.{lineOf, lengthIn, bufferWith};
 ghost use Rattle.play.specs.Play.{BookedPart, started, textLeft, linesOf};
-ghost use Rattle.handset.specs.Interface.{nextEntryOf};
+ghost use Rattle.handset.specs.Interface.{nextEntryOf, Lined};
 use ledger::Game;
 use hand::Hand;
 use hand_record::ReadHand;
@@ -162,12 +161,18 @@ pub extern "C" fn hb_lines(w: Walk, s: &[u8], buf: &mut [u8]) -> Printed
     play::lines(w, s, buf)
 }
 
-// A line of `tally` at the start of a buffer, or nothing where it does not fit: an entry's number, letter and refusal, and the game's scores and sticks.
-#[no_mangle]
-pub extern "C" fn hb_line(buf: &mut [u8], entry: u32, letter: u8, refusal: u8, g: Game) -> usize
-    ensures { λ r. ⌜ r ≡ lengthIn (now (buf .entry)) (lineOf entry letter refusal (g .scores) (g .sticks)) ⌝ }
-    ensures { λ _. ⌜ now (buf .exit) ≡ bufferWith (now (buf .entry)) (lineOf entry letter refusal (g .scores) (g .sticks)) ⌝ }
+// A line from a game by value.
+fn line_of(g: Game, buf: &mut [u8], entry: u32, letter: u8, refusal: u8) -> usize
+    ensures { λ r. ⌜ Lined g (now (buf .entry)) entry letter refusal r (now (buf .exit)) ⌝ }
 {
     let scores = g.scores;
     text::line(buf, entry, letter, refusal, scores, g.sticks)
+}
+
+// A line of `tally` at the start of a buffer, or nothing where it does not fit: an entry's number, letter and refusal, and the lent game's scores and sticks.
+#[no_mangle]
+pub extern "C" fn hb_line(g: &Game, buf: &mut [u8], entry: u32, letter: u8, refusal: u8) -> usize
+    ensures { λ r. ⌜ Lined (now (g .entry)) (now (buf .entry)) entry letter refusal r (now (buf .exit)) ⌝ }
+{
+    line_of(*g, buf, entry, letter, refusal)
 }
