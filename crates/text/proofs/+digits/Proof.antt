@@ -1,4 +1,4 @@
--- `text::digits` meets its contract, by recursion: the number falls. Assumes nothing.
+-- `text::digits` meets its contract, by recursion: the number falls.
 use mathlib.Core.Path.{_∙_}
 use Prim.Native.Nat.{ℕ, _+_, _<_, _%_}
 use native.Mathlib.Omega.{arith}

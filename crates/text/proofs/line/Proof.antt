@@ -1,4 +1,4 @@
--- `text::line` meets its contract: the line is made apart and copied where there is room for it. Assumes nothing.
+-- `text::line` meets its contract: the line is made apart and copied where there is room for it.
 use mathlib.Core.Path.{_≡_, _∙_}
 use native.Mathlib.Omega.{arith}
 use lib.ListN.{length, take}

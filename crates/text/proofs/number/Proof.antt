@@ -1,4 +1,4 @@
--- `text::number` meets its contract: a number of 32 bits has at most ten digits. Assumes nothing.
+-- `text::number` meets its contract: a number of 32 bits has at most ten digits.
 use native.Mathlib.Omega.{arith}
 use borrow.Author.Needs.{needs}
 use Rattle.text.specs.laws.Digits.{length-digits-32}

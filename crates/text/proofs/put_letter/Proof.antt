@@ -1,4 +1,4 @@
--- `text::put_letter` meets its contract. Assumes nothing.
+-- `text::put_letter` meets its contract.
 use mathlib.Core.Path.{refl}
 use native.Mathlib.Numerals.{add-one}
 use native.Mathlib.Omega.{arith}

@@ -1,4 +1,4 @@
--- `text::put_line` meets its contract: its parts are put one after the other. Assumes nothing.
+-- `text::put_line` meets its contract: its parts are put one after the other.
 use native.Mathlib.Omega.{arith}
 use borrow.Author.Needs.{needs}
 use Rattle.text.specs.laws.Put.{put-then, line-parts}

@@ -1,4 +1,4 @@
--- `text::put_scores` meets its contract. Assumes nothing.
+-- `text::put_scores` meets its contract.
 use Prim.Native.Nat.{ℕ}
 use native.Mathlib.Omega.{arith}
 use lib.ListN.{getD}

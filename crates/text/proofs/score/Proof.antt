@@ -1,4 +1,4 @@
--- `text::score` meets its contract: a score has at most ten digits and a minus. Assumes nothing.
+-- `text::score` meets its contract: a score has at most ten digits and a minus.
 use native.Mathlib.Omega.{arith}
 use mir.Facts.{toZ-ofZ}
 use borrow.Author.Needs.{needs}

@@ -1,4 +1,4 @@
--- `text::signed` meets its contract. Assumes nothing.
+-- `text::signed` meets its contract.
 use mathlib.Core.Path.{_≡_, ap, _∙_}
 use mathlib.Core.List.{_∷_}
 use native.Mathlib.Omega.{arith}

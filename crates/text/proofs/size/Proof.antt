@@ -1,4 +1,4 @@
--- `text::size` meets its contract. Assumes nothing.
+-- `text::size` meets its contract.
 use mathlib.Core.Path.{_≡_}
 use mathlib.Core.Bool.{true}
 use lib.IntN.{pos}

@@ -1,4 +1,4 @@
--- Digits read back: by strong induction, a number after its tenth. Assumes nothing.
+-- Digits read back: by strong induction, a number after its tenth.
 use mathlib.Core.Path.{_≡_, refl}
 use mathlib.Core.Bool.{Bool, true, false}
 use mathlib.Core.List.{List, [], _∷_, _++_}

@@ -1,4 +1,4 @@
--- The digits of a number one by one, how many there are, and that they read back. Assumes nothing.
+-- The digits of a number one by one, how many there are, and that they read back.
 use mathlib.Core.Path.{_≡_, refl, ap}
 use mathlib.Core.Bool.{Bool, true, false, cond}
 use mathlib.Core.List.{List, [], _∷_, _++_}

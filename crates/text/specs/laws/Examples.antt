@@ -1,4 +1,4 @@
--- Document 01's two lines, and a negative score. Assumes nothing.
+-- Document 01's two lines, and a negative score.
 use mathlib.Core.Path.{_≡_, refl}
 use mathlib.Core.List.{[], _∷_}
 use lib.IntN.{pos, negsuc}

@@ -1,4 +1,4 @@
--- Texts put into a buffer one after the other. Assumes nothing.
+-- Texts put into a buffer one after the other.
 use mathlib.Core.Path.{_≡_, refl}
 use mathlib.Core.List.{List, [], _∷_, _++_, append-assoc}
 use Prim.Native.Nat.{ℕ, _+_, _/_, _%_, _≤_, _<_}

@@ -1,4 +1,4 @@
--- The size of an `i32`, as the machine makes it: the number as 64 bits, taken from 0, and cast to a `u32`. Assumes nothing.
+-- The size of an `i32`, as the machine makes it: the number as 64 bits, taken from 0, and cast to a `u32`.
 use mathlib.Core.Path.{_≡_}
 use mathlib.Core.Bool.{true, false}
 use Prim.Native.Nat.{ℕ}
