@@ -178,8 +178,22 @@ typedef struct {
     uint8_t refusal;
     bool end;
     uint8_t kind, argument;
-    size_t length;  /* of the entry, its header included */
+    uint8_t letter;  /* of the entry's line: HB_LETTER_* */
+    size_t length;   /* of the entry, its header included */
 } HbNextEntry;
+
+/* Where a walk over a log stands: the game so far, and the offset and the number (from 1) of the next entry. */
+typedef struct {
+    HbGame game;
+    size_t at;
+    uint32_t entry;
+} HbWalk;
+
+/* Lines written into a buffer: how many bytes they are, and where the walk then stands. */
+typedef struct {
+    size_t written;
+    HbWalk walk;
+} HbPrinted;
 
 /* Read. The hand of a sound record; refusals 1 to 5 in order. */
 HbReadHand hb_read(const uint8_t *record, size_t record_len);
@@ -211,9 +225,22 @@ uint8_t hb_chombo(HbGame *game, uint8_t seat);
  * header byte log[at]; the next offset is at + length. From the log's end on: end. Refusal 14 ends the walk. */
 HbNextEntry hb_next(const uint8_t *log, size_t log_len, size_t at);
 
+/* Books the entry that part begins with, such as log + at with the length that hb_next gave: its booking's refusal and the
+ * game updated, or 14 and the game left where part begins with no whole entry. Refusals of an entry: 14; of a riichi 8, 9, 10,
+ * a win 9, 2 to 7, 11, a draw 8, 9, 12, a chombo 8, 9, in order. */
+uint8_t hb_book(HbGame *game, const uint8_t *part, size_t part_len);
+
+/* A walk before a log's first entry, with a fresh game. */
+HbWalk hb_start(void);
+
+/* Books the entries of a log from where walk stands, refused or not, and writes their lines of tally into buf, as many whole
+ * lines as fit, one after the other. The text is whole when written is 0 in a buffer of HB_LINE_MAX bytes or more; bytes past
+ * written stay. Call it again with the walk that it gives. tally reads the first HB_LOG_MAX bytes of a log. */
+HbPrinted hb_lines(HbWalk walk, const uint8_t *log, size_t log_len, uint8_t *buf, size_t buf_len);
+
 /* A line of tally at the start of buf, its line feed included, no zero byte after it: entry (from 1), letter, refusal,
  * the game's four scores and its sticks. Gives its length, or 0 with buf unchanged where it does not fit. */
-size_t hb_line(uint8_t *buf, size_t buf_len, uint32_t entry, uint8_t letter, uint8_t refusal, HbGame game);
+size_t hb_line(const HbGame *game, uint8_t *buf, size_t buf_len, uint32_t entry, uint8_t letter, uint8_t refusal);
 
 #ifdef __cplusplus
 }
