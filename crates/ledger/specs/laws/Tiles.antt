@@ -9,7 +9,8 @@ use borrow.Author.Tests.{ltb-false}
 use lib.Dec.{ltb}
 use lib.IntN.{ℤ, pos, _+ℤ_, +ℤ-assoc}
 use lib.ListN.{getD}
-use Rattle.hand_record.specs.Claims.{IsSound, sound}
+use Rattle.hand_record.specs.Record.{IsSound}
+use Rattle.hand_record.specs.Claims.{sound}
 use Rattle.reading.specs.declared.Reading.{Reading}
 use Rattle.score.specs.declared.Scored.{Scored}
 use Rattle.score.specs.Named.{Named, scoredAs}

@@ -2,8 +2,8 @@
 use Prim.Native.Nat.{ℕ, _≤_, _<_}
 use mathlib.Core.Path.{_≡_, refl, sym, _∙_, subst}
 use mathlib.Core.List.{List}
-use Rattle.hand_record.specs.Record.{refusalIn, handOf, readOf}
-use Rattle.hand_record.specs.Claims.{IsSound, sound}
+use Rattle.hand_record.specs.Record.{refusalIn, handOf, readOf, IsSound}
+use Rattle.hand_record.specs.Claims.{sound}
 use Rattle.score.specs.declared.Scored.{Scored}
 use Rattle.score.specs.Named.{refusedWith, Named}
 use Rattle.score.specs.IsScore.{IsScore}
