@@ -64,11 +64,11 @@ class Count:
         return [(i, self.citers(i)) for i in self.tree.items("specs") if i.kind != "theorem" and id(i) not in self.reached]
 
     def astray(self):
-        """Imports from this tree that name nothing in it, so that nothing is left out unseen."""
+        """Imports from this tree that name no definition, theorem or struct in it (constants and functions apart), so that nothing is left out unseen."""
         for f in self.tree.files.values():
             for name, (module, there) in f.imports.items():
-                here = module.startswith("Rattle·") or module.split("::")[0] in self.tree.crates
-                if here and not self.tree.in_module(module, there):
+                of_code = module.split("::")[0] in self.tree.crates and there[0].isupper() and not there.isupper()
+                if (module.startswith("Rattle·") or of_code) and not self.tree.in_module(module, there):
                     yield f"{f.path}: {name} from {module}"
 
     def searchers(self):
