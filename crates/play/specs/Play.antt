@@ -1,6 +1,6 @@
 -- A log booked into a game (01, Log): its bookings, one entry booked, and the text that program `tally` prints.
 use mathlib.Core.Path.{_≡_}
-use mathlib.Core.Bool.{false, _||_, cond}
+use mathlib.Core.Bool.{_||_, cond}
 use mathlib.Core.List.{List, [], _∷_, _++_, map}
 use Prim.Native.Nat.{ℕ, _+_}
 use lib.Dec.{ltb, eqb}
@@ -31,9 +31,9 @@ bookingsOf log = map bookingOf (partsOf log)
 
 -- ---- an entry booked
 
--- no entry: "end", or 14
+-- no entry: 0 at "end", or 14
 abbrev pub noEntry : ℕ → BookedEntry
-noEntry refusal = record { refusal = refusal; end = eqb refusal 0; letter = 0; length = 0 }
+noEntry refusal = record { refusal = refusal; letter = 0; length = 0 }
 
 -- the part that Next entry hands back, booked; the game as it was where that part is empty
 abbrev pub stepBy : List ℕ → ℕ → Game → Step
@@ -41,7 +41,7 @@ stepBy [] refusal g = record { entry = noEntry refusal; game = g }
 stepBy (header ∷ rest) refusal g =
     let part = header ∷ rest in
     let b = bookingOf part in
-    record { entry = record { refusal = refusalFor g b; end = false; letter = letterOf (kindIn part); length = length part }; game = after g b }
+    record { entry = record { refusal = refusalFor g b; letter = letterOf (kindIn part); length = length part }; game = after g b }
 
 -- what Next entry gives at an offset, booked
 unfoldable pub stepOf : Game → List ℕ → ℕ → Step

@@ -10,11 +10,9 @@ use ledger::Game;
 use game::Outcome;
 
 // An entry booked: its refusal, its letter and its length, header included. Where there is no entry the letter and the length are 0,
-// and either `end` is set or the refusal is 14.
-#[repr(C)]
+// and the refusal is 0 at the log's end and 14 otherwise.
 pub struct BookedEntry {
     pub refusal: u8,
-    pub end: bool,
     pub letter: u8,
     pub length: usize,
 }
@@ -41,13 +39,12 @@ fn book(g: Game, kind: u8, argument: u8, s: &[u8]) -> Outcome
     game::chombo(g, argument)
 }
 
-// No entry: the game stays, and a refusal of 0 means the log's end.
+// No entry: the game stays.
 fn no_entry(g: Game, refusal: u8) -> Step
     ensures { λ r. ⌜ r ≡ record { entry = noEntry refusal; game = g } ⌝ }
 {
     let entry = BookedEntry {
         refusal,
-        end: refusal == 0,
         letter: 0,
         length: 0,
     };
@@ -68,7 +65,6 @@ pub fn book_at(g: Game, s: &[u8], at: usize) -> Step
     let b = book(g, kind, log::argument(header), &part[1..end]);
     let entry = BookedEntry {
         refusal: b.refusal,
-        end: false,
         letter: log::letter(kind),
         length: end,
     };

@@ -1,6 +1,5 @@
 -- An entry booked, and what it is of the log's text.
 use mathlib.Core.Path.{_≡_, refl, sym, ap, _∙_}
-use mathlib.Core.Bool.{false}
 use mathlib.Core.List.{List, [], _∷_, _++_}
 use Prim.Native.Nat.{ℕ, zero, suc, _+_, _-_, _≤_, _<_}
 use native.Mathlib.Omega.{arith}
@@ -20,7 +19,7 @@ by-none : (part : List ℕ) (refusal : ℕ) (g : Game) → length part ≡ 0 →
 by-none [] refusal g e = refl
 by-none (x ∷ part) refusal g e = absurd (omega arith)
 
-by-some : (part : List ℕ) (refusal : ℕ) (g : Game) → 0 < length part → stepBy part refusal g ≡ record { entry = record { refusal = refusalFor g (bookingOf part); end = false; letter = letterOf (kindIn part); length = length part }; game = after g (bookingOf part) }
+by-some : (part : List ℕ) (refusal : ℕ) (g : Game) → 0 < length part → stepBy part refusal g ≡ record { entry = record { refusal = refusalFor g (bookingOf part); letter = letterOf (kindIn part); length = length part }; game = after g (bookingOf part) }
 by-some [] refusal g h = absurd (omega arith)
 by-some (x ∷ part) refusal g h = refl
 
@@ -29,7 +28,7 @@ module _ (g : Game) (log : List ℕ) (at : ℕ) where
   part = partAt log at
 
   abbrev booked : Step
-  booked = record { entry = record { refusal = refusalFor g (bookingOf part); end = false; letter = letterOf (kindIn part); length = length part }; game = after g (bookingOf part) }
+  booked = record { entry = record { refusal = refusalFor g (bookingOf part); letter = letterOf (kindIn part); length = length part }; game = after g (bookingOf part) }
 
   pub step-none : length part ≡ 0 → stepOf g log at ≡ record { entry = noEntry (refusalAt log at); game = g }
   unfolding stepOf
@@ -40,7 +39,7 @@ module _ (g : Game) (log : List ℕ) (at : ℕ) where
   step-some h = by-some part (refusalAt log at) g h
 
   -- as the code has it: the record is a stretch of the part
-  pub step-entry : (s : List ℕ) → s ≡ part → (length s ≡ 0 → ⊥) → (k a y : ℕ) → k ≡ kindIn s → a ≡ argumentIn s → y ≡ letterOf k → (x : ℕ) (h : Game) → Booked g (bookingBy k a (take (length s - 1) (drop 1 s))) x h → record { entry = record { refusal = x; end = false; letter = y; length = length s }; game = h } ≡ stepOf g log at
+  pub step-entry : (s : List ℕ) → s ≡ part → (length s ≡ 0 → ⊥) → (k a y : ℕ) → k ≡ kindIn s → a ≡ argumentIn s → y ≡ letterOf k → (x : ℕ) (h : Game) → Booked g (bookingBy k a (take (length s - 1) (drop 1 s))) x h → record { entry = record { refusal = x; letter = y; length = length s }; game = h } ≡ stepOf g log at
   unfolding bookingOf
   step-entry s e l k a y ek ea ey x h b =
       let c = rw (from-on 1 s, ek, ea) at b in
