@@ -6,8 +6,8 @@ ghost use lib.ListN.{length, take, drop};
 ghost use Rattle.ledger.specs.Runs.{Booked};
 ghost use Rattle.text.specs.Text.{lengthIn, bufferWith};
 ghost use Rattle.play.specs.Play.{bookingBy, noEntry, stepOf, BookedPart, entryLine, started, textLeft, linesOf};
-use ledger::Game;
 use game::Outcome;
+use ledger::Game;
 
 // An entry booked: its refusal, its letter and its length, header included. Where there is no entry the letter and the length are 0,
 // and the refusal is 0 at the log's end and 14 otherwise.
