@@ -24,10 +24,10 @@ fn length(rng: &mut Rng) -> usize {
 }
 
 /// Compares the lines from where a walk stands, to the last byte, behind it, and where the walk then stands: as many whole
-/// lines as fit. Gives the text.
+/// lines as fit. Gives the archive's text.
 pub fn compare(report: &mut Report, rng: &mut Rng, from: Walk, log: &[u8]) -> String {
     let lines = same::lines(from, log);
-    let (mut walk, mut left, mut text) = (from, lines.as_slice(), String::new());
+    let (mut walk, mut left, mut text) = (from, lines.as_slice(), Vec::new());
     let any: Vec<u8> = (0..LONGEST + BEHIND).map(|_| rng.next() as u8).collect();
     loop {
         let length = length(rng);
@@ -37,15 +37,15 @@ pub fn compare(report: &mut Report, rng: &mut Rng, from: Walk, log: &[u8]) -> St
         while let Some(((line, after), rest)) = left.split_first().filter(|((line, _), _)| written + line.len() <= length) {
             other[written..written + line.len()].copy_from_slice(line.as_bytes());
             written += line.len();
-            text += line;
             (walk, left) = (*after, rest);
         }
+        text.extend_from_slice(&archive[..got.written.min(length)]);
         report.count("buffers of lines (1 some, 0 none)", written > 0);
         report.same("the lines of a buffer", (got, archive), (archive::Printed { written, walk }, other), || {
             format!("{before:?}, buffer of {length}, log {}", hex(log))
         });
         if length >= LINE_MAX && written == 0 {
-            return text;
+            return String::from_utf8_lossy(&text).into_owned();
         }
     }
 }
