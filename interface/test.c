@@ -28,6 +28,7 @@ static void sizes(void)
     CHECK(sizeof(bool) == 1 && sizeof(size_t) == 8);
     CHECK(HB_RECORD_LENGTH(0) == 13 && HB_RECORD_LENGTH(1) == 12 && HB_RECORD_LENGTH(2) == 11);
     CHECK(HB_RECORD_LENGTH(3) == 10 && HB_RECORD_LENGTH(4) == 8);
+    CHECK(sizeof(HbGame) == 28 && sizeof(HbWalk) == 48 && sizeof(HbPrinted) == 56);
 }
 
 /* A line of document 01's table: its number, record and score. Points, and h and fu where the table gives them, are the
@@ -266,14 +267,37 @@ static int is_game(const HbGame *game, const int32_t *scores, uint32_t sticks, u
         && game->wind == wind && game->hands == hands;
 }
 
-/* Each booking made once on a copy of a game; whether all of them give this refusal and leave every byte. */
+/* The entry of a win by line 1, with other bytes after it. */
+static const uint8_t win_entry[16] =
+    {0x10, 0xb8, 0x1e, 0x64, 0x02, 0x10, 0x62, 0x0a, 0x31, 0x66, 0x1a, 0x9a, 0x6b, 0xb0, 0x00, 0x00};
+
+/* An entry of one byte, booked. */
+static uint8_t book_byte(HbGame *game, uint8_t header)
+{
+    uint8_t *part = exact(&header, 1);
+    uint8_t refusal = hb_book(game, part, 1);
+    free(part);
+    return refusal;
+}
+
+/* An entry of a win by a record, booked. */
+static uint8_t book_win(HbGame *game, const uint8_t *record, size_t length)
+{
+    uint8_t *part = exact(win_entry, 1 + length);
+    memcpy(part + 1, record, length);
+    uint8_t refusal = hb_book(game, part, 1 + length);
+    free(part);
+    return refusal;
+}
+
+/* Each booking made once on a copy of a game, and each as an entry; whether all give this refusal and leave every byte. */
 static int all_refused(const HbGame *game, uint8_t refusal)
 {
     HbGame copy = *game;
-    int same = hb_riichi(&copy, 0) == refusal;
-    same = same && hb_win(&copy, table[0].record, 13) == refusal;
-    same = same && hb_draw(&copy, 15) == refusal;
-    same = same && hb_chombo(&copy, 0) == refusal;
+    int same = hb_riichi(&copy, 0) == refusal && book_byte(&copy, 0x00) == refusal;
+    same = same && hb_win(&copy, table[0].record, 13) == refusal && book_win(&copy, table[0].record, 13) == refusal;
+    same = same && hb_draw(&copy, 15) == refusal && book_byte(&copy, 0x2f) == refusal;
+    same = same && hb_chombo(&copy, 0) == refusal && book_byte(&copy, 0x30) == refusal;
     return same && memcmp(&copy, game, sizeof copy) == 0;
 }
 
@@ -391,10 +415,17 @@ static void ends(void)
 }
 
 /* Whether an entry has these values. */
-static int is_entry(HbNextEntry entry, uint8_t refusal, bool end, uint8_t kind, uint8_t argument, size_t length)
+static int is_entry(HbNextEntry entry, uint8_t kind, uint8_t argument, uint8_t letter, size_t length)
 {
-    return entry.refusal == refusal && entry.end == end && entry.kind == kind && entry.argument == argument
+    return entry.refusal == 0 && !entry.end && entry.kind == kind && entry.argument == argument && entry.letter == letter
         && entry.length == length;
+}
+
+/* Whether there is no entry: the end, or a refusal, with all else zero. */
+static int no_entry(HbNextEntry entry, uint8_t refusal)
+{
+    return entry.refusal == refusal && entry.end == (refusal == 0) && entry.kind == 0 && entry.argument == 0
+        && entry.letter == 0 && entry.length == 0;
 }
 
 /* Entries of a log, the end, and each way to refusal 14. */
@@ -403,66 +434,307 @@ static void entries(void)
     uint8_t log[15] = {0x10};
     memcpy(log + 1, table[0].record, 13);
     log[14] = 0x32;
-    CHECK(is_entry(hb_next(log, 15, 0), 0, false, HB_KIND_WIN, 0, 14));
-    CHECK(is_entry(hb_next(log, 15, 14), 0, false, HB_KIND_CHOMBO, 2, 1));
-    CHECK(is_entry(hb_next(log, 15, 15), 0, true, 0, 0, 0));
-    CHECK(is_entry(hb_next(log, 15, 16), 0, true, 0, 0, 0));
-    CHECK(is_entry(hb_next(log, 15, SIZE_MAX), 0, true, 0, 0, 0));
+    CHECK(is_entry(hb_next(log, 15, 0), HB_KIND_WIN, 0, HB_LETTER_WIN, 14));
+    CHECK(is_entry(hb_next(log, 15, 14), HB_KIND_CHOMBO, 2, HB_LETTER_CHOMBO, 1));
+    for (int argument = 0; argument < 16; argument++) {
+        uint8_t small[] = {(uint8_t)argument, (uint8_t)(0x20 + argument), (uint8_t)(0x30 + argument)};
+        CHECK_CASE(argument, is_entry(hb_next(small, 3, 0), HB_KIND_RIICHI, (uint8_t)argument, HB_LETTER_RIICHI, 1));
+        CHECK_CASE(argument, is_entry(hb_next(small, 3, 1), HB_KIND_DRAW, (uint8_t)argument, HB_LETTER_DRAW, 1));
+        CHECK_CASE(argument, is_entry(hb_next(small, 3, 2), HB_KIND_CHOMBO, (uint8_t)argument, HB_LETTER_CHOMBO, 1));
+    }
+    CHECK(no_entry(hb_next(log, 15, 15), 0));
+    CHECK(no_entry(hb_next(log, 15, 16), 0));
+    CHECK(no_entry(hb_next(log, 15, SIZE_MAX), 0));
     for (size_t length = 1; length < 14; length++) {
         uint8_t *cut = exact(log, length);
-        CHECK_CASE(length, is_entry(hb_next(cut, length, 0), HB_REFUSAL_ENTRY, false, 0, 0, 0));
+        CHECK_CASE(length, no_entry(hb_next(cut, length, 0), HB_REFUSAL_ENTRY));
         free(cut);
     }
     for (int kind = 4; kind < 16; kind++) {
         log[0] = (uint8_t)(16 * kind);
-        CHECK_CASE(kind, is_entry(hb_next(log, 15, 0), HB_REFUSAL_ENTRY, false, 0, 0, 0));
+        CHECK_CASE(kind, no_entry(hb_next(log, 15, 0), HB_REFUSAL_ENTRY));
     }
     for (int argument = 1; argument < 16; argument++) {
         log[0] = (uint8_t)(0x10 + argument);
-        CHECK_CASE(argument, is_entry(hb_next(log, 15, 0), HB_REFUSAL_ENTRY, false, 0, 0, 0));
+        CHECK_CASE(argument, no_entry(hb_next(log, 15, 0), HB_REFUSAL_ENTRY));
     }
     log[0] = 0x10;
     log[3] = 0x66, log[4] = 0x82; /* m 5 */
-    CHECK(is_entry(hb_next(log, 15, 0), HB_REFUSAL_ENTRY, false, 0, 0, 0));
+    CHECK(no_entry(hb_next(log, 15, 0), HB_REFUSAL_ENTRY));
 }
 
-/* Books a log; its lines go to text, which holds every line; gives the text's length. */
-static size_t tally(const uint8_t *log, size_t length, uint8_t *text)
+/* Whether booking an entry of a log does to a game what a booking did: the refusal, and each byte of the game. */
+static int books_as(const uint8_t *part, size_t length, HbGame game, uint8_t refusal, HbGame after)
 {
-    HbGame game = hb_fresh();
-    size_t at = 0, used = 0;
-    for (uint32_t number = 1;; number++) {
-        HbNextEntry entry = hb_next(log, length, at);
-        if (entry.refusal || entry.end)
-            return used;
-        uint8_t refusal, letter;
-        switch (entry.kind) {
-        case HB_KIND_RIICHI: letter = HB_LETTER_RIICHI, refusal = hb_riichi(&game, entry.argument); break;
-        case HB_KIND_WIN: letter = HB_LETTER_WIN, refusal = hb_win(&game, log + at + 1, entry.length - 1); break;
-        case HB_KIND_DRAW: letter = HB_LETTER_DRAW, refusal = hb_draw(&game, entry.argument); break;
-        default: letter = HB_LETTER_CHOMBO, refusal = hb_chombo(&game, entry.argument); break;
+    uint8_t got = hb_book(&game, part, length);
+    return got == refusal && memcmp(&game, &after, sizeof game) == 0;
+}
+
+/* Each kind of entry booked: what its booking gives, in a fresh game, with a riichi declared, and over. */
+static void booked_entries(void)
+{
+    HbGame games[3] = {hb_fresh(), hb_fresh(), hb_fresh()};
+    uint8_t riichi_entry[14] = {0x10};
+    memcpy(riichi_entry + 1, with_riichi, 13);
+    CHECK(hb_riichi(&games[1], 1) == 0);
+    games[2].over = 1;
+    for (size_t n = 0; n < 3; n++) {
+        HbGame after;
+        uint8_t refusal;
+        for (uint8_t argument = 0; argument < 16; argument++) {
+            uint8_t header[] = {argument, (uint8_t)(0x20 + argument), (uint8_t)(0x30 + argument)};
+            after = games[n], refusal = hb_riichi(&after, argument);
+            CHECK_CASE(argument, books_as(header, 1, games[n], refusal, after));
+            after = games[n], refusal = hb_draw(&after, argument);
+            CHECK_CASE(argument, books_as(header + 1, 1, games[n], refusal, after));
+            after = games[n], refusal = hb_chombo(&after, argument);
+            CHECK_CASE(argument, books_as(header + 2, 1, games[n], refusal, after));
         }
-        used += hb_line(text + used, HB_LINE_MAX, number, letter, refusal, game);
-        at += entry.length;
+        after = games[n], refusal = hb_win(&after, table[0].record, 13);
+        CHECK_CASE(n, books_as(win_entry, 14, games[n], refusal, after));
+        CHECK_CASE(n, books_as(win_entry, 16, games[n], refusal, after)); /* the first entry of several */
+        after = games[n], refusal = hb_win(&after, with_riichi, 13);
+        CHECK_CASE(n, books_as(riichi_entry, 14, games[n], refusal, after));
     }
+    CHECK(books_as(win_entry, 14, games[1], HB_REFUSAL_RIICHI, games[1]));
+    CHECK(book_byte(&games[1], 0x01) == HB_REFUSAL_DECLARED && book_byte(&games[1], 0x2b) == HB_REFUSAL_NOT_READY);
+    CHECK(book_byte(&games[1], 0x04) == HB_REFUSAL_ARGUMENT && book_byte(&games[1], 0x3f) == HB_REFUSAL_ARGUMENT);
+    CHECK(book_byte(&games[2], 0x04) == HB_REFUSAL_ARGUMENT && book_byte(&games[2], 0x20) == HB_REFUSAL_NOT_OPEN);
+}
+
+/* Entries whose record is refused, and each way to refusal 14, in an open game and one that is over, with any marks. */
+static void refused_entries(void)
+{
+    HbGame fresh = hb_fresh(), game = fresh, over = fresh;
+    for (size_t n = 0; n < COUNT_OF(unsound); n++) {
+        size_t length;
+        uint8_t *record = unsound_record(n, &length);
+        uint8_t wanted = unsound[n].refusal == HB_REFUSAL_LENGTH ? HB_REFUSAL_ENTRY : unsound[n].refusal;
+        CHECK_CASE(n, book_win(&game, record, length) == wanted && memcmp(&game, &fresh, sizeof game) == 0);
+        free(record);
+    }
+    CHECK(book_win(&game, table[6].record, 12) == HB_REFUSAL_NO_YAKU && memcmp(&game, &fresh, sizeof game) == 0);
+    CHECK(book_win(&game, table[9].record, 13) == HB_REFUSAL_NO_READING && memcmp(&game, &fresh, sizeof game) == 0);
+
+    over.over = 0x80, over.declared[0] = 3, over.declared[3] = 0xff;
+    const HbGame *each[] = {&fresh, &over};
+    for (size_t n = 0; n < 2; n++) {
+        uint8_t part[14];
+        for (size_t length = 0; length < 14; length++) {
+            uint8_t *cut = exact(win_entry, length);
+            CHECK_CASE(length, books_as(cut, length, *each[n], HB_REFUSAL_ENTRY, *each[n]));
+            free(cut);
+        }
+        memcpy(part, win_entry, 14);
+        for (int header = 0x11; header < 256; header++) {
+            part[0] = (uint8_t)header;
+            if (header < 0x20 || header >= 0x40)
+                CHECK_CASE(header, books_as(part, 14, *each[n], HB_REFUSAL_ENTRY, *each[n]));
+        }
+        part[0] = 0x10, part[3] = 0x66, part[4] = 0x82; /* m 5 */
+        CHECK_CASE(n, books_as(part, 14, *each[n], HB_REFUSAL_ENTRY, *each[n]));
+    }
+}
+
+/* Entries in a game with marks that are neither 0 nor 1: they are set; an accepted entry sets 0 or 1. */
+static void marked_entries(void)
+{
+    static const uint8_t set[4] = {0, 1, 1, 0}, cleared[4] = {0, 0, 0, 0};
+    HbGame game = hb_fresh(), before;
+    game.declared[2] = 2, game.sticks = 1, game.scores[2] -= 1000;
+    before = game;
+    CHECK(book_byte(&game, 0x02) == HB_REFUSAL_DECLARED && memcmp(&game, &before, sizeof game) == 0);
+    CHECK(book_byte(&game, 0x2d) == HB_REFUSAL_NOT_READY && memcmp(&game, &before, sizeof game) == 0);
+    CHECK(book_win(&game, with_riichi, 13) == HB_REFUSAL_RIICHI && memcmp(&game, &before, sizeof game) == 0);
+    CHECK(book_byte(&game, 0x01) == 0 && game.sticks == 2 && memcmp(game.declared, set, sizeof set) == 0);
+    CHECK(book_win(&game, with_riichi, 13) == 0 && game.sticks == 0 && memcmp(game.declared, cleared, sizeof cleared) == 0);
+    game = before;
+    CHECK(book_byte(&game, 0x22) == 0 && game.sticks == 1 && memcmp(game.declared, cleared, sizeof cleared) == 0);
+}
+
+/* Whether two walks stand alike; the game byte for byte. */
+static int same_walk(const HbWalk *one, const HbWalk *two)
+{
+    return memcmp(&one->game, &two->game, sizeof one->game) == 0 && one->at == two->at && one->entry == two->entry;
+}
+
+/* Books the entry where a walk stands, by hb_next and hb_book, and writes its line by hb_line. Gives the line's length, or 0
+ * with the walk as it was where there is no entry or no room. */
+static size_t step(HbWalk *walk, const uint8_t *log, size_t length, uint8_t *text, size_t room)
+{
+    HbNextEntry entry = hb_next(log, length, walk->at);
+    if (entry.refusal || entry.end)
+        return 0;
+    HbGame game = walk->game;
+    uint8_t refusal = hb_book(&game, log + walk->at, entry.length);
+    size_t line = hb_line(&game, text, room, walk->entry, entry.letter, refusal);
+    if (line)
+        walk->game = game, walk->at += entry.length, walk->entry++;
+    return line;
+}
+
+/* hb_lines into a buffer of a length, checked against single steps: the lines, bytes past them and past the buffer's end,
+ * and where the walk then stands, which goes to walk. Adds the lines to text if there is one; gives how many bytes. */
+static size_t lines_checked(HbWalk *walk, const uint8_t *log, size_t length, size_t room, uint8_t *text)
+{
+    enum { BEHIND = 8 };
+    uint8_t *got = malloc(room + BEHIND), *wanted = malloc(room + BEHIND);
+    if (!got || !wanted)
+        exit(2);
+    memset(got, 0x5a, room + BEHIND);
+    memset(wanted, 0x5a, room + BEHIND);
+    HbPrinted printed = hb_lines(*walk, log, length, got, room);
+    size_t used = 0, line;
+    while ((line = step(walk, log, length, wanted + used, room - used)) != 0)
+        used += line;
+    CHECK_CASE(room, printed.written == used);
+    CHECK_CASE(room, memcmp(got, wanted, room + BEHIND) == 0);
+    CHECK_CASE(room, same_walk(&printed.walk, walk));
+    if (text)
+        memcpy(text, got, used);
+    free(got);
+    free(wanted);
+    return used;
+}
+
+/* The lines of a log from its start, a buffer of a length at a time; the length is HB_LINE_MAX or more. */
+static size_t tally(const uint8_t *log, size_t length, size_t room, uint8_t *text)
+{
+    HbWalk walk = hb_start();
+    size_t used = 0, more;
+    while ((more = lines_checked(&walk, log, length, room, text + used)) != 0)
+        used += more;
+    return used;
+}
+
+/* A walk at its start. */
+static void starts(void)
+{
+    HbGame fresh = hb_fresh();
+    HbWalk walk = hb_start();
+    CHECK(memcmp(&walk.game, &fresh, sizeof fresh) == 0 && walk.at == 0 && walk.entry == 1);
 }
 
 /* Document 01's log 01 24, and one with a win, refused bookings and a bad entry at its end. */
 static void logs(void)
 {
+    static const int32_t after[] = {29000, 32000, 29000, 29000};
     static const uint8_t example[] = {0x01, 0x24};
     static const char lines[] = "1 R 0 30000 29000 30000 30000 1\n2 D 0 29000 32000 29000 29000 1\n";
     static const char more[] = "1 W 0 30000 32000 30000 28000 0\n2 R 8 30000 32000 30000 28000 0\n"
                                "3 C 0 33000 23000 33000 31000 0\n";
-    uint8_t text[4 * HB_LINE_MAX], log[17] = {0x10};
-    CHECK(tally(example, 2, text) == sizeof lines - 1 && memcmp(text, lines, sizeof lines - 1) == 0);
-    memcpy(log + 1, table[0].record, 13);
+    uint8_t text[HB_LINE_MAX], log[17];
+    HbPrinted printed = hb_lines(hb_start(), example, 2, text, sizeof text);
+    CHECK(printed.written == sizeof lines - 1 && memcmp(text, lines, sizeof lines - 1) == 0);
+    CHECK(is_game(&printed.walk.game, after, 1, 1, HB_ROUND_EAST, 1) && printed.walk.at == 2 && printed.walk.entry == 3);
+    HbPrinted again = hb_lines(printed.walk, example, 2, text, sizeof text);
+    CHECK(again.written == 0 && same_walk(&again.walk, &printed.walk));
+
+    uint8_t all[4 * HB_LINE_MAX];
+    memcpy(log, win_entry, 14);
     log[14] = 0x04, log[15] = 0x31, log[16] = 0x40;
-    CHECK(tally(log, 17, text) == sizeof more - 1 && memcmp(text, more, sizeof more - 1) == 0);
+    CHECK(tally(log, 17, HB_LINE_MAX, all) == sizeof more - 1 && memcmp(all, more, sizeof more - 1) == 0);
+    CHECK(tally(log, 17, 3 * HB_LINE_MAX, all) == sizeof more - 1 && memcmp(all, more, sizeof more - 1) == 0);
+}
+
+/* A log of many entries, to the game's end and past it, and a bad one last. Gives its length. */
+enum { ROUNDS = 120, PER_ROUND = 20 };
+static size_t many(uint8_t *log)
+{
+    size_t length = 0;
+    for (int round = 0; round < ROUNDS; round++) {
+        log[length++] = (uint8_t)(round % 5);        /* riichi, of seat 4 refused */
+        memcpy(log + length, win_entry, 14);         /* refused after a riichi of seat 1 */
+        length += 14;
+        log[length++] = 0x01;
+        log[length++] = (uint8_t)(0x20 + round % 16);/* draw, refused where seat 1 is not ready */
+        log[length++] = 0x28;
+        log[length++] = (uint8_t)(0x30 + round % 4);
+        log[length++] = (uint8_t)(0x30 + round % 6);
+    }
+    log[length++] = 0x17;
+    return length;
+}
+
+/* The log of many entries into buffers of many lengths, from none to all of the text, and the walk handed back and forth. */
+static void many_lines(void)
+{
+    static const size_t rooms[] = {HB_LINE_MAX, HB_LINE_MAX + 1, 100, 333, 1024, 4096, 7 * ROUNDS * HB_LINE_MAX};
+    static uint8_t whole[7 * ROUNDS * HB_LINE_MAX], text[7 * ROUNDS * HB_LINE_MAX], bytes[ROUNDS * PER_ROUND + 1];
+    size_t length = many(bytes), used = 0, entries = 0, line;
+    CHECK(length == sizeof bytes);
+    uint8_t *log = exact(bytes, length);
+    HbWalk last = hb_start(), walk;
+    while ((line = step(&last, log, length, whole + used, sizeof whole - used)) != 0)
+        used += line, entries++;
+    CHECK(entries == 7 * ROUNDS && last.at == length - 1 && last.entry == 7 * ROUNDS + 1 && last.game.over == 1);
+    for (size_t n = 0; n < COUNT_OF(rooms); n++)
+        CHECK_CASE(rooms[n], tally(log, length, rooms[n], text) == used && memcmp(text, whole, used) == 0);
+
+    /* the text's own length and one less; then buffers shorter than a line: no byte, and the walk stays */
+    walk = hb_start();
+    CHECK(lines_checked(&walk, log, length, used, NULL) == used && same_walk(&walk, &last));
+    walk = hb_start();
+    CHECK(lines_checked(&walk, log, length, used - 1, NULL) < used && walk.entry == last.entry - 1);
+    for (size_t room = 0; room <= 2 * HB_LINE_MAX; room++) {
+        HbWalk start = hb_start(), short_of = start;
+        size_t written = lines_checked(&short_of, log, length, room, NULL);
+        CHECK_CASE(room, (written == 0) == (room < 32) && (written != 0 || same_walk(&short_of, &start)));
+    }
+
+    /* one walk: by hb_lines, with buffers from none to 200 bytes, and by single steps in turn */
+    walk = hb_start();
+    line = 0;
+    for (size_t turn = 0; turn < 4 * entries; turn++)
+        line += turn % 3 ? lines_checked(&walk, log, length, turn * 7 % 200, text + line)
+                         : step(&walk, log, length, text + line, HB_LINE_MAX);
+    CHECK(line == used && memcmp(text, whole, used) == 0 && same_walk(&walk, &last));
+
+    /* a log that grows: what is there of it first, then all of it */
+    for (size_t part = 0; part <= 3 * PER_ROUND; part++) {
+        uint8_t *begun = exact(log, part);
+        walk = hb_start();
+        line = lines_checked(&walk, begun, part, 4096, text);
+        line += lines_checked(&walk, log, length, sizeof text - line, text + line);
+        CHECK_CASE(part, line == used && memcmp(text, whole, used) == 0 && same_walk(&walk, &last));
+        free(begun);
+    }
+    free(log);
+}
+
+/* A walk with another value in each field, and any marks: each field goes in and comes back, with and without a line. */
+static void walks_by_value(void)
+{
+    static const uint8_t log[] = {0x01, 0x24};
+    static const char line[] = "4000000000 D 9 1 -2 2147483647 -2147483648 4294967295\n";
+    const HbGame odd = {{1, -2, INT32_MAX, INT32_MIN}, UINT32_MAX, {6, 0x87, 0, 0xff}, 10, 11, 12, 0};
+    const HbWalk before = {odd, 1, 4000000000u}, after = {odd, 2, 4000000001u};
+    uint8_t text[HB_LINE_MAX];
+    HbPrinted printed = hb_lines(before, log, 2, text, sizeof text);
+    CHECK(printed.written == sizeof line - 1 && memcmp(text, line, sizeof line - 1) == 0);
+    CHECK(same_walk(&printed.walk, &after));
+
+    HbWalk past = {odd, SIZE_MAX - 5, 14};
+    past.game.over = 0xfe;
+    for (size_t at = 2; at < 5; at++) {
+        HbWalk walk = past;
+        walk.at = at == 4 ? past.at : at;
+        memset(text, 0x5a, sizeof text);
+        printed = hb_lines(walk, log, 2, text, sizeof text);
+        CHECK_CASE(at, printed.written == 0 && same_walk(&printed.walk, &walk) && text[0] == 0x5a);
+    }
+
+    /* an entry's number has 32 bits: after the line of the last but one the walk stays */
+    HbWalk high = hb_start();
+    high.entry = UINT32_MAX - 1;
+    printed = hb_lines(high, log, 2, text, sizeof text);
+    CHECK(printed.written != 0 && printed.walk.at == 1 && printed.walk.entry == UINT32_MAX);
+    HbPrinted again = hb_lines(printed.walk, log, 2, text, sizeof text);
+    CHECK(again.written == 0 && same_walk(&again.walk, &printed.walk));
 }
 
 /* A line in buffers of every length up to one past HB_LINE_MAX: written whole, or nothing. */
-static void line_in_buffers(HbGame game, uint32_t entry, uint8_t letter, uint8_t refusal, const char *line)
+static void line_in_buffers(const HbGame *game, uint32_t entry, uint8_t letter, uint8_t refusal, const char *line)
 {
     uint8_t wanted[HB_LINE_MAX + 1], before[HB_LINE_MAX + 1];
     size_t whole = strlen(line);
@@ -472,7 +744,7 @@ static void line_in_buffers(HbGame game, uint32_t entry, uint8_t letter, uint8_t
         memcpy(wanted, before, sizeof wanted);
         if (length >= whole)
             memcpy(wanted, line, whole);
-        CHECK_CASE(length, hb_line(buffer, length, entry, letter, refusal, game) == (length < whole ? 0 : whole));
+        CHECK_CASE(length, hb_line(game, buffer, length, entry, letter, refusal) == (length < whole ? 0 : whole));
         CHECK_CASE(length, memcmp(buffer, wanted, length) == 0);
         free(buffer);
     }
@@ -482,11 +754,11 @@ static void line_in_buffers(HbGame game, uint32_t entry, uint8_t letter, uint8_t
 static void lines(void)
 {
     HbGame game = hb_fresh();
-    line_in_buffers(game, 1, HB_LETTER_CHOMBO, 9, "1 C 9 30000 30000 30000 30000 0\n");
+    line_in_buffers(&game, 1, HB_LETTER_CHOMBO, 9, "1 C 9 30000 30000 30000 30000 0\n");
     for (size_t seat = 0; seat < 4; seat++)
         game.scores[seat] = INT32_MIN;
-    game.sticks = UINT32_MAX;
-    line_in_buffers(game, UINT32_MAX, HB_LETTER_WIN, 255,
+    game.sticks = UINT32_MAX, game.over = 0x40, game.declared[1] = 0xff;
+    line_in_buffers(&game, UINT32_MAX, HB_LETTER_WIN, 255,
                     "4294967295 W 255 -2147483648 -2147483648 -2147483648 -2147483648 4294967295\n");
 }
 
@@ -502,8 +774,14 @@ static void empty_slices(void)
     CHECK(is_refused(&scored, HB_REFUSAL_LENGTH));
     CHECK(written.refusal == HB_REFUSAL_BUFFER && written.len == 0);
     CHECK(hb_win(&game, &byte, 0) == HB_REFUSAL_LENGTH && memcmp(&game, &fresh, sizeof game) == 0);
-    CHECK(is_entry(hb_next(&byte, 0, 0), 0, true, 0, 0, 0));
-    CHECK(hb_line(&byte, 0, 1, HB_LETTER_RIICHI, 0, game) == 0);
+    CHECK(no_entry(hb_next(&byte, 0, 0), 0));
+    CHECK(hb_book(&game, &byte, 0) == HB_REFUSAL_ENTRY && memcmp(&game, &fresh, sizeof game) == 0);
+    HbWalk start = hb_start();
+    uint8_t entry = 0x01;
+    HbPrinted no_log = hb_lines(start, &entry, 0, &byte, 1), no_buffer = hb_lines(start, &entry, 1, &byte, 0);
+    CHECK(no_log.written == 0 && same_walk(&no_log.walk, &start));
+    CHECK(no_buffer.written == 0 && same_walk(&no_buffer.walk, &start));
+    CHECK(hb_line(&game, &byte, 0, 1, HB_LETTER_RIICHI, 0) == 0);
     CHECK(byte == 0x5a);
 }
 
@@ -519,7 +797,13 @@ int main(void)
     marks();
     ends();
     entries();
+    booked_entries();
+    refused_entries();
+    marked_entries();
+    starts();
     logs();
+    many_lines();
+    walks_by_value();
     lines();
     empty_slices();
     printf("%d checks, %d failed\n", made, failed);

@@ -3,7 +3,8 @@
 
 - the page: each call's row lists the numbers that name it under "given by" ("none" where none does), and the reverse; numbers ascend;
 - include/herbassolh.h: the names and numbers of HB_REFUSAL_*, with the paper's words as comment; each call has a row, and the comment before
-  it gives its refusals in the row's order ("refusals 8, 1 to 7 in order"), or none;
+  it gives its refusals in the row's order ("refusals 8, 1 to 7 in order"), or none; where the row ends with "then its booking's", those of
+  each booking too, in the order of the booking's row (of a win without 1, which no entry meets);
 - docs/RECORDS.md names the page and has no table of refusals of its own; docs/*.md and README.md name no number that the page lacks;
 - the tester's tool: a Rust function `refusal` that gives words for numbers (N => "words") has those of the column "in the tool";
 - with the papers' files as arguments: each quotation is in one of them, word for word."""
@@ -16,6 +17,8 @@ import tree
 
 PAGE = "docs/REFUSALS.md"
 HEADER = "include/herbassolh.h"
+BOOKINGS = ("Riichi", "Win", "Draw", "Chombo")
+LEFT_OUT = [("Win", 1)]  # of an entry's booking
 
 
 def plain(text):
@@ -39,13 +42,23 @@ def tables():
 
 def check_page(calls, refusals):
     for number, row in refusals.items():
-        given = [call for call, (_, order) in calls.items() if number in order]
+        given = [call for call, (_, order, _) in calls.items() if number in order]
         if row["given by"] != (given or ["none"]):
             yield f"{PAGE}: {number} is given by {', '.join(row['given by'])}; by the rows of the calls it is {', '.join(given)}"
     if list(refusals) != sorted(refusals):
         yield f"{PAGE}: numbers {list(refusals)}"
-    for call, (_, order) in calls.items():
+    for call, (_, order, _) in calls.items():
         yield from (f"{PAGE}: {call} gives {n}, which has no row" for n in order if n not in refusals)
+
+
+def check_entry(comment, call, calls):
+    """The comment of a call that books an entry: its own refusals, and those of each booking ("of an entry: 14; of a riichi 8, 9, 10, a win ...")."""
+    said = {kind: numbers(order) for kind, order in re.findall(r"\ban? (\w+):? (\d[\d, to]*)", plain(comment))}
+    wanted = {"entry": next(order for name, order, _ in calls.values() if name == call)}
+    for booking in BOOKINGS:
+        wanted[booking.lower()] = [n for n in calls[booking][1] if (booking, n) not in LEFT_OUT]
+    if said != wanted:
+        yield f"{HEADER}: {call} says refusals {said}; by the rows of {PAGE} they are {wanted}"
 
 
 def check_header(calls, refusals):
@@ -57,13 +70,16 @@ def check_header(calls, refusals):
         here = (refusals[number]["name"], plain(refusals[number]["words"])) if number in refusals else None
         if named.get(number) != here:
             yield f"{HEADER}: {number} is {named.get(number)}; in {PAGE} it is {here}"
-    orders = {c: order for c, order in calls.values()}
+    orders = {c: order for c, order, _ in calls.values()}
+    entries = [c for c, _, of_entry in calls.values() if of_entry]
     declared = re.findall(r"(?:/\*((?:(?!\*/).)*?)\*/\n)?^[\w *]+?\b(hb_\w+)\([^;]*\);", text, flags=re.M | re.S)
     for comment, call in declared:
         said = re.search(r"[Rr]efusals? ([\d, to]*\d)", plain(comment))
         order = numbers(said.group(1)) if said else []
         if call not in orders:
             yield f"{PAGE}: no row for {call}"
+        elif call in entries:
+            yield from check_entry(comment, call, calls)
         elif orders[call] != order:
             yield f"{HEADER}: {call} says refusals {order}; in {PAGE} they are {orders[call]}"
     yield from (f"{PAGE}: {c} is not in {HEADER}" for c in orders if c not in [call for _, call in declared])
@@ -108,7 +124,7 @@ def check_quotations(refusals, papers):
 
 def main():
     first, second = tables()
-    calls = {call: (name.strip("`"), numbers(order)) for call, name, order in first}
+    calls = {call: (name.strip("`"), numbers(order), order.endswith("then its booking's")) for call, name, order in first}
     refusals = {int(r[0]): {"name": r[1].strip("`"), "given by": r[2].split(", "), "words": r[3], "tool": r[5]} for r in second}
     tools = []
     faults = [*check_page(calls, refusals), *check_header(calls, refusals), *check_papers(refusals), *check_tools(refusals, tools)]

@@ -1,5 +1,5 @@
 //! The archive's calls (include/herbassolh.h) behind safe functions; nothing else declares them.
-//! Each bool is a u8 here, so that a byte other than 0 or 1 is seen as a difference.
+//! Each bool that comes back is a u8 here, so that a byte other than 0 or 1 is seen as a difference.
 
 use std::fmt;
 
@@ -98,7 +98,23 @@ pub struct NextEntry {
     pub end: u8,
     pub kind: u8,
     pub argument: u8,
+    pub letter: u8,
     pub length: usize,
+}
+
+#[repr(C)]
+#[derive(Clone, Copy, Debug, PartialEq, Eq)]
+pub struct Walk {
+    pub game: Game,
+    pub at: usize,
+    pub entry: u32,
+}
+
+#[repr(C)]
+#[derive(Clone, Copy, Debug, PartialEq, Eq)]
+pub struct Printed {
+    pub written: usize,
+    pub walk: Walk,
 }
 
 /// A buffer of so many bytes holds every record (HB_RECORD_MAX).
@@ -137,17 +153,14 @@ extern "C" {
     fn hb_draw(game: &mut Game, bits: u8) -> u8;
     fn hb_chombo(game: &mut Game, seat: u8) -> u8;
     fn hb_next(log: *const u8, len: usize, at: usize) -> NextEntry;
-    fn hb_line(buffer: *mut u8, len: usize, entry: u32, letter: u8, refusal: u8, game: Game) -> usize;
+    fn hb_book(game: &mut Game, part: *const u8, len: usize) -> u8;
+    fn hb_start() -> Walk;
+    fn hb_lines(walk: Walk, log: *const u8, log_len: usize, buffer: *mut u8, len: usize) -> Printed;
+    fn hb_line(game: &Game, buffer: *mut u8, len: usize, entry: u32, letter: u8, refusal: u8) -> usize;
 }
 
-/// Stops before a game is lent that no caller may lend.
-fn lendable(game: &Game) {
-    let bools = [game.declared.as_slice(), &[game.over]].concat();
-    assert!(bools.iter().all(|&byte| byte <= 1), "a bool that is neither 0 nor 1: {game:?}");
-}
-
-// SAFETY, for every call below: the pointers and lengths are a slice's, which is never null; the game and the buffer
-// are borrowed alone, so nothing overlaps them; each bool of a game that goes in is 0 or 1 (`lendable`).
+// SAFETY, for every call below: the pointers and lengths are a slice's, which is never null; a game and a buffer that a
+// call writes are borrowed alone, so nothing overlaps them; any bytes are a game.
 
 /// Read.
 pub fn read(record: &[u8]) -> ReadHand {
@@ -171,25 +184,21 @@ pub fn fresh() -> Game {
 
 /// Riichi.
 pub fn riichi(game: &mut Game, seat: u8) -> u8 {
-    lendable(game);
     unsafe { hb_riichi(game, seat) }
 }
 
 /// Win.
 pub fn win(game: &mut Game, record: &[u8]) -> u8 {
-    lendable(game);
     unsafe { hb_win(game, record.as_ptr(), record.len()) }
 }
 
 /// Draw.
 pub fn draw(game: &mut Game, bits: u8) -> u8 {
-    lendable(game);
     unsafe { hb_draw(game, bits) }
 }
 
 /// Chombo.
 pub fn chombo(game: &mut Game, seat: u8) -> u8 {
-    lendable(game);
     unsafe { hb_chombo(game, seat) }
 }
 
@@ -198,8 +207,36 @@ pub fn next(log: &[u8], at: usize) -> NextEntry {
     unsafe { hb_next(log.as_ptr(), log.len(), at) }
 }
 
+/// Books the entry that a part of a log begins with.
+pub fn book(game: &mut Game, part: &[u8]) -> u8 {
+    unsafe { hb_book(game, part.as_ptr(), part.len()) }
+}
+
+/// A walk before a log's first entry.
+pub fn start() -> Walk {
+    unsafe { hb_start() }
+}
+
+/// Books entries from where a walk stands, with their lines of tally.
+pub fn lines(walk: Walk, log: &[u8], buffer: &mut [u8]) -> Printed {
+    unsafe { hb_lines(walk, log.as_ptr(), log.len(), buffer.as_mut_ptr(), buffer.len()) }
+}
+
 /// A line of tally.
-pub fn line(buffer: &mut [u8], entry: u32, letter: u8, refusal: u8, game: Game) -> usize {
-    lendable(&game);
-    unsafe { hb_line(buffer.as_mut_ptr(), buffer.len(), entry, letter, refusal, game) }
+pub fn line(game: &Game, buffer: &mut [u8], entry: u32, letter: u8, refusal: u8) -> usize {
+    unsafe { hb_line(game, buffer.as_mut_ptr(), buffer.len(), entry, letter, refusal) }
+}
+
+/// All lines of a log, a buffer at a time. Each call that writes books an entry, so there are fewer of them than bytes.
+pub fn text(log: &[u8]) -> Vec<u8> {
+    let (mut walk, mut text, mut buffer) = (start(), Vec::new(), [0; 4096]);
+    for _ in 0..=log.len() {
+        let printed = lines(walk, log, &mut buffer);
+        if printed.written == 0 {
+            break;
+        }
+        text.extend_from_slice(&buffer[..printed.written.min(buffer.len())]);
+        walk = printed.walk;
+    }
+    text
 }

@@ -1,6 +1,7 @@
 //! The other scorer's answers in the archive's form.
 
-use other_scorer::log::Next;
+use other_scorer::game::book;
+use other_scorer::log::{booking, letter, next, Next};
 use other_scorer::record::Meld;
 
 use crate as archive;
@@ -75,6 +76,19 @@ pub fn game(game: &other_scorer::Game) -> archive::Game {
     }
 }
 
+/// A game of the other scorer from the archive's form: a mark that is not 0 is set.
+pub fn to_other_game(game: &archive::Game) -> other_scorer::Game {
+    other_scorer::Game {
+        scores: game.scores,
+        sticks: game.sticks,
+        declared: game.declared.map(|mark| mark != 0),
+        dealer: game.dealer,
+        wind: game.wind,
+        hands: game.hands,
+        over: game.over != 0,
+    }
+}
+
 /// The archive's game as a ledger (01, Ledger).
 pub fn ledger(game: &archive::Game) -> other_scorer::Ledger {
     other_scorer::Ledger {
@@ -90,11 +104,28 @@ pub fn ledger(game: &archive::Game) -> other_scorer::Ledger {
 
 /// What Next entry should give (01, Next entry).
 pub fn entry(log: &[u8], at: usize) -> archive::NextEntry {
-    match other_scorer::log::next(log, at) {
+    match next(log, at) {
         Next::Entry { kind, argument, part } => {
-            archive::NextEntry { refusal: 0, end: 0, kind, argument, length: part.len() }
+            let letter = letter(&booking(kind, argument, part)) as u8;
+            archive::NextEntry { refusal: 0, end: 0, kind, argument, letter, length: part.len() }
         }
         Next::End => archive::NextEntry { end: 1, ..archive::NextEntry::default() },
         Next::Bad(refusal) => archive::NextEntry { refusal, ..archive::NextEntry::default() },
     }
+}
+
+/// The lines of a log from where a walk stands, each with where the walk then stands (01, Log). The number of an entry
+/// has 32 bits; the highest is never reached.
+pub fn lines(walk: archive::Walk, log: &[u8]) -> Vec<(String, archive::Walk)> {
+    let (mut walk, mut other, mut lines) = (walk, to_other_game(&walk.game), Vec::new());
+    while let (Next::Entry { kind, argument, part }, true) = (next(log, walk.at), walk.entry < u32::MAX) {
+        let booking = booking(kind, argument, part);
+        let refusal = book(&mut other, &booking);
+        let ([a, b, c, d], sticks) = (other.scores, other.sticks);
+        let line = format!("{} {} {refusal} {a} {b} {c} {d} {sticks}\n", walk.entry, letter(&booking));
+        let game = if refusal == 0 { game(&other) } else { walk.game };
+        walk = archive::Walk { game, at: walk.at + part.len(), entry: walk.entry + 1 };
+        lines.push((line, walk));
+    }
+    lines
 }

@@ -9,12 +9,12 @@ use crate::report::Report;
 const BEHIND: usize = 4;
 
 /// Compares a line with its text: written whole where it fits, else nothing.
-pub fn compare(report: &mut Report, rng: &mut Rng, text: &[u8], numbers: (u32, u8, u8), game: archive::Game) {
+pub fn compare(report: &mut Report, rng: &mut Rng, text: &[u8], numbers: (u32, u8, u8), game: &archive::Game) {
     let (entry, letter, refusal) = numbers;
     let before: Vec<u8> = (0..LINE_MAX + BEHIND).map(|_| rng.next() as u8).collect();
     for length in [LINE_MAX, text.len(), text.len() - 1, rng.below(LINE_MAX + 1)] {
         let mut archive = before.clone();
-        let got = archive::line(&mut archive[..length], entry, letter, refusal, game);
+        let got = archive::line(game, &mut archive[..length], entry, letter, refusal);
         let mut wanted = before.clone();
         let fits = text.len() <= length;
         if fits {
@@ -37,11 +37,12 @@ pub fn run(report: &mut Report, rng: &mut Rng, count: usize) {
         let scores = [(); 4].map(|_| number() as i32);
         let (entry, sticks) = (number(), number());
         let (letter, refusal) = (number() as u8, number() as u8);
-        let game = archive::Game { scores, sticks, ..archive::fresh() };
+        let (declared, over) = ([(); 4].map(|_| number() as u8), number() as u8);
+        let game = archive::Game { scores, sticks, declared, over, ..archive::fresh() };
         let [a, b, c, d] = scores;
         let start = format!("{entry} ").into_bytes();
         let rest = format!(" {refusal} {a} {b} {c} {d} {sticks}\n").into_bytes();
         let text = [start, vec![letter], rest].concat();
-        compare(report, rng, &text, (entry, letter, refusal), game);
+        compare(report, rng, &text, (entry, letter, refusal), &game);
     }
 }

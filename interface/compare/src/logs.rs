@@ -1,16 +1,16 @@
 //! Random logs through Next entry, the bookings and the lines of tally.
 
-use archive::{same, Games};
+use archive::{same, Games, Walk};
 use other_scorer::damage::noise;
 use other_scorer::example::{example, End};
 use other_scorer::game::book;
-use other_scorer::log::{booking, letter, next, tally_lines, Next, LONGEST};
+use other_scorer::log::{booking, next, tally_lines, Next, LONGEST};
 use other_scorer::notation::hex::to_hex as hex;
 use other_scorer::rng::Rng;
 use other_scorer::{Booking, Game};
 
 use crate::report::Report;
-use crate::{chance, games, lines};
+use crate::{buffers, chance, games, lines};
 
 /// Bookings made past the end of a game, and tried in all.
 const PAST: usize = 12;
@@ -29,10 +29,10 @@ fn section(booking: &Booking) -> &'static str {
     }
 }
 
-/// Books in the games kept three ways, counts and gives the refusal.
-fn book_all(report: &mut Report, games: &mut Games, booking: &Booking, input: &dyn Fn() -> String) -> u8 {
-    let refusal = games.book(&mut report.differences, booking, input);
-    report.count(section(booking), refusal);
+/// Books the entry that bytes begin with in the games kept three ways, counts and gives the refusal.
+fn book_entry(report: &mut Report, games: &mut Games, bytes: &[u8], input: &dyn Fn() -> String) -> u8 {
+    let (refusal, booking) = games.book_entry(&mut report.differences, bytes, input);
+    report.count(booking.as_ref().map_or("no entry to book", section), refusal);
     refusal
 }
 
@@ -68,9 +68,12 @@ fn sown(rng: &mut Rng) -> Vec<u8> {
     log
 }
 
-/// Changes, takes away or adds a few bytes.
+/// Changes, takes away or adds a few bytes, until none is left.
 fn damage(rng: &mut Rng, log: &mut Vec<u8>) {
     for _ in 0..1 + rng.below(3) {
+        if log.is_empty() {
+            return;
+        }
         let at = rng.below(log.len());
         match rng.below(3) {
             0 => log[at] ^= 1 << rng.below(8),
@@ -139,19 +142,18 @@ fn compare_walk(report: &mut Report, rng: &mut Rng, log: &[u8]) {
             report.count("games walked (200 hands, 0 fewer)", if games.other.hands == 200 { 200u16 } else { 0 });
             return;
         }
-        let part = log.get(at..at.saturating_add(entry.length)).filter(|part| !part.is_empty());
-        let Some(part) = part else {
-            report.same("the part of an entry", Some(at + entry.length), None, input);
+        // A length that is not the entry's is a difference of `compare_entries`.
+        let Some(part) = log.get(at..at.saturating_add(entry.length)).filter(|part| !part.is_empty()) else {
+            report.same("the part of an entry", Some(at), None, input);
             return;
         };
-        let booking = booking(entry.kind, entry.argument, part);
-        let refusal = book_all(report, &mut games, &booking, &input);
+        let refusal = book_entry(report, &mut games, part, &input);
         report.same("refusal 1 in a log", refusal == 1, false, input);
         number += 1;
         match lines_left.next() {
             Some(line) => {
-                let numbers = (number, letter(&booking) as u8, refusal);
-                lines::compare(report, rng, line.as_bytes(), numbers, games.archive);
+                let numbers = (number, entry.letter, refusal);
+                lines::compare(report, rng, line.as_bytes(), numbers, &games.archive);
             }
             None => {
                 report.same("an entry without a line", Some(at), None, input);
@@ -162,14 +164,47 @@ fn compare_walk(report: &mut Report, rng: &mut Rng, log: &[u8]) {
     }
 }
 
-/// Books a chain in a game of any state, in form or not, with arguments up to 255 and any record.
-fn compare_chain(report: &mut Report, rng: &mut Rng) {
+/// Compares the lines of a log from its start, and from anywhere in a game of any state.
+fn compare_lines(report: &mut Report, rng: &mut Rng, log: &[u8]) {
+    let log = &log[..log.len().min(LONGEST)];
+    let start = Walk { game: same::game(&Game::fresh()), at: 0, entry: 1 };
+    report.same("the start of a walk", archive::start(), start, String::new);
+    let text = buffers::compare(report, rng, start, log);
+    report.same("the lines of a log", &text, &tally_lines(log), || hex(log));
+
+    let (game, any) = (any_game(rng), rng.next() as u32);
+    let at = if rng.percent(10) { usize::MAX } else { rng.below(log.len() + 3) };
+    let entry = rng.pick(&[any, any % 100, u32::MAX - any % 4]);
+    buffers::compare(report, rng, Walk { game, at, entry }, log);
+}
+
+/// A game of any state, in form or not, its set marks any byte but 0.
+fn any_game(rng: &mut Rng) -> archive::Game {
     let game = if rng.percent(70) { games::in_form(rng) } else { games::disturbed(rng) };
-    let mut games = Games::of(game);
+    let mut game = same::game(&game);
+    if rng.percent(50) {
+        let marks = game.declared.iter_mut().chain([&mut game.over]);
+        marks.filter(|mark| **mark != 0).for_each(|mark| *mark = rng.within(1, 255));
+    }
+    game
+}
+
+/// Books a chain in a game of any state, with arguments up to 255 and any record: by the booking's call or by its bytes.
+fn compare_chain(report: &mut Report, rng: &mut Rng) {
+    let mut games = Games::of(any_game(rng));
     for _ in 0..CHAIN {
         let keep = rng.percent(50);
         let booking = chance::booking(rng, &games.other, keep);
-        book_all(report, &mut games, &booking, &String::new);
+        if rng.percent(50) {
+            let refusal = games.book(&mut report.differences, &booking, &String::new);
+            report.count(section(&booking), refusal);
+        } else {
+            let mut bytes = booking.bytes();
+            if rng.percent(20) {
+                damage(rng, &mut bytes);
+            }
+            book_entry(report, &mut games, &bytes, &String::new);
+        }
     }
 }
 
@@ -180,6 +215,7 @@ pub fn run(report: &mut Report, rng: &mut Rng, count: usize) {
         report.count("logs (1 over 65,536 bytes)", log.len() > LONGEST);
         compare_entries(report, &log);
         compare_walk(report, rng, &log);
+        compare_lines(report, rng, &log);
         (0..10).for_each(|_| compare_chain(report, rng));
     }
 }

@@ -1,6 +1,7 @@
 //! Compares the linked archive with the other scorer: `compare COUNT SEED [LOGS]`.
 //! COUNT hands, LOGS logs (a thousandth of COUNT, at least 64, where not given). Exit 1 if anything differs.
 
+mod buffers;
 mod hands;
 mod lines;
 mod logs;

@@ -1,6 +1,7 @@
 //! The proved core, each answer compared with the other scorer's.
 
 use archive::{same, Differences, NextEntry, ReadHand, Scored, Written, RECORD_MAX};
+use other_scorer::log::tally_lines;
 use other_scorer::notation::hex::to_hex;
 use other_scorer::{score, Hand};
 
@@ -42,6 +43,13 @@ impl Core {
         let answer = archive::next(log, at);
         self.differences.same("Next entry", answer, same::entry(log, at), || format!("{} at {at}", to_hex(log)));
         answer
+    }
+
+    /// The lines of tally of a log.
+    pub fn lines(&mut self, log: &[u8]) -> String {
+        let lines = String::from_utf8_lossy(&archive::text(log)).into_owned();
+        self.differences.same("the lines of tally", &lines, &tally_lines(log), || to_hex(log));
+        lines
     }
 
     /// Whether nothing has differed so far, in words.

@@ -1,7 +1,6 @@
 //! `tally`: a log's bookings one after the other, and the game after each.
 
-use other_scorer::log::{tally_lines, LONGEST};
-use other_scorer::notation::hex::to_hex;
+use other_scorer::log::LONGEST;
 use other_scorer::Game;
 
 use crate::both::Core;
@@ -20,11 +19,10 @@ pub fn run(core: &mut Core, mut words: Words) -> Result<String, Bad> {
     let log = input::log(core, &words, raw)?.bytes;
     let log = &log[..log.len().min(LONGEST)];
     let walk = whole(core, log);
-    let lines: Vec<String> = (1..).zip(&walk.steps).map(|(n, step)| step.line(core, n)).collect();
-    core.differences.same("the lines of tally", &lines.concat(), &tally_lines(log), || to_hex(log));
+    let lines = core.lines(log);
     if plain {
-        let lines = (1..).zip(&walk.steps).zip(lines);
-        return Ok(lines.map(|((_, step), line)| if why { worded(&line, step) } else { line }).collect());
+        let each = walk.steps.iter().zip(lines.split_inclusive('\n'));
+        return Ok(if why { each.map(|(step, line)| worded(line, step)).collect() } else { lines });
     }
     let mut page = Page::default();
     let rows = listing(&walk);

@@ -1,7 +1,6 @@
 //! A log booked entry by entry, by the core, the other scorer and the ledger.
 
-use archive::{Games, LINE_MAX};
-use other_scorer::log::{booking, letter};
+use archive::Games;
 use other_scorer::notation::hex::to_hex;
 use other_scorer::Booking;
 
@@ -22,21 +21,6 @@ pub struct Walk {
     pub stopped: Option<usize>,
 }
 
-impl Step {
-    /// The line of tally, by the core.
-    pub fn line(&self, core: &mut Core, entry: u32) -> String {
-        let mut buffer = [0; LINE_MAX];
-        let letter = letter(&self.booking);
-        let length = archive::line(&mut buffer, entry, letter as u8, self.refusal, self.after.archive);
-        let line = String::from_utf8_lossy(&buffer[..length.min(LINE_MAX)]).into_owned();
-        let game = &self.after.other;
-        let [a, b, c, d] = game.scores;
-        let wanted = format!("{entry} {letter} {} {a} {b} {c} {d} {}\n", self.refusal, game.sticks);
-        core.differences.same("a line of tally", &line, &wanted, || format!("entry {entry} {game:?}"));
-        line
-    }
-}
-
 /// Books the entries of a log from an offset on, in games as they stand there.
 pub fn walk(core: &mut Core, log: &[u8], from: usize, games: Games) -> Walk {
     let (mut at, mut games, mut steps) = (from, games, Vec::new());
@@ -45,15 +29,14 @@ pub fn walk(core: &mut Core, log: &[u8], from: usize, games: Games) -> Walk {
         if entry.end != 0 || entry.refusal != 0 {
             return Walk { steps, stopped: (entry.refusal != 0).then_some(at) };
         }
-        let part = log.get(at..at.saturating_add(entry.length)).filter(|part| !part.is_empty());
-        let Some(part) = part else {
-            let input = || format!("{} at {at}", to_hex(log));
-            core.differences.same("the part of an entry", Some(entry.length), None, input);
+        // A length that is not the entry's is a difference already, and leaves the part no entry or some bytes longer.
+        let part = log.get(at..at.saturating_add(entry.length)).unwrap_or_default();
+        let before = games.clone();
+        let input = || format!("log {}", to_hex(log));
+        let (refusal, booking) = games.book_entry(&mut core.differences, part, &input);
+        let Some(booking) = booking else {
             return Walk { steps, stopped: Some(at) };
         };
-        let booking = booking(entry.kind, entry.argument, part);
-        let before = games.clone();
-        let refusal = games.book(&mut core.differences, &booking, &|| format!("log {}", to_hex(log)));
         steps.push(Step { at, booking, before, refusal, after: games.clone() });
         at += part.len();
     }
