@@ -227,15 +227,16 @@ HbNextEntry hb_next(const uint8_t *log, size_t log_len, size_t at);
 
 /* Books the entry that part begins with, such as log + at with the length that hb_next gave: its booking's refusal and the
  * game updated, or 14 and the game left where part begins with no whole entry. Refusals of an entry: 14; of a riichi 8, 9, 10,
- * a win 9, 2 to 7, 11, a draw 8, 9, 12, a chombo 8, 9, in order. */
+ * a win 9, 2 to 7, 11, a draw 9, 12, a chombo 8, 9, in order. */
 uint8_t hb_book(HbGame *game, const uint8_t *part, size_t part_len);
 
 /* A walk before a log's first entry, with a fresh game. */
 HbWalk hb_start(void);
 
 /* Books the entries of a log from where walk stands, refused or not, and writes their lines of tally into buf, as many whole
- * lines as fit, one after the other. The text is whole when written is 0 in a buffer of HB_LINE_MAX bytes or more; bytes past
- * written stay. Call it again with the walk that it gives. tally reads the first HB_LOG_MAX bytes of a log. */
+ * lines as fit, one after the other; bytes past written stay. Call it again with the walk that it gives: no text is left when
+ * written is 0 in a buffer of HB_LINE_MAX bytes or more and the walk's entry is under 4294967295, the last number that it
+ * counts to. tally reads the first HB_LOG_MAX bytes of a log. */
 HbPrinted hb_lines(HbWalk walk, const uint8_t *log, size_t log_len, uint8_t *buf, size_t buf_len);
 
 /* A line of tally at the start of buf, its line feed included, no zero byte after it: entry (from 1), letter, refusal,

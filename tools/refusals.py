@@ -18,7 +18,7 @@ import tree
 PAGE = "docs/REFUSALS.md"
 HEADER = "include/herbassolh.h"
 BOOKINGS = ("Riichi", "Win", "Draw", "Chombo")
-LEFT_OUT = [("Win", 1)]  # of an entry's booking
+LEFT_OUT = [("Win", 1), ("Draw", 8)]  # of an entry's booking
 
 
 def plain(text):

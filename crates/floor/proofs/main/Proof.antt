@@ -1,4 +1,4 @@
--- `floor::main` is safe and ends. Assumes nothing.
+-- `floor::main` is safe and ends.
 use borrow.Author.Needs.{needs}
 use Prim.Native.Nat.{_-_, _≤_}
 use Rattle.floor.proofs.main.Statement.{statement}

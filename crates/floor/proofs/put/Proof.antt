@@ -1,4 +1,4 @@
--- `floor::put` is safe and ends. Assumes nothing.
+-- `floor::put` is safe and ends.
 use borrow.Author.Needs.{needs}
 use mathlib.Core.Path.{sym}
 use lib.Seq.{length-take-le}

@@ -1,4 +1,4 @@
--- `vectors::main` is safe and ends: it counts no more than it read. Assumes nothing.
+-- `vectors::main` is safe and ends: it counts no more than it read.
 use borrow.Author.Needs.{needs}
 use Prim.Native.Nat.{_-_, _≤_}
 use mathlib.Core.Path.{_≡_, refl}

@@ -1,4 +1,4 @@
--- `vectors::same_yaku` is safe and ends. Assumes nothing.
+-- `vectors::same_yaku` is safe and ends.
 use borrow.Author.Needs.{needs}
 use Prim.Native.Nat.{_-_, _≤_}
 use Rattle.vectors.proofs.same_yaku.Statement.{statement}
