@@ -11,7 +11,8 @@ use hand::Held;
 
 const HEAD: [u8; 8] = [1, 2, 2, 2, 3, 6, 6, 3];
 
-const LENGTHS: [usize; 5] = [13, 12, 11, 10, 8];
+// The bytes of a record with 0 to 4 melds.
+pub const LENGTHS: [usize; 5] = [13, 12, 11, 10, 8];
 
 const PADS: [usize; 5] = [1, 3, 5, 7, 1];
 

@@ -5,6 +5,7 @@ ghost use mathlib.Core.List.{[], _++_};
 ghost use Prim.Native.Nat.{_+_, _≤_, _<_};
 ghost use lib.ListN.{length, take, drop};
 ghost use Rattle.hand_record.specs.Record.{readHandOf, writtenOf, bufferOf};
+ghost use Rattle.score.specs.IsScore.{IsScore};
 ghost use Rattle.score.specs.Score.{scoreOf};
 ghost use Rattle.ledger.specs.Booking as Booking;
 ghost use Rattle.ledger.specs.Ledger.{fresh};
@@ -50,6 +51,7 @@ pub extern "C" fn hb_write(h: Hand, buf: &mut [u8]) -> Written
 // Score: what a record is worth for a dealer and a round wind, or the refusal.
 #[no_mangle]
 pub extern "C" fn hb_score(s: &[u8], dealer: u8, wind: u8) -> Scored
+    ensures { λ r. ⌜ IsScore (now (s .entry)) dealer wind r ⌝ }
     ensures { λ r. ⌜ r ≡ scoreOf (now (s .entry)) dealer wind ⌝ }
 {
     score::score(s, dealer, wind)

@@ -5,6 +5,7 @@ ghost use lib.ListN.{length};
 ghost use Rattle.hand_record.specs.Record.{countIn};
 ghost use Rattle.log.specs.Kinds.{letterOf, recordLength, entryLength};
 ghost use Rattle.log.specs.Log.{partAt, refusalAt};
+use hand_record::LENGTHS;
 
 // The kinds by their numbers. Each one's letter stands in `letter`, its length in `entry_length`.
 pub const RIICHI: u8 = 0;
@@ -14,9 +15,6 @@ pub const WIN: u8 = 1;
 pub const DRAW: u8 = 2;
 
 pub const CHOMBO: u8 = 3;
-
-// The bytes of a record with 0 to 4 melds.
-const LENGTHS: [usize; 5] = [13, 12, 11, 10, 8];
 
 // The kind that a header byte names.
 pub fn kind(header: u8) -> u8

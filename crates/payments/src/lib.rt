@@ -7,7 +7,7 @@ ghost use lib.IntN.{pos, negℤ, _+ℤ_};
 ghost use lib.ListN.{getD};
 ghost use Rattle.tiles.specs.Below.{count, tabulate};
 ghost use Rattle.score.specs.laws.Z.{Within};
-ghost use Rattle.ledger.specs.Ledger.{shareOf};
+ghost use Rattle.ledger.specs.Ledger.{shareOf, fineOf};
 ghost use Rattle.ledger.specs.laws.Bounds.{amount, mostChange, mostSticks};
 ghost use Rattle.ledger.specs.laws.Sums.{Small};
 use form::count_true;
@@ -73,7 +73,7 @@ fn penalty(pays: bool, declared: bool) -> i32
 
 // What a chombo of a seat gives each seat, by which have declared.
 pub fn penalties(seat: u8, d: [bool; 4]) -> [i32; 4]
-    ensures { λ r. ⌜ (r ≡ tabulate 4 0 (λ i. cond (eqb i seat) (negℤ (pos 9000)) (pos 3000) +ℤ cond (getD d i false) (pos 1000) (pos 0))) × Small r ⌝ }
+    ensures { λ r. ⌜ (r ≡ tabulate 4 0 (λ i. fineOf seat i +ℤ cond (getD d i false) (pos 1000) (pos 0))) × Small r ⌝ }
 {
     [
         penalty(0 == seat, d[0]),

@@ -271,8 +271,8 @@ count-take (a ∷ b ∷ c ∷ d ∷ s) (suc (suc (suc zero))) h l = absurd (omeg
 count-take (a ∷ b ∷ c ∷ d ∷ s) (suc (suc (suc (suc n)))) h l = refl
 
 -- an unbroken record has the form that Read wants
-pub record-form : (s : List ℕ) → isBroken s ≡ false → wrongLength (length (take (lengthOf (countIn s)) s)) (countIn (take (lengthOf (countIn s)) s)) ≡ false
-record-form s e =
+pub record-length : (s : List ℕ) → isBroken s ≡ false → wrongLength (length (take (lengthOf (countIn s)) s)) (countIn (take (lengthOf (countIn s)) s)) ≡ false
+record-length s e =
     let u = unbroken s e in
     let l = length-take-le (lengthOf (countIn s)) s (u .3) in
     rw (count-take s (lengthOf (countIn s)) (u .1) (omega arith), l) (length-right (lengthOf (countIn s)) (countIn s) (record { four = u .1; few = u .0; right = refl }))
@@ -309,5 +309,5 @@ module _ (s : List ℕ) (some : 0 < length (firstPart s)) where
     where
       go : Told (kindIn s) (argumentIn s) (drop 1 s) (entryLength s) → (argumentIn s ≡ 0) × (wrongLength (length (drop 1 (firstPart s))) (countIn (drop 1 (firstPart s))) ≡ false)
       go (bad b e) = absurd (omega (arith, e, some, part-length s))
-      go (won k a u e) = (a, rw (e, after-header s (lengthOf (countIn (drop 1 s))) bytes) (record-form (drop 1 s) u))
+      go (won k a u e) = (a, rw (e, after-header s (lengthOf (countIn (drop 1 s))) bytes) (record-length (drop 1 s) u))
       go (plain k l e) = absurd (k (rw same-header at w))
