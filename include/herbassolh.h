@@ -1,4 +1,4 @@
-/* The scoring core of the table handset, as firmware links it (libhandset.a, x86-64). Words in quotes are document 01's.
+/* The scoring core of the table handset, as firmware links it (libhandset.a, x86-64). Words in quotes are documents 01's and 02's.
  *
  * Every call takes all input. A refused call gives its number with all else zero and changes
  * no byte of the lent game or buffer. Bytes past what a call writes stay.
@@ -155,11 +155,19 @@ typedef struct {
     size_t len;
 } HbWritten;
 
+/* The items of fu, which add up to it: "base, closed ron, pair, each of the four groups (the reading's in its order, then the
+ * melds in the record's), wait, tsumo, and what rounding added (an open 20's ten too)"; "seven pairs having a base of 25 alone and
+ * yakuman only zeros". */
+typedef struct {
+    uint8_t base, ron, pair, group[4], wait, tsumo, rounding;
+} HbItems;
+
 /* What Score gives: a refusal with all else zero, or 0 and the reported reading's figures. */
 typedef struct {
     uint8_t refusal;
     uint16_t h;          /* han of the yaku plus dora; 0 with a yakuman */
     uint8_t fu;          /* 0 with a yakuman */
+    HbItems items;       /* of that fu */
     bool yaku[37];       /* yaku n at index n; index 0 is unused */
     int32_t changes[4];  /* points of seats 0 to 3, summing to 0; sticks left out */
 } HbScored;

@@ -2,7 +2,7 @@
 """cost.py: what one Score costs, in instructions (valgrind --tool=callgrind) and in bytes of stack (frames of the compiled program).
 
 It runs the program `vectors` (made by `rt check vectors floor`) on hands of crates/vectors/stdin. A figure is that of one entry: reading
-48 bytes, Score, and comparing. Mean: over the first 10,000 entries. Costliest found: the hands are measured in blocks, and those of the
+54 bytes, Score, and comparing. Mean: over the first 10,000 entries. Costliest found: the hands are measured in blocks, and those of the
 three costliest blocks one by one, so a costly hand among cheap ones can be missed.
 Stack: Score's own frame is inlined into its caller. The program `floor` has it, with Win, in the frame of its main, so that frame stands
 in for it; under it five frames of the search, the judge, and the largest other frame of the scorer, called there or not.
@@ -11,7 +11,7 @@ import os, re, subprocess, sys, tempfile
 here = os.path.join(os.path.dirname(os.path.abspath(__file__)), "..")
 program = os.path.join(here, "target/bin/vectors")
 data = open(os.path.join(here, "crates/vectors/stdin"), "rb").read()
-entries = [data[i:i + 48] for i in range(0, len(data), 48)]
+entries = [data[i:i + 54] for i in range(0, len(data), 54)]
 
 
 def instructions(hands):

@@ -17,10 +17,13 @@ pub struct Entry {
     pub scored: Scored,
 }
 
+/// The length of an entry.
+pub const LENGTH: usize = 54;
+
 impl Entry {
-    /// The 48 bytes of an entry.
-    pub fn bytes(&self) -> [u8; 48] {
-        let mut bytes = [0; 48];
+    /// The bytes of an entry, as crates/vectors/src/main.rt says.
+    pub fn bytes(&self) -> [u8; LENGTH] {
+        let mut bytes = [0; LENGTH];
         let scored = &self.scored;
         bytes[0] = self.record.len() as u8;
         bytes[1..1 + self.record.len()].copy_from_slice(&self.record);
@@ -35,6 +38,7 @@ impl Entry {
         for (seat, change) in scored.changes.iter().enumerate() {
             bytes[28 + 4 * seat..32 + 4 * seat].copy_from_slice(&change.to_le_bytes());
         }
+        bytes[44..].copy_from_slice(&scored.items.list());
         bytes
     }
 }

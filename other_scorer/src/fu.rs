@@ -1,10 +1,10 @@
-//! Fu, item by item (01, Fu and points).
+//! Fu, item by item (01, Fu and points; 02, S-3).
 
 use crate::shape::{Set, Shape};
 use crate::tiles::is_yaochu;
 use crate::win::Win;
 
-/// The items of a reading's fu; groups are the reading's in its order, then the melds in the record's.
+/// The items of a reading's fu; groups are the reading's in its order, then the melds in the record's (02, S-3).
 #[derive(Clone, Copy, Debug, Default, PartialEq, Eq)]
 pub struct Items {
     pub base: u8,
@@ -16,15 +16,20 @@ pub struct Items {
     pub rounding: u8,
 }
 
-/// Seven pairs: 25 (01, Fu and points).
+/// Seven pairs: a base of 25 alone (02, S-3).
 pub const SEVEN_PAIRS: Items =
     Items { base: 25, closed_ron: 0, pair: 0, groups: [0; 4], wait: 0, tsumo: 0, rounding: 0 };
 
 impl Items {
-    /// The fu: the sum of the items (01, Fu and points).
+    /// The items in order: base, closed ron, pair, the four groups, wait, tsumo, rounding (02, S-3).
+    pub fn list(&self) -> [u8; 10] {
+        let [a, b, c, d] = self.groups;
+        [self.base, self.closed_ron, self.pair, a, b, c, d, self.wait, self.tsumo, self.rounding]
+    }
+
+    /// The fu: what the items add up to (02, S-3).
     pub fn total(&self) -> u8 {
-        let groups = self.groups.iter().sum::<u8>();
-        self.base + self.closed_ron + self.pair + groups + self.wait + self.tsumo + self.rounding
+        self.list().iter().sum()
     }
 }
 
@@ -40,7 +45,7 @@ fn set_fu(set: &Set) -> u8 {
     if is_yaochu(kind) { 2 * simple } else { simple }
 }
 
-/// The fu of a regular reading, rounded up to tens; an open 20 becomes 30 (01, Fu and points).
+/// The items of a regular reading; rounding is what was added up to tens, and an open 20's ten too (02, S-3).
 pub fn regular(win: &Win, shape: &Shape) -> Items {
     let two_if = |holds: bool| if holds { 2 } else { 0 };
     let mut items = Items {

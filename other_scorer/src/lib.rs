@@ -1,4 +1,4 @@
-//! A second scorer, game and log for the table handset, written from document 01 alone.
+//! A second scorer, game and log for the table handset, written from documents 01 and 02 alone.
 //! Readings are found by always placing the lowest tile left, then sorted into document 01's order.
 
 pub mod codec;

@@ -12,6 +12,8 @@ pub struct Scored {
     pub refusal: u8,
     pub h: u8,
     pub fu: u8,
+    /// The items of the reported reading's fu (02, S-3).
+    pub items: fu::Items,
     pub yaku: u64,
     pub changes: [i32; 4],
     /// The number of readings, for statistics only; the document has no such result.
@@ -132,6 +134,6 @@ pub fn score(record: &[u8], dealer: u8, wind: u8) -> Scored {
     let Some(value) = best(&all).and_then(|at| all[at].1) else {
         return Scored { readings: all.len(), ..refused(7) };
     };
-    let Value { h, fu, yaku, changes, .. } = value;
-    Scored { refusal: 0, h, fu, yaku, changes, readings: all.len() }
+    let Value { h, fu, items, yaku, changes, .. } = value;
+    Scored { refusal: 0, h, fu, items, yaku, changes, readings: all.len() }
 }

@@ -99,9 +99,11 @@ fn none() -> Best
     ensures { λ r. ⌜ r ≡ noneOf ⌝ }
 {
     let y = [false; 37];
+    let items = value::fu_items::base_alone(Fu(0));
     let v = Value {
         yaku: y,
         han: Han(0),
+        items,
         fu: Fu(0),
         basic: Points(0),
         gain: Points(0),

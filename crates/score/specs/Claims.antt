@@ -1,18 +1,23 @@
 -- The theorems of Score (01, Readings and Score), over every reading of a hand; `Score` has the theorem that there is exactly one score.
-use Prim.Native.Nat.{ℕ, _≤_}
+use Prim.Native.Nat.{ℕ, _≤_, _<_}
 use mathlib.Core.Path.{_≡_}
+use mathlib.Core.Bool.{false}
 use mathlib.Core.List.{List}
 use mathlib.Core.Logic.{_↔_}
 use lib.IntN.{pos}
+use lib.ListN.{getD}
 use Rattle.hand.specs.declared.Hand.{Hand}
 use Rattle.hand_record.specs.Record.{handOf, readOf, IsSound}
 use Rattle.reading.specs.declared.Reading.{Reading}
 use Rattle.points.specs.Points.{sumOfFour}
+use Rattle.value.specs.Fu.{fu, groupFu, added, baseAlone}
+use Rattle.value.specs.Value.{yakuman}
 use Rattle.score.specs.declared.Scored.{Scored}
-use Rattle.score.specs.Named.{IsReadingOf, ReadsWithYaku, IsReported, gainIn, scoredAs, Named}
-use Rattle.score.specs.Score.{scoreOf}
+use Rattle.score.specs.Named.{wonOf, groupsOf, waysOf, partsOf, worth, IsReadingOf, ReadsWithYaku, IsReported, gainIn, scoredAs, Named}
+use Rattle.score.specs.Score.{scoreOf, is-score}
 use Rattle.score.specs.Table.{Lines}
 use Rattle.score.specs.laws.Named as laws
+use Rattle.score.specs.laws.Items as items
 use Rattle.score.specs.laws.Settled as settled
 use Rattle.score.specs.laws.Changes as changes
 use Rattle.score.specs.laws.Table as table
@@ -32,13 +37,18 @@ module _ (h : Hand) (dealer wind : ℕ) where
   pub most : (r q : Reading) → IsReported h dealer wind r → ReadsWithYaku h dealer wind q → gainIn h dealer wind q ≤ gainIn h dealer wind r
   most = laws.most h dealer wind
 
+  -- "each of the four groups (the reading's in its order, then the melds in the record's)" (02, S-3): the item of a regular reading's i-th group
+  pub group-item : (r : Reading) → r .shape ≡ 0 → yakuman (wonOf h dealer wind) (partsOf h r) ≡ false →
+      (i : ℕ) → i < 4 → getD (worth h dealer wind r .items .group) i (fu 0) ≡ fu (groupFu (getD (groupsOf h r) i 0) (getD (waysOf h r) i 0))
+  group-item = items.group-item h dealer wind
+
   -- of the answer a that is named
   module _ {a : Scored} (n : Named h dealer wind a) where
     -- accepted exactly when a reading has a yaku
     pub accepted : (a .refusal ≡ 0) ↔ ((r : Reading) × ReadsWithYaku h dealer wind r)
     accepted = laws.accepted h dealer wind n
 
-    -- an accepted hand scores as its reported reading
+    -- an accepted hand scores as its reported reading, item by item in its fu (02, S-3)
     pub best : a .refusal ≡ 0 → (r : Reading) × IsReported h dealer wind r × (a ≡ scoredAs h dealer wind r)
     best = laws.best h dealer wind n
 
@@ -56,6 +66,14 @@ module _ (s : List ℕ) (dealer wind : ℕ) where
   -- the score of a sound record is what document 01 names for its hand
   pub scored : dealer ≤ 3 → wind ≤ 1 → IsSound s → Named (handOf (readOf s)) dealer wind (scoreOf s dealer wind)
   scored = settled.scored s dealer wind
+
+  -- "The items add up to the fu reported" (02, S-3)
+  pub items-total : added (scoreOf s dealer wind .items) ≡ scoreOf s dealer wind .fu
+  items-total = items.total (is-score s dealer wind)
+
+  -- refused: "all else zero", the ten items too
+  pub no-items : (scoreOf s dealer wind .refusal ≡ 0 → ⊥) → scoreOf s dealer wind .items ≡ baseAlone 0
+  no-items = items.none (is-score s dealer wind)
 
   -- "four changes summing to 0"
   pub zero-sum : sumOfFour (scoreOf s dealer wind .changes) ≡ pos 0

@@ -19,6 +19,7 @@ use Rattle.yaku.specs.declared.Parts.{Parts}
 use Rattle.points.specs.declared.Seats.{Seats}
 use Rattle.points.specs.Points.{changes}
 use Rattle.value.specs.declared.Value.{Value}
+use Rattle.value.specs.Fu.{baseAlone}
 use Rattle.value.specs.Value.{valueOf}
 use Rattle.best.specs.Best.{withYaku, Over}
 use Rattle.score.specs.declared.Scored.{Scored}
@@ -58,7 +59,7 @@ waysOf h r = tabulate (4 - h .held .m) 0 (λ i. cond (isRon (h .fields) && eqb (
 unfoldable pub partsOf : Hand → Reading → Parts
 partsOf h r = record { shape = r .shape; pair = r .pair; groups = groupsOf h r; ways = waysOf h r; place = r .place }
 
--- its yaku, h, fu and "winner's gain" (01, Yaku; Fu and points); "Dora is the kind after the indicator"
+-- its yaku, h, fu item by item and "winner's gain" (01, Yaku; Fu and points); "Dora is the kind after the indicator"
 unfoldable pub worth : Hand → ℕ → ℕ → Reading → Value
 worth h dealer wind r = valueOf (wonOf h dealer wind) (partsOf h r) (doraOf (h .fields .indicator)) (seatsOf h dealer)
 
@@ -66,11 +67,11 @@ worth h dealer wind r = valueOf (wonOf h dealer wind) (partsOf h r) (doraOf (h .
 
 -- "Refused: all zero"
 abbrev pub refusedWith : ℕ → Scored
-refusedWith n = record { refusal = n; h = 0; fu = 0; yaku = replicate 37 false; changes = replicate 4 (pos 0) }
+refusedWith n = record { refusal = n; h = 0; fu = 0; items = baseAlone 0; yaku = replicate 37 false; changes = replicate 4 (pos 0) }
 
--- "Accepted: h, fu, yaku set, four changes"
+-- "Accepted: h, fu, yaku set, four changes"; "The fu count must give its items" (02, S-3)
 abbrev pub acceptedAs : Value → Seats → Bool → Scored
-acceptedAs v s ron = record { refusal = 0; h = v .han .0; fu = v .fu .0; yaku = v .yaku; changes = changes s ron (v .basic .0) }
+acceptedAs v s ron = record { refusal = 0; h = v .han .0; fu = v .fu .0; items = v .items; yaku = v .yaku; changes = changes s ron (v .basic .0) }
 
 -- ---- what document 01 names for a sound hand
 
@@ -92,7 +93,7 @@ module _ (h : Hand) (dealer wind : ℕ) where
   abbrev pub gainIn : Reading → ℕ
   gainIn r = worth h dealer wind r .gain .0
 
-  -- r reported: its h, fu, yaku and changes
+  -- r reported: its h, fu with the items, yaku and changes
   abbrev pub scoredAs : Reading → Scored
   scoredAs r = acceptedAs (worth h dealer wind r) (seatsOf h dealer) (isRon (h .fields))
 

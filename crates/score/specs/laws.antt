@@ -2,6 +2,7 @@ pub mod Parts
 pub mod Found
 pub mod Best
 pub mod Named
+pub mod Items
 pub mod Exact
 pub mod Settled
 pub mod Z

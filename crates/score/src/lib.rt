@@ -1,4 +1,4 @@
-// Score: a record, the dealer and the round wind give the best reading's h, fu, yaku and four changes, or a refusal (01, Score).
+// Score: a record, the dealer and the round wind give the best reading's h, fu with its items, yaku and four changes, or a refusal (01, Score; 02, S-3).
 ghost use mathlib.Core.Path.{_≡_};
 ghost use mathlib.Core.Bool.{cond};
 ghost use Prim.Native.Nat.{_-_, _<_, _≤_};
@@ -15,15 +15,18 @@ use best::Setting;
 use hand::Hand;
 use hand_record::Answer;
 use points::Seats;
+use units::Fu;
+use value::Items;
 use value::Value;
 use yaku::Won;
 
-// What Score gives: 0 and h, fu, the yaku set (yaku n at n) and the four changes, or the refusal and zeros.
+// What Score gives: 0 and h, fu, the items that add up to it, the yaku set (yaku n at n) and the four changes, or the refusal and zeros.
 #[repr(C)]
 pub struct Scored {
     pub refusal: u8,
     pub h: u16,
     pub fu: u8,
+    pub items: Items,
     pub yaku: [bool; 37],
     pub changes: [i32; 4],
 }
@@ -138,10 +141,12 @@ fn refused(n: u8) -> Scored
 {
     let none = [false; 37];
     let zero = [0i32; 4];
+    let items = value::fu_items::base_alone(Fu(0));
     Scored {
         refusal: n,
         h: 0,
         fu: 0,
+        items,
         yaku: none,
         changes: zero,
     }
@@ -154,11 +159,13 @@ fn accepted(v: Value, s: Seats, ron: bool) -> Scored
 {
     let y = v.yaku;
     let a = v.basic;
+    let items = v.items;
     let c = points::changes(s, ron, a);
     Scored {
         refusal: 0,
         h: v.han.0,
         fu: v.fu.0,
+        items,
         yaku: y,
         changes: c,
     }

@@ -5,7 +5,8 @@ ghost use Prim.Native.Nat.{_<_};
 // Han: of a yaku, of the dora, and their sum h.
 pub struct Han(pub u16);
 
-// Fu: of an item, and their rounded sum.
+// Fu: of an item, and the sum of the items.
+#[repr(C)]
 pub struct Fu(pub u8);
 
 // Points: the basic points A, a payment, the winner's gain.

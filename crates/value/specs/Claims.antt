@@ -11,7 +11,7 @@ use Rattle.yaku.specs.declared.Won.{Won}
 use Rattle.yaku.specs.declared.Parts.{Parts}
 use Rattle.points.specs.declared.Seats.{Seats}
 use Rattle.value.specs.Han.{closedHan, openHan}
-use Rattle.value.specs.Fu.{added, itemsOf}
+use Rattle.value.specs.Fu.{earned, added, rounded}
 use Rattle.value.specs.Value.{yakuman, valueOf}
 use Rattle.value.specs.laws.Claims as laws
 
@@ -29,8 +29,12 @@ open-han = refl
 
 module _ (w : Won) (p : Parts) (dora : ℕ) (s : Seats) where
   -- "The items add up to the fu reported" (02, S-3)
-  pub items-add-up : added (itemsOf w p (yakuman w p)) ≡ valueOf w p dora s .fu .0
+  pub items-add-up : added (valueOf w p dora s .items) ≡ valueOf w p dora s .fu .0
   items-add-up = laws.items-add-up w p dora s
+
+  -- of that sum: "Round up to tens. An open 20 becomes 30. Seven pairs: 25"; with a yakuman "h and fu are 0"
+  pub fu-rounded : valueOf w p dora s .fu .0 ≡ cond (yakuman w p) 0 (cond (eqb (p .shape) 1) 25 (rounded (w .closed) (added (earned w p 0))))
+  fu-rounded = laws.fu-rounded w p dora s
 
   -- dora "is no yaku"
   pub dora-is-no-yaku : (other : ℕ) → valueOf w p other s .yaku ≡ valueOf w p dora s .yaku

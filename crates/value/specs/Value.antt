@@ -7,7 +7,7 @@ use Rattle.yaku.specs.declared.Parts.{Parts}
 use Rattle.points.specs.Points.{basic, gain}
 use Rattle.points.specs.declared.Seats.{Seats}
 use Rattle.value.specs.Han.{hanOf}
-use Rattle.value.specs.Fu.{fuOf}
+use Rattle.value.specs.Fu.{itemsOf, fuOf}
 use Rattle.value.specs.declared.Value.{Value}
 
 -- "With a yakuman": one is among the yaku of the reading
@@ -18,11 +18,12 @@ yakuman w p = isYakuman (yakuOf w p)
 abbrev pub basicOf : Won → Parts → ℕ → ℕ
 basicOf w p dora = basic (yakuman w p) (hanOf w p dora (yakuman w p)) (fuOf w p (yakuman w p))
 
--- "h, fu, yaku set" of the reading, A, and "the winner's gain"
+-- "h, fu, yaku set" of the reading, the items of its fu (02, S-3), A, and "the winner's gain"
 unfoldable pub valueOf : Won → Parts → ℕ → Seats → Value
 valueOf w p dora s = record {
   yaku = yakuOf w p;
   han = record { 0 = hanOf w p dora (yakuman w p) };
+  items = itemsOf w p (yakuman w p);
   fu = record { 0 = fuOf w p (yakuman w p) };
   basic = record { 0 = basicOf w p dora };
   gain = record { 0 = gain s (w .ron) (basicOf w p dora) };

@@ -2,7 +2,9 @@
 ghost use mathlib.Core.Path.{_≡_};
 ghost use mathlib.Core.Bool.{cond};
 ghost use Prim.Native.Nat.{_≤_};
-ghost use Rattle.value.specs.Fu.{fu, tripletFu, groupFu, earned as earnedOf, added as addedOf, rounded as roundedOf, baseAlone, itemsOf};
+ghost use lib.ListN.{getD};
+ghost use Rattle.tiles.specs.Below.{sum};
+ghost use Rattle.value.specs.Fu.{fu, tripletFu, groupFu, groupItems, earned as earnedOf, added as addedOf, rounded as roundedOf, baseAlone, itemsOf};
 use crate::Items;
 use units::Fu;
 use yaku::Parts;
@@ -53,21 +55,34 @@ fn fu_if(b: bool, n: Fu) -> Fu
 }
 
 // A base of n fu and nothing else.
-fn base_alone(n: Fu) -> Items
+pub fn base_alone(n: Fu) -> Items
     ensures { λ i. ⌜ i ≡ baseAlone (n .0) ⌝ }
 {
+    let group = [Fu(0); 4];
     Items {
         base: n,
         ron: Fu(0),
         pair: Fu(0),
-        g0: Fu(0),
-        g1: Fu(0),
-        g2: Fu(0),
-        g3: Fu(0),
+        group,
         wait: Fu(0),
         tsumo: Fu(0),
         rounding: Fu(0),
     }
+}
+
+// What each group earns: the reading's in its order, then the melds' in the record's.
+fn group_items(p: Parts) -> [Fu; 4]
+    ensures { λ r. ⌜ r ≡ groupItems p ⌝ }
+    ensures { λ r. ⌜ sum 4 (λ k. getD r k (fu 0) .0) ≤ 128 ⌝ }
+{
+    let g = p.groups;
+    let ways = p.ways;
+    [
+        group_fu(g[0], ways[0]),
+        group_fu(g[1], ways[1]),
+        group_fu(g[2], ways[2]),
+        group_fu(g[3], ways[3]),
+    ]
 }
 
 // The items of a regular reading, before rounding.
@@ -77,14 +92,10 @@ fn earned(w: Won, p: Parts) -> Items
     ensures { λ i. ⌜ addedOf i ≤ 164 ⌝ }
 {
     let g = p.groups;
-    let ways = p.ways;
     let pinfu = groups::pinfu(w.closed, g, p.pair, p.place, w.win, w.round, w.own);
     let ron = fu_if(w.closed & w.ron, Fu(10));
     let pair = fu_if(groups::is_value(w.round, w.own, p.pair), Fu(2));
-    let g0 = group_fu(g[0], ways[0]);
-    let g1 = group_fu(g[1], ways[1]);
-    let g2 = group_fu(g[2], ways[2]);
-    let g3 = group_fu(g[3], ways[3]);
+    let group = group_items(p);
     let wait = fu_if(
         groups::earns_wait(p.place, groups::placed(g, p.place), w.win),
         Fu(2),
@@ -94,10 +105,7 @@ fn earned(w: Won, p: Parts) -> Items
         base: Fu(20),
         ron,
         pair,
-        g0,
-        g1,
-        g2,
-        g3,
+        group,
         wait,
         tsumo,
         rounding: Fu(0),
@@ -109,14 +117,15 @@ pub fn added(i: Items) -> Fu
     requires { ⌜ addedOf i ≤ 255 ⌝ }
     ensures { λ r. ⌜ r .0 ≡ addedOf i ⌝ }
 {
+    let g = i.group;
     Fu(
         i.base.0
             + i.ron.0
             + i.pair.0
-            + i.g0.0
-            + i.g1.0
-            + i.g2.0
-            + i.g3.0
+            + g[0].0
+            + g[1].0
+            + g[2].0
+            + g[3].0
             + i.wait.0
             + i.tsumo.0
             + i.rounding.0,

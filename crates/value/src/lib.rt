@@ -16,24 +16,23 @@ use yaku::Won;
 pub mod fu_items;
 mod yaku_han;
 
-// What each thing earns, in fu, and what rounding adds.
+// What each thing earns, in fu, and what rounding adds: the groups are the reading's in its order, then the melds' in the record's.
+#[repr(C)]
 pub struct Items {
     pub base: Fu,
     pub ron: Fu,
     pub pair: Fu,
-    pub g0: Fu,
-    pub g1: Fu,
-    pub g2: Fu,
-    pub g3: Fu,
+    pub group: [Fu; 4],
     pub wait: Fu,
     pub tsumo: Fu,
     pub rounding: Fu,
 }
 
-// What a reading is worth: its yaku, h, fu, the basic points A and the winner's gain.
+// What a reading is worth: its yaku, h, the items of fu and their sum, the basic points A and the winner's gain.
 pub struct Value {
     pub yaku: [bool; 37],
     pub han: Han,
+    pub items: Items,
     pub fu: Fu,
     pub basic: Points,
     pub gain: Points,
@@ -66,12 +65,14 @@ pub fn value_of(w: Won, x: TileTests, p: Parts, dora: u8, s: Seats) -> Value
     let y = yaku::yaku_of(w, x, p);
     let yakuman = yaku::is_yakuman(y);
     let h = hand_han(w, p, y, dora, yakuman);
-    let f = fu_items::added(fu_items::items_of(w, p, yakuman));
+    let items = fu_items::items_of(w, p, yakuman);
+    let f = fu_items::added(items);
     let a = points::basic(yakuman, h, f);
     let g = points::gain(s, w.ron, a);
     Value {
         yaku: y,
         han: h,
+        items,
         fu: f,
         basic: a,
         gain: g,

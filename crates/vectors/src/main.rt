@@ -1,11 +1,13 @@
 // Holds Score against another scorer: reads hands with that one's answers and says how many agree, with the number of each that differs.
-// An entry is 48 bytes: the record's length, 16 bytes of it, dealer, wind, refusal, h, fu, the yaku set (yaku n is bit n % 8 of byte 22 + n / 8),
-// a zero, four changes of 4 bytes from the least significant on, and zeros.
+// An entry is 54 bytes: the record's length, 16 bytes of it, dealer, wind, refusal, h, fu, the yaku set (yaku n is bit n % 8 of byte 22 + n / 8),
+// a zero, four changes of 4 bytes from the least significant on, and the ten items of fu.
 ghost use mathlib.Core.Path.{_≡_};
 ghost use Prim.Native.Nat.{_+_, _<_, _≤_};
 ghost use lib.ListN.{length};
 use libc::STDIN_FILENO;
 use libc::STDOUT_FILENO;
+use score::Scored;
+use value::Items;
 
 fn wide(x: u8) -> u64
     ensures { λ r. ⌜ r < 256 ⌝ }
@@ -44,7 +46,7 @@ fn is_change(n: u64, c: i32) -> bool
 }
 
 fn same_changes(e: &[u8], c: [i32; 4]) -> bool
-    requires { ⌜ length (now e) ≡ 48 ⌝ }
+    requires { ⌜ length (now e) ≡ 54 ⌝ }
 {
     is_change(four(e, 28), c[0])
         & is_change(four(e, 32), c[1])
@@ -58,7 +60,7 @@ fn bit(b: u8, n: u8) -> bool {
 }
 
 fn same_yaku(e: &[u8], y: [bool; 37]) -> bool
-    requires { ⌜ length (now e) ≡ 48 ⌝ }
+    requires { ⌜ length (now e) ≡ 54 ⌝ }
 {
     for n in 0..37 {
         if bit(e[22 + n / 8], (n % 8) as u8) != y[n] {
@@ -68,8 +70,39 @@ fn same_yaku(e: &[u8], y: [bool; 37]) -> bool
     true
 }
 
+fn same_items(e: &[u8], i: Items) -> bool
+    requires { ⌜ length (now e) ≡ 54 ⌝ }
+{
+    let g = i.group;
+    (i.base.0 == e[44])
+        & (i.ron.0 == e[45])
+        & (i.pair.0 == e[46])
+        & (g[0].0 == e[47])
+        & (g[1].0 == e[48])
+        & (g[2].0 == e[49])
+        & (g[3].0 == e[50])
+        & (i.wait.0 == e[51])
+        & (i.tsumo.0 == e[52])
+        & (i.rounding.0 == e[53])
+}
+
+// What an entry says of its score is s.
+fn is_told(e: &[u8], s: Scored) -> bool
+    requires { ⌜ length (now e) ≡ 54 ⌝ }
+{
+    let i = s.items;
+    let y = s.yaku;
+    let c = s.changes;
+    (s.refusal == e[19])
+        & (tall(s.h) == wide(e[20]))
+        & (s.fu == e[21])
+        & same_items(e, i)
+        & same_yaku(e, y)
+        & same_changes(e, c)
+}
+
 fn agrees(e: &[u8]) -> bool
-    requires { ⌜ length (now e) ≡ 48 ⌝ }
+    requires { ⌜ length (now e) ≡ 54 ⌝ }
 {
     let n = e[0];
     if 16 < n {
@@ -77,13 +110,7 @@ fn agrees(e: &[u8]) -> bool
     }
     let end = (n as usize) + 1;
     let s = score::score(&e[1..end], e[17], e[18]);
-    let y = s.yaku;
-    let c = s.changes;
-    (s.refusal == e[19])
-        & (tall(s.h) == wide(e[20]))
-        & (s.fu == e[21])
-        & same_yaku(e, y)
-        & same_changes(e, c)
+    is_told(e, s)
 }
 
 fn say(n: u64, text: &[u8]) {
@@ -93,7 +120,7 @@ fn say(n: u64, text: &[u8]) {
 
 // 1 where the entry agrees; where it differs, its number n is said.
 fn judged(e: &[u8], n: u64) -> u64
-    requires { ⌜ length (now e) ≡ 48 ⌝ }
+    requires { ⌜ length (now e) ≡ 54 ⌝ }
     ensures { λ r. ⌜ r ≤ 1 ⌝ }
 {
     if agrees(e) {
@@ -104,11 +131,11 @@ fn judged(e: &[u8], n: u64) -> u64
 }
 
 fn main() {
-    let mut e = [0u8; 48];
+    let mut e = [0u8; 54];
     let mut n: u64 = 0;
     let mut agree: u64 = 0;
     while n < 1000000 {
-        if io::read_full(STDIN_FILENO, &mut e) < 48 {
+        if io::read_full(STDIN_FILENO, &mut e) < 54 {
             break;
         }
         n += 1;

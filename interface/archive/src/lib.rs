@@ -71,10 +71,31 @@ impl fmt::Debug for Yaku {
 
 #[repr(C)]
 #[derive(Clone, Copy, Debug, PartialEq, Eq)]
+pub struct Items {
+    pub base: u8,
+    pub ron: u8,
+    pub pair: u8,
+    pub group: [u8; 4],
+    pub wait: u8,
+    pub tsumo: u8,
+    pub rounding: u8,
+}
+
+impl Items {
+    /// The items in order, the four groups one by one.
+    pub fn list(&self) -> [u8; 10] {
+        let [a, b, c, d] = self.group;
+        [self.base, self.ron, self.pair, a, b, c, d, self.wait, self.tsumo, self.rounding]
+    }
+}
+
+#[repr(C)]
+#[derive(Clone, Copy, Debug, PartialEq, Eq)]
 pub struct Scored {
     pub refusal: u8,
     pub h: u16,
     pub fu: u8,
+    pub items: Items,
     pub yaku: Yaku,
     pub changes: [i32; 4],
 }

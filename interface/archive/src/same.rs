@@ -48,7 +48,20 @@ pub fn write(hand: &archive::Hand, buffer: &mut [u8]) -> archive::Written {
     }
 }
 
-/// What Score should give (01, Score).
+/// The items of fu in the archive's form.
+fn items(items: &other_scorer::fu::Items) -> archive::Items {
+    archive::Items {
+        base: items.base,
+        ron: items.closed_ron,
+        pair: items.pair,
+        group: items.groups,
+        wait: items.wait,
+        tsumo: items.tsumo,
+        rounding: items.rounding,
+    }
+}
+
+/// What Score should give (01, Score; 02, S-3).
 pub fn scored(scored: &other_scorer::Scored) -> archive::Scored {
     let mut yaku = [0; 37];
     for (n, held) in yaku.iter_mut().enumerate() {
@@ -58,6 +71,7 @@ pub fn scored(scored: &other_scorer::Scored) -> archive::Scored {
         refusal: scored.refusal,
         h: scored.h as u16,
         fu: scored.fu,
+        items: items(&scored.items),
         yaku: archive::Yaku(yaku),
         changes: scored.changes,
     }

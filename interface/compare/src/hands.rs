@@ -110,8 +110,13 @@ fn compare(report: &mut Report, rng: &mut Rng, index: usize) {
     let wanted = same::scored(&scored);
     report.count("Score by refusal", wanted.refusal);
     wanted.yaku.numbers().iter().for_each(|&n| report.count("Score by yaku", n as u16));
+    let items = wanted.items.list();
+    (0..10).filter(|&at| items[at] > 0).for_each(|at| report.count("Score by item of fu (0 base to 9 rounding)", at as u16));
     let got = archive::score(&record, dealer, wind);
-    report.same("Score", got, wanted, || format!("{} dealer {dealer} wind {wind}", hex(&record)));
+    let input = || format!("{} dealer {dealer} wind {wind}", hex(&record));
+    report.same("Score", got, wanted, input);
+    let total = got.items.list().iter().map(|&item| item as u32).sum::<u32>();
+    report.same("the sum of the items, and fu", total, got.fu as u32, input);
 
     let hand = hand(rng, &record);
     compare_write(report, rng, &hand);

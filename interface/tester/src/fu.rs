@@ -1,6 +1,5 @@
-//! The fu of a reading, item by item. The items are the other scorer's until the core gives them.
+//! The core's fu, item by item; each has its name by the reading that the other scorer reports.
 
-use other_scorer::fu::Items;
 use other_scorer::notation::text;
 use other_scorer::reading::Reading;
 use other_scorer::shape::{Set, Shape, Wait};
@@ -10,23 +9,18 @@ use other_scorer::Hand;
 use crate::answer::Answer;
 use crate::page::Page;
 
-/// The items of fu in order: base, closed ron, pair, the four groups, wait, tsumo, rounding.
-pub fn items(items: &Items) -> [u8; 10] {
-    let [a, b, c, d] = items.groups;
-    [items.base, items.closed_ron, items.pair, a, b, c, d, items.wait, items.tsumo, items.rounding]
-}
-
-/// Their names for a reading: each group with its tiles.
-pub fn names(answer: &Answer, hand: &Hand, reading: &Reading) -> Vec<String> {
-    let win = Win::new(hand, answer.dealer, answer.wind);
-    let mut names: Vec<String> = ["base", "closed ron", "value pair"].map(String::from).to_vec();
-    if let Reading::Regular { pair, groups, place } = reading {
-        let shape = Shape::new(&win, *pair, groups, *place);
-        names.extend(shape.sets.iter().map(set_name));
-        names.push(wait_name(shape.wait).into());
-        names.extend(["tsumo", "rounding"].map(String::from));
-    }
-    names
+/// The names of the ten items for a reading: of a regular one each group with its tiles, and the wait.
+fn names(answer: &Answer, hand: &Hand, reading: &Reading) -> Vec<String> {
+    let parts = match reading {
+        Reading::Regular { pair, groups, place } => {
+            let win = Win::new(hand, answer.dealer, answer.wind);
+            let shape = Shape::new(&win, *pair, groups, *place);
+            shape.sets.iter().map(set_name).chain([wait_name(shape.wait).into()]).collect()
+        }
+        _ => ["group 1", "group 2", "group 3", "group 4", "wait"].map(String::from).to_vec(),
+    };
+    let fixed = |names: &[&str]| names.iter().map(|name| name.to_string()).collect();
+    [fixed(&["base", "closed ron", "value pair"]), parts, fixed(&["tsumo", "rounding"])].concat()
 }
 
 /// A group of a reading or a meld in words.
@@ -53,12 +47,13 @@ fn wait_name(wait: Wait) -> &'static str {
     }
 }
 
-/// The items of fu that count, and the fu.
-pub fn rows(page: &mut Page, names: &[String], list: &Items, fu: u8) {
-    let mut label = "fu items *";
-    for (name, number) in names.iter().zip(items(list)).filter(|(_, number)| *number > 0) {
-        page.figure(label, format!("   {name}"), number);
+/// Each item that is not zero, then the total (02, S-3).
+pub fn rows(page: &mut Page, answer: &Answer, hand: &Hand, reading: &Reading) {
+    let (names, items) = (names(answer, hand, reading), answer.scored.items.list());
+    let mut label = "fu items";
+    for (name, item) in names.iter().zip(items).filter(|(_, item)| *item > 0) {
+        page.figure(label, format!("   {name}"), item);
         label = "";
     }
-    page.figure("fu", "", fu);
+    page.figure("fu", "", answer.scored.fu);
 }

@@ -14,6 +14,10 @@ use crate::page::Page;
 use crate::words::{Bad, Words};
 use crate::{fu, payments};
 
+/// What the stars say.
+const NOTE: &str =
+    "* reading (items of fu are named by it), han of each yaku and A by the other scorer; all else is the core's answer";
+
 /// The hand's record, and what the core says to it.
 pub fn run(core: &mut Core, mut words: Words) -> Result<String, Bad> {
     let plain = words.take_flag("--plain");
@@ -30,10 +34,10 @@ pub fn run(core: &mut Core, mut words: Words) -> Result<String, Bad> {
         page.line("");
         page.row("reading *", in_words(hand, reading));
         yaku_rows(&mut page, &answer, hand, value);
-        fu::rows(&mut page, &fu::names(&answer, hand, reading), &value.items, answer.scored.fu);
+        fu::rows(&mut page, &answer, hand, reading);
         payments::rows(&mut page, &answer, hand);
         page.line("");
-        page.line("* reading, han of each yaku, items of fu and A by the other scorer; all else is the core's answer");
+        page.line(NOTE);
     }
     page.line(core.verdict());
     Ok(page.finish())
@@ -65,7 +69,7 @@ fn yaku_rows(page: &mut Page, answer: &Answer, hand: &Hand, value: &Value) {
     page.figure("h", "", answer.scored.h);
 }
 
-/// The figures for scripts; items of fu in the order of `fu::items`.
+/// The figures for scripts.
 fn plain_score(page: &mut Page, answer: &Answer) {
     let scored = &answer.scored;
     page.plain("h", [scored.h]);
@@ -73,7 +77,7 @@ fn plain_score(page: &mut Page, answer: &Answer) {
     page.plain("yaku", scored.yaku.numbers());
     if let Some((_, value)) = answer.reported() {
         page.plain("han", scored.yaku.numbers().iter().map(|&n| value.han[n]));
-        page.plain("fu-items", fu::items(&value.items));
     }
+    page.plain("fu-items", scored.items.list());
     page.plain("changes", scored.changes);
 }

@@ -43,9 +43,45 @@ fn a_hand_for_reading() {
     ] {
         assert!(out.contains(row), "{row} in\n{out}");
     }
+    let items = [("fu items", "base", 20), ("", "closed ron", 10)];
+    let items = items.map(|(label, name, item)| format!("{label:<13} {name:<39}{item:>9}\n"));
+    assert!(out.contains(&items.concat()), "{out}");
     let south = answer("hand 234567m345p67s22s+8s seat=0 tsumo dealer=3 wind=S");
     assert!(south.contains("dealer=3 wind=S; the winner is S") && south.contains("pays 2 A"), "{south}");
     assert_eq!(south, answer("hand 234567m345p67s22s+8s seat=0 tsumo dealer=N wind=1"));
+}
+
+#[test]
+fn items_of_fu_by_name() {
+    for (hand, rows) in [
+        (
+            "46mPP+5m kan=9999s kan=2222p ankan=EEEE seat=1 tsumo",
+            &[
+                "base 20",
+                "value pair 2",
+                "open kan 9999s 16",
+                "open kan 2222p 8",
+                "concealed kan EEEE 32",
+                "wait on the middle of a run 2",
+                "tsumo 2",
+                "rounding 8",
+            ][..],
+        ),
+        (
+            "99p45888s+3s pon=EEE chi=123m seat=1 ron=3",
+            &["base 20", "concealed triplet 888s 4", "open triplet EEE 4", "rounding 2"],
+        ),
+        ("567m456p67s22p+8s chi=234m seat=1 ron=3", &["base 20", "rounding 10"]),
+        ("1122m3344p5566sE+E seat=1 ron=3", &["base 25"]),
+        ("111m333p555s77s99s+7s seat=1 tsumo", &[]),
+    ] {
+        let out = answer(&format!("hand {hand}"));
+        let h = out.find("\nh ").expect("h") + 1;
+        let mut lines = out[h..].lines().skip(1).map(|line| line.trim_start_matches("fu items"));
+        let words = |line: &str| line.split_whitespace().collect::<Vec<_>>().join(" ");
+        let items: Vec<String> = lines.by_ref().take_while(|line| !line.starts_with("fu ")).map(words).collect();
+        assert_eq!(items, rows, "{out}");
+    }
 }
 
 #[test]

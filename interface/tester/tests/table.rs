@@ -4,6 +4,8 @@ mod run;
 
 use run::answer;
 
+const NO_ITEMS: &str = "0 0 0 0 0 0 0 0 0 0";
+
 /// The values of a key of `hand --plain`.
 fn value(out: &str, key: &str) -> String {
     let mut lines = out.lines().map(|line| line.split_once(' ').unwrap_or((line, "")));
@@ -21,23 +23,27 @@ fn paid(hand: &str, changes: &str, more: &[(&str, &str)]) {
 /// A hand is refused with this number, all else zero.
 fn refused(hand: &str, refusal: &str) {
     let out = answer(&format!("hand {hand} --plain"));
-    for (key, wanted) in [("refusal", refusal), ("h", "0"), ("fu", "0"), ("yaku", ""), ("changes", "0 0 0 0")] {
+    for (key, wanted) in [("refusal", refusal), ("h", "0"), ("fu", "0"), ("fu-items", NO_ITEMS), ("yaku", ""), ("changes", "0 0 0 0")] {
         assert_eq!(value(&out, key), wanted, "{key} of {hand}");
     }
 }
 
 #[test]
 fn lines_1_to_9() {
-    paid("234567m345p67s22s+8s seat=1 ron=3", "0 2000 0 -2000", &[("h", "2"), ("fu", "30"), ("yaku", "2 4")]);
-    paid("234567m345p67s22s+8s seat=1 tsumo", "-1300 2700 -700 -700", &[("fu-items", "20 0 0 0 0 0 0 0 0 0")]);
-    paid("234567m345p67s22s+8s seat=0 ron=3", "2900 0 0 -2900", &[]);
-    paid("111222333m78s99p+9s seat=1 tsumo", "-6000 12000 -3000 -3000", &[("h", "6"), ("han", "1 1 1 3")]);
-    paid("112233m778899p5s+5s seat=1 ron=3", "0 5200 0 -5200", &[("h", "3"), ("fu", "40")]);
-    paid("567m456p67s22p+8s chi=234m seat=1 ron=3", "0 1000 0 -1000", &[]);
+    let closed_ron = ("fu-items", "20 10 0 0 0 0 0 0 0 0");
+    let base_alone = ("fu-items", "20 0 0 0 0 0 0 0 0 0");
+    paid("234567m345p67s22s+8s seat=1 ron=3", "0 2000 0 -2000", &[("h", "2"), ("fu", "30"), ("yaku", "2 4"), closed_ron]);
+    paid("234567m345p67s22s+8s seat=1 tsumo", "-1300 2700 -700 -700", &[base_alone]);
+    paid("234567m345p67s22s+8s seat=0 ron=3", "2900 0 0 -2900", &[closed_ron]);
+    paid("111222333m78s99p+9s seat=1 tsumo", "-6000 12000 -3000 -3000", &[("h", "6"), ("han", "1 1 1 3"), base_alone]);
+    let on_the_pair = ("fu-items", "20 10 0 0 0 0 0 2 0 8");
+    paid("112233m778899p5s+5s seat=1 ron=3", "0 5200 0 -5200", &[("h", "3"), ("fu", "40"), on_the_pair]);
+    paid("567m456p67s22p+8s chi=234m seat=1 ron=3", "0 1000 0 -1000", &[("fu-items", "20 0 0 0 0 0 0 0 0 10")]);
     refused("456p78s234s99p+9s chi=123m seat=1 ron=3", "7");
     let triplets = [("h", "4"), ("fu", "50"), ("fu-items", "20 10 0 8 4 4 2 0 0 2")];
     paid("111m333p555s77s99s+7s seat=1 ron=3", "0 8000 0 -8000", &triplets);
-    paid("111m333p555s77s99s+7s seat=1 tsumo", "-16000 32000 -8000 -8000", &[("yaku", "30"), ("h", "0")]);
+    let yakuman = [("yaku", "30"), ("h", "0"), ("fu", "0"), ("fu-items", NO_ITEMS)];
+    paid("111m333p555s77s99s+7s seat=1 tsumo", "-16000 32000 -8000 -8000", &yakuman);
 }
 
 #[test]

@@ -2,7 +2,7 @@
 
 use std::{env, fs, process::ExitCode};
 
-use other_scorer::entry::make;
+use other_scorer::entry::{make, LENGTH};
 use other_scorer::rng::Rng;
 use other_scorer::survey::Survey;
 
@@ -10,14 +10,14 @@ use other_scorer::survey::Survey;
 fn run(seed: u64, count: usize, out: &str) -> std::io::Result<bool> {
     let mut rng = Rng::new(seed);
     let mut survey = Survey::new();
-    let mut file = Vec::with_capacity(48 * count);
+    let mut file = Vec::with_capacity(LENGTH * count);
     for index in 0..count {
         let entry = make(&mut rng, index);
         survey.note(&entry);
         file.extend(entry.bytes());
     }
     fs::write(out, file)?;
-    println!("seed {seed}, {count} entries of 48 bytes");
+    println!("seed {seed}, {count} entries of {LENGTH} bytes");
     let whole = survey.report(count as u64 / 1000);
     Ok(whole)
 }

@@ -11,6 +11,10 @@ use crate::shape::Shape;
 use crate::tiles::suit;
 use crate::win::Win;
 
+/// The items of fu in order (02, S-3).
+const ITEMS: [&str; 10] =
+    ["base", "closed-ron", "pair", "group-1", "group-2", "group-3", "group-4", "wait", "tsumo", "rounding"];
+
 const MELDS: [&str; 4] = ["chi count", "pon count", "open kan count", "closed kan count"];
 
 impl Survey {
@@ -28,6 +32,7 @@ impl Survey {
         cover.expect_numbers("dora", 0, 4);
         cover.expect("wait", &["Pair", "Middle", "Edge", "TwoSided", "Triplet"]);
         cover.expect("reported", &["regular", "seven-pairs", "orphans", "open-20-made-30"]);
+        cover.expect("fu item", &ITEMS);
         cover.expect("winds", &["both-pair", "both-triplet", "24-and-triplet"]);
         cover.expect("A at a limit", &["2000", "3000", "4000", "6000", "8000"]);
         cover.watch("h");
@@ -92,6 +97,9 @@ impl Survey {
         let yakuman = entry.scored.yaku >> 26 != 0;
         cover.add_if(!yakuman, "h", entry.scored.h);
         cover.add_if(!yakuman, "fu", entry.scored.fu);
+        for (name, item) in ITEMS.iter().zip(entry.scored.items.list()) {
+            cover.add_if(item > 0, "fu item", name);
+        }
         let a = if yakuman { YAKUMAN } else { basic(entry.scored.h, entry.scored.fu) };
         cover.add_if(a >= 2000, "A at a limit", a);
         match &all[at].0 {

@@ -3,6 +3,7 @@ use mathlib.Core.Path.{_≡_, refl, _∙_}
 use mathlib.Core.Logic.{⊎-elim}
 use Prim.Native.Nat.{_-_, _≤_}
 use native.Mathlib.Omega.{arith}
+use lib.ListN.{length}
 use borrow.Author.Needs.{needs}
 use Rattle.reading.specs.search.Readings.{paired}
 use Rattle.reading.specs.laws.Fold.{ranged, ranged-turn, ranged-done, paired-with, paired-none, readings-with}
@@ -16,6 +17,10 @@ Inv-loop h m win t b₀ k₀ b k = (k ≤ 34) × (ranged (judgeOf (worthIn h)) (
 
 abbrev μ-loop : tie.MeasureT-loop
 μ-loop h m win t b₀ k₀ b k = 34 - k
+
+-- the tally has 34 kinds
+long : (c : tie.Start Inv-loop μ-loop) → length (c .args .t2) ≡ 34
+long c = search needs
 
 pub best-of-spec : {M : Type 1} → statement M
 unfolding bestOf
@@ -36,7 +41,7 @@ best-of-spec =
       omega arith,
       ranged-turn (judgeOf _) _ _ _ _ _ (omega arith)
           (⊎-elim
-          (λ w. w .3 ∙ paired-with (judgeOf _) _ _ _ _ _ _ _ (search needs) (omega arith) (w .0 .taken) (w .1 .ensures) (w .2 .ensures))
+          (λ w. w .3 ∙ paired-with (judgeOf _) _ _ _ _ _ _ _ (long (c .before .before .before .before)) (omega arith) (w .0 .taken) (w .1 .ensures) (w .2 .ensures))
           (λ w. w .1 ∙ paired-none (judgeOf _) _ _ _ _ _ (w .0 .left))
           (c .if1 .came))
           ∙ c .before .before .loop .inv .1,

@@ -6,4 +6,4 @@ use Rattle.best.proofs.none.Tie as tie
 
 pub none-spec : {M : Type 1} → statement M
 unfolding noneOf
-none-spec = tie.close (tie.spec (λ c κs. search needs) (λ c. rw (c .of-shape .ensures)))
+none-spec = tie.close (tie.spec (λ c κs. search needs) (λ c κs. search needs) (λ c. rw (c .of-shape .ensures, c .before .base-alone .ensures)))

@@ -10,6 +10,7 @@ use Rattle.reading.specs.Reading.{ofShape}
 use Rattle.reading.specs.search.Readings.{readings}
 use Rattle.reading.specs.search.Judged.{judged}
 use Rattle.value.specs.declared.Value.{Value}
+use Rattle.value.specs.Fu.{baseAlone}
 use Rattle.best.specs.declared.Best.{Best}
 use Rattle.best.specs.Best.{withYaku}
 
@@ -21,7 +22,7 @@ beats v w =
 
 -- before any reading: none seen, none with a yaku
 abbrev pub nothing : Value
-nothing = record { yaku = replicate 37 false; han = record { 0 = 0 }; fu = record { 0 = 0 }; basic = record { 0 = 0 }; gain = record { 0 = 0 } }
+nothing = record { yaku = replicate 37 false; han = record { 0 = 0 }; items = baseAlone 0; fu = record { 0 = 0 }; basic = record { 0 = 0 }; gain = record { 0 = 0 } }
 
 -- what is kept at first
 unfoldable pub noneOf : Best

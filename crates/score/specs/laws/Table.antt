@@ -20,7 +20,7 @@ use Rattle.yaku.specs.OfTiles.{only, halfFlush, flush, gates}
 use Rattle.yaku.specs.Yaku.{testsOf, isYakuman, listed, yakuOf, hasYaku}
 use Rattle.points.specs.Points.{plain, limit, ordinary, basic, hundreds, share, pays, gain, change, changes}
 use Rattle.value.specs.Han.{hanBy, yakuHan, hanOf}
-use Rattle.value.specs.Fu.{tripletFu, groupFu, earned, added, rounded, fuOf}
+use Rattle.value.specs.Fu.{tripletFu, groupFu, groupItems, earned, added, rounded, itemsOf, fuOf}
 use Rattle.value.specs.Value.{valueOf}
 use Rattle.best.specs.search.Best.{beats, noneOf, judgeOf, bestOf}
 use Rattle.score.specs.Named.{wonOf, groupsOf, waysOf, partsOf, worth}
@@ -29,22 +29,23 @@ use Rattle.score.specs.laws.Settled.{found-is-score}
 use Rattle.score.specs.Table.{toldOf, Scores, Lines}
 
 -- a line holds of the score where it holds of what the search finds
-line : (hand : Hand) (refusal h fu : ℕ) (changes : List ℤ) → toldOf (foundOf (recordOf hand) 0 0) ≡ (refusal, h, fu, changes) → Scores hand refusal h fu changes
-line hand refusal h fu changes e = record { told = ap toldOf (sym (found-is-score (recordOf hand) 0 0)) ∙ e }
+line : (hand : Hand) (refusal h fu : ℕ) (items : List ℕ) (changes : List ℤ) → toldOf (foundOf (recordOf hand) 0 0) ≡ (refusal, h, fu, items, changes)
+    → Scores hand refusal h fu items changes
+line hand refusal h fu items changes e = record { told = ap toldOf (sym (found-is-score (recordOf hand) 0 0)) ∙ e }
 
 pub lines : Lines
-unfolding widths valuesOf recordOf every some number total doraOf isGroup at uses tallyOf meldHolds inMelds inOthers inHeld inConcealed inHand concealedTally handTally tileOver33 wrongHeld wrongFields descends inRecord overFour wrongSituation refusalOf headOf meldsOf tilesOf heldIn paddingAfter handIn answerBy judgedHand readOf holds isSevenPairs isOrphans concatMap isEmpty less fits without passes step splits placedAt placed paired shaped readings judged littleDragons valueHan earnsWait pinfu twins inThreeAt inThreeSuits straight touches outside concealed kans fourWinds only halfFlush flush gates testsOf isYakuman listed yakuOf hasYaku plain limit ordinary basic hundreds share pays gain change changes hanBy yakuHan hanOf tripletFu groupFu earned added rounded fuOf valueOf beats noneOf judgeOf bestOf wonOf groupsOf waysOf partsOf worth settledBy keptOf settledOf foundBy foundOf
+unfolding widths valuesOf recordOf every some number total doraOf isGroup at uses tallyOf meldHolds inMelds inOthers inHeld inConcealed inHand concealedTally handTally tileOver33 wrongHeld wrongFields descends inRecord overFour wrongSituation refusalOf headOf meldsOf tilesOf heldIn paddingAfter handIn answerBy judgedHand readOf holds isSevenPairs isOrphans concatMap isEmpty less fits without passes step splits placedAt placed paired shaped readings judged littleDragons valueHan earnsWait pinfu twins inThreeAt inThreeSuits straight touches outside concealed kans fourWinds only halfFlush flush gates testsOf isYakuman listed yakuOf hasYaku plain limit ordinary basic hundreds share pays gain change changes hanBy yakuHan hanOf tripletFu groupFu groupItems earned added rounded itemsOf fuOf valueOf beats noneOf judgeOf bestOf wonOf groupsOf waysOf partsOf worth settledBy keptOf settledOf foundBy foundOf
 lines = record {
-  line-1 = line _ _ _ _ _ refl;
-  line-2 = line _ _ _ _ _ refl;
-  line-3 = line _ _ _ _ _ refl;
-  line-4 = line _ _ _ _ _ refl;
-  line-5 = line _ _ _ _ _ refl;
-  line-6 = line _ _ _ _ _ refl;
-  line-7 = line _ _ _ _ _ refl;
-  line-8 = line _ _ _ _ _ refl;
-  line-9 = line _ _ _ _ _ refl;
+  line-1 = line _ _ _ _ _ _ refl;
+  line-2 = line _ _ _ _ _ _ refl;
+  line-3 = line _ _ _ _ _ _ refl;
+  line-4 = line _ _ _ _ _ _ refl;
+  line-5 = line _ _ _ _ _ _ refl;
+  line-6 = line _ _ _ _ _ _ refl;
+  line-7 = line _ _ _ _ _ _ refl;
+  line-8 = line _ _ _ _ _ _ refl;
+  line-9 = line _ _ _ _ _ _ refl;
   line-10 = (refl, refl);
   line-11 = λ fu. (refl, refl, refl, refl);
-  line-12 = line _ _ _ _ _ refl;
+  line-12 = line _ _ _ _ _ _ refl;
 }

@@ -1,13 +1,13 @@
 -- `value::value_of` meets its contract.
 use borrow.Author.Needs.{needs}
 use native.Mathlib.Omega.{arith}
-use Rattle.value.specs.laws.Items.{added-is-fu}
+use Rattle.value.specs.Fu.{fuOf}
 use Rattle.value.specs.Value.{valueOf}
 use Rattle.value.proofs.value_of.Statement.{statement}
 use Rattle.value.proofs.value_of.Tie as tie
 
 returns : tie.Need-returns
-unfolding valueOf
+unfolding valueOf fuOf
 returns c =
     let c1 = c .before in
     let c2 = c1 .before in
@@ -19,7 +19,6 @@ returns c =
         ← c6 .yaku-of .ensures,
         ← c5 .is-yakuman .ensures,
         ← c4 .hand-han .ensures .0,
-        ← added-is-fu _ _ (c5 .is-yakuman .result),
         ← c3 .items-of .ensures .0,
         ← c2 .added .ensures,
         ← c1 .basic .ensures .0,

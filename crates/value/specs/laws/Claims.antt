@@ -1,25 +1,30 @@
 -- The proofs of the claims.
 use mathlib.Core.Path.{_≡_, refl}
-use mathlib.Core.Bool.{true}
+use mathlib.Core.Bool.{true, cond}
 use Prim.Native.Nat.{ℕ}
+use lib.Dec.{eqb}
 use Rattle.yaku.specs.declared.Won.{Won}
 use Rattle.yaku.specs.declared.Parts.{Parts}
 use Rattle.points.specs.Points.{basic}
 use Rattle.points.specs.declared.Seats.{Seats}
 use Rattle.value.specs.Han.{hanOf}
-use Rattle.value.specs.Fu.{added, fuOf, itemsOf}
+use Rattle.value.specs.Fu.{added, earned, rounded, itemsOf, fuOf}
 use Rattle.value.specs.Value.{yakuman, valueOf}
-use Rattle.value.specs.laws.Items.{added-is-fu}
+use Rattle.value.specs.laws.Items as items
 
 module _ (w : Won) (p : Parts) (dora : ℕ) (s : Seats) where
-  pub items-add-up : added (itemsOf w p (yakuman w p)) ≡ valueOf w p dora s .fu .0
+  pub items-add-up : added (valueOf w p dora s .items) ≡ valueOf w p dora s .fu .0
+  unfolding valueOf fuOf
+  items-add-up = refl
+
+  pub fu-rounded : valueOf w p dora s .fu .0 ≡ cond (yakuman w p) 0 (cond (eqb (p .shape) 1) 25 (rounded (w .closed) (added (earned w p 0))))
   unfolding valueOf
-  items-add-up = added-is-fu w p (yakuman w p)
+  fu-rounded = items.fu-rounded w p (yakuman w p)
 
   pub dora-is-no-yaku : (other : ℕ) → valueOf w p other s .yaku ≡ valueOf w p dora s .yaku
   unfolding valueOf
   dora-is-no-yaku other = refl
 
   pub yakuman-pays-as-one : yakuman w p ≡ true → (valueOf w p dora s .han .0 ≡ 0) × (valueOf w p dora s .fu .0 ≡ 0) × (valueOf w p dora s .basic .0 ≡ 8000)
-  unfolding valueOf hanOf fuOf basic
+  unfolding valueOf hanOf itemsOf fuOf added basic
   yakuman-pays-as-one e = (rw e, rw e, rw e)

@@ -1,4 +1,4 @@
--- The items of fu add up to the fu.
+-- What document 01 says of the sum of the items.
 use mathlib.Core.Path.{_≡_, refl}
 use mathlib.Core.Bool.{Bool, true, false, _&&_, not, cond}
 use Prim.Native.Nat.{ℕ, _+_, _-_, _*_, _/_, _≤_}
@@ -31,20 +31,21 @@ unfolding added
 added-alone n = omega arith
 
 module _ (w : Won) (p : Parts) where
-  sum : ℕ
-  sum = added (earned w p 0)
+  -- before rounding
+  whole : ℕ
+  whole = added (earned w p 0)
 
-  regular : added (earned w p (rounded (w .closed) sum - sum)) ≡ rounded (w .closed) sum
-  unfolding sum
-  regular = omega (arith, added-rounding w p (rounded (w .closed) sum - sum), rounded-up (w .closed) sum)
+  regular : added (earned w p (rounded (w .closed) whole - whole)) ≡ rounded (w .closed) whole
+  unfolding whole
+  regular = omega (arith, added-rounding w p (rounded (w .closed) whole - whole), rounded-up (w .closed) whole)
 
   by-case : (yakuman seven : Bool) →
-      added (cond yakuman (baseAlone 0) (cond seven (baseAlone 25) (earned w p (rounded (w .closed) sum - sum))))
-      ≡ cond yakuman 0 (cond seven 25 (rounded (w .closed) sum))
+      added (cond yakuman (baseAlone 0) (cond seven (baseAlone 25) (earned w p (rounded (w .closed) whole - whole))))
+      ≡ cond yakuman 0 (cond seven 25 (rounded (w .closed) whole))
   by-case true seven = added-alone 0
   by-case false true = added-alone 25
   by-case false false = regular
 
-  pub added-is-fu : (yakuman : Bool) → added (itemsOf w p yakuman) ≡ fuOf w p yakuman
-  unfolding itemsOf fuOf sum
-  added-is-fu yakuman = by-case yakuman (eqb (p .shape) 1)
+  pub fu-rounded : (yakuman : Bool) → fuOf w p yakuman ≡ cond yakuman 0 (cond (eqb (p .shape) 1) 25 (rounded (w .closed) (added (earned w p 0))))
+  unfolding itemsOf fuOf whole
+  fu-rounded yakuman = by-case yakuman (eqb (p .shape) 1)

@@ -7,7 +7,7 @@ use Rattle.vectors.proofs.main.Statement.{statement}
 use Rattle.vectors.proofs.main.Tie as tie
 
 abbrev Inv-loop : tie.InvT-loop
-Inv-loop e₀ n₀ agree₀ t4 t5 e n agree = (length e ≡ 48) × (n ≤ 1000000) × (agree ≤ n)
+Inv-loop e₀ n₀ agree₀ t4 t5 e n agree = (length e ≡ 54) × (n ≤ 1000000) × (agree ≤ n)
 
 abbrev μ-loop : tie.MeasureT-loop
 μ-loop e₀ n₀ agree₀ t4 t5 e n agree = 1000000 - n

@@ -15,10 +15,7 @@ within : (i : Items) (n r : ℕ) → n ≡ added i → n ≤ r → r ≤ 170 →
   base = i .base;
   ron = i .ron;
   pair = i .pair;
-  g0 = i .g0;
-  g1 = i .g1;
-  g2 = i .g2;
-  g3 = i .g3;
+  group = i .group;
   wait = i .wait;
   tsumo = i .tsumo;
   rounding = fu (r - n);
