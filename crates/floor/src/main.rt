@@ -10,7 +10,7 @@ fn hand_of(g: Game) -> Game {
     let a = game::riichi(g, 1);
     let h = a.game;
     let record = WIN;
-    let b = game::win(h, &record);
+    let b = wins::win(h, &record);
     b.game
 }
 

@@ -1,20 +1,21 @@
-// The hand record: Read and Write (01, Tiles and the hand record). Both take all input.
+// The hand record and Read (01, Tiles and the hand record). It takes all input.
 ghost use mathlib.Core.Path.{_≡_};
 ghost use Prim.Native.Nat.{_+_, _*_, _-_, _≤_};
 ghost use lib.ListN.{length, drop};
-ghost use Rattle.bits.specs.Bits.{pack, unpack, Below, bitsOf, fill};
+ghost use Rattle.bits.specs.Bits.{unpack, Below, bitsOf, fill};
 ghost use Rattle.hand_record.specs.Record.{headOf, meldsOf, sixes, heldIn, refusedWith, judged, readOf, refusalIn, fieldsOf, readHandOf};
-ghost use Rattle.hand_record.specs.Record.{widths, valuesOf, writtenOf, bufferOf};
 use hand::Fields;
 use hand::Hand;
 use hand::Held;
 
-const HEAD: [u8; 8] = [1, 2, 2, 2, 3, 6, 6, 3];
+// The widths of the head's fields.
+pub const HEAD: [u8; 8] = [1, 2, 2, 2, 3, 6, 6, 3];
 
 // The bytes of a record with 0 to 4 melds.
 pub const LENGTHS: [usize; 5] = [13, 12, 11, 10, 8];
 
-const PADS: [usize; 5] = [1, 3, 5, 7, 1];
+// The padding bits of a record with 0 to 4 melds.
+pub const PADS: [usize; 5] = [1, 3, 5, 7, 1];
 
 // The head of a record: the fields, and then the meld count.
 struct Head {
@@ -141,7 +142,7 @@ fn hand_in(b: &[u8], f: Fields, m: u8) -> HandRead
     let held = held_in(b, 25, m);
     let padding = bits::gather(b, 25 + 8 * k + 6 * (13 - 3 * k), PADS[k]);
     let h = Hand { fields: f, held };
-    let j = hand::refusal(h, padding);
+    let j = refusals::refusal(h, padding);
     if 0 < j {
         return refused(j);
     }
@@ -216,60 +217,4 @@ pub fn read_hand(s: &[u8]) -> ReadHand
         refusal: refusal(a),
         hand,
     }
-}
-
-// The bits of a hand, with zeros after them.
-fn pack_hand(h: Hand) -> [u8; 104]
-    requires { ⌜ h .held .m ≤ 4 ⌝ }
-    ensures { λ r. ⌜ r ≡ fill 104 (pack (widths (h .held .m)) (valuesOf h)) ⌝ }
-{
-    let f = h.fields;
-    let x = h.held;
-    let m = x.m as usize;
-    let melds = x.melds;
-    let concealed = x.concealed;
-    let mut b = [0u8; 104];
-    let hw = HEAD;
-    let hv = [
-        f.how,
-        f.winner,
-        f.discarder,
-        f.riichi,
-        f.situation,
-        f.indicator,
-        f.winning,
-        x.m,
-    ];
-    let ew = [8u8; 4];
-    let sw = [6u8; 13];
-    let k = 13 - 3 * m;
-    let at = 25 + 8 * m;
-    bits::pack_into(&hw, &hv, &mut b, 0);
-    bits::pack_into(&ew[..m], &melds[..m], &mut b, 25);
-    bits::pack_into(&sw[..k], &concealed[..k], &mut b, at);
-    bits::put(&mut b, at + 6 * k, PADS[m], 0);
-    b
-}
-
-// Write: stores the hand's record at the front of the buffer and gives its length; 2 to 5 or 13 and no byte stored where it is refused.
-pub fn write(h: Hand, buf: &mut [u8]) -> Written
-    ensures { λ r. ⌜ r ≡ writtenOf h (now (buf .entry)) ⌝ }
-    ensures { λ _. ⌜ now (buf .exit) ≡ bufferOf h (now (buf .entry)) ⌝ }
-{
-    let j = hand::unwritable(h);
-    if 0 < j {
-        return Written { refusal: j, len: 0 };
-    }
-    let m = h.held.m as usize;
-    let n = LENGTHS[m];
-    if buf.len() < n {
-        return Written {
-            refusal: 13,
-            len: 0,
-        };
-    }
-    let b = pack_hand(h);
-    let ew = [8u8; 13];
-    bits::unpack_into(&ew[..n], &b, 0, buf);
-    Written { refusal: 0, len: n }
 }

@@ -45,7 +45,7 @@ pub extern "C" fn hb_write(h: Hand, buf: &mut [u8]) -> Written
     ensures { λ r. ⌜ r ≡ writtenOf h (now (buf .entry)) ⌝ }
     ensures { λ _. ⌜ now (buf .exit) ≡ bufferOf h (now (buf .entry)) ⌝ }
 {
-    hand_record::write(h, buf)
+    hand_writer::write(h, buf)
 }
 
 // Score: what a record is worth for a dealer and a round wind, or the refusal.
@@ -80,7 +80,7 @@ pub extern "C" fn hb_riichi(g: &mut Game, seat: u8) -> u8
 pub extern "C" fn hb_win(g: &mut Game, s: &[u8]) -> u8
     ensures { λ r. ⌜ Booked (now (g .entry)) (Booking.win (now (s .entry))) r (now (g .exit)) ⌝ }
 {
-    let b = game::win(*g, s);
+    let b = wins::win(*g, s);
     *g = b.game;
     b.refusal
 }
@@ -160,7 +160,7 @@ pub extern "C" fn hb_lines(w: Walk, s: &[u8], buf: &mut [u8]) -> Printed
     ensures { λ r. ⌜ now (buf .exit) ≡ take (r .written) (textLeft w (now (s .entry))) ++ drop (r .written) (now (buf .entry)) ⌝ }
     ensures { λ r. ⌜ (83 + r .written ≤ length (now (buf .entry)) → r .walk .entry < 4294967295 → textLeft (r .walk) (now (s .entry)) ≡ []) ⌝ }
 {
-    play::lines(w, s, buf)
+    log_text::lines(w, s, buf)
 }
 
 // A line from a game by value.

@@ -1,4 +1,4 @@
-// What program `tally` does with a log (01, Log): it prints the text that `play::lines` writes, a buffer at a time.
+// What program `tally` does with a log (01, Log): it prints the text that `log_text::lines` writes, a buffer at a time.
 ghost use mathlib.Core.Path.{_≡_};
 ghost use Prim.Native.Nat.{_≤_};
 ghost use lib.ListN.{length};
@@ -14,7 +14,7 @@ fn print_log(s: &[u8]) -> usize
     let mut w = play::start();
     let mut printed = 0usize;
     loop {
-        let r = play::lines(w, s, &mut page);
+        let r = log_text::lines(w, s, &mut page);
         let n = r.written;
         if n == 0 {
             return printed;

@@ -81,10 +81,10 @@ pub fn tests(w: Won, x: TileTests, p: Parts) -> [bool; 37]
     let ron = w.ron;
     let closed = w.closed;
     let little = groups::little_dragons(g, pair);
-    let twin = groups::twins(g);
-    let hidden = groups::concealed(g, ways);
-    let kan = groups::kans(ways);
-    let outside = groups::outside(g, pair);
+    let twin = group_yaku::twins(g);
+    let hidden = group_yaku::concealed(g, ways);
+    let kan = group_yaku::kans(ways);
+    let outside = group_yaku::outside(g, pair);
     [
         false,
         closed & !ron,
@@ -99,11 +99,11 @@ pub fn tests(w: Won, x: TileTests, p: Parts) -> [bool; 37]
         closed & (riichi == 1),
         closed & (riichi == 2),
         closed & (shape == 1),
-        groups::in_three_suits(0, g),
-        groups::straight(g),
+        group_yaku::in_three_suits(0, g),
+        group_yaku::straight(g),
         outside & x.honour,
-        groups::in_three_suits(34, g),
-        groups::triplets(g),
+        group_yaku::in_three_suits(34, g),
+        group_yaku::triplets(g),
         hidden == 3,
         kan == 3,
         x.yaochus,
@@ -115,7 +115,7 @@ pub fn tests(w: Won, x: TileTests, p: Parts) -> [bool; 37]
         (situation == 4) & (own == 27),
         (situation == 4) & !(own == 27),
         groups::dragons(g) == 3,
-        groups::four_winds(g, pair),
+        group_yaku::four_winds(g, pair),
         closed & (hidden == 4),
         kan == 4,
         x.honours,

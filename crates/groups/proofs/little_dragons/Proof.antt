@@ -6,4 +6,4 @@ use Rattle.groups.proofs.little_dragons.Tie as tie
 
 pub little-dragons-spec : {M : Type 1} → statement M
 unfolding littleDragons
-little-dragons-spec = tie.close (tie.spec (λ c κs. search needs) (λ c. cc))
+little-dragons-spec = tie.close (tie.spec (λ c κs. search needs) (λ c. rw (c .dragons .ensures .0)))

@@ -8,6 +8,5 @@ pub pinfu-spec : {M : Type 1} → statement M
 unfolding pinfu
 pinfu-spec =
     tie.close
-    (tie.spec
-    (λ c. search needs) (λ c. search needs) (λ c. search needs) (λ c. search needs) (λ c κs. search needs)
-    (λ c κs. search needs) (λ c κs. search needs) (λ c. rw (c .before .earns-wait .ensures, c .before .before .placed .ensures, c .is-value .ensures)))
+    (tie.spec (λ c κs. search needs) (λ c κs. search needs) (λ c κs. search needs) (λ c κs. search needs)
+    (λ c. rw (c .before .before .before .all-runs .ensures, c .before .earns-wait .ensures, c .before .before .placed .ensures, c .is-value .ensures)))

@@ -1,4 +1,4 @@
--- `handset::hb_win` meets its contract: it is the function of `proofs/Lent.antt` with bytes, over `game::win`.
+-- `handset::hb_win` meets its contract: it is the function of `proofs/Lent.antt` with bytes, over `wins::win`.
 use Prim.Native.Nat.{ℕ}
 use mathlib.Core.List.{List}
 use contract.Running.{givenOf, tables, tablesOf}
@@ -7,9 +7,9 @@ use denote.Triple.Table.{entered, cited}
 use Rattle.ledger.specs.declared.Game.{Game}
 use Rattle.ledger.specs.Booking.{win}
 use Rattle.ledger.specs.Runs.{Booked}
-use Rattle.game.proofs.win.Symbol as callee-def
-use Rattle.game.proofs.win.Symbol.{name as #callee}
-use Rattle.game.proofs.win.Met as callee-thm
+use Rattle.wins.proofs.win.Symbol as callee-def
+use Rattle.wins.proofs.win.Symbol.{name as #callee}
+use Rattle.wins.proofs.win.Met as callee-thm
 use Rattle.handset.proofs.Lent.{bytes, Callee, bytes-meets}
 use Rattle.handset.proofs.hb_win.Key.{name as #self}
 use Rattle.handset.proofs.hb_win as f
@@ -25,4 +25,4 @@ hb-win-spec 𝓤 H 𝓜 𝓖 𝓡 =
     entered 𝓤 H (tripleOf 𝓤 H (𝓖 .A) f.signature (f.spec 𝓤 H (𝓖 .A) (𝓜 .mem) (𝓡 .run)))
     (tables 𝓤 H 𝓜 𝓡 code.env .C) (tables 𝓤 H 𝓜 𝓡 code.env .Λ) #self code.function (code.unfolded 𝓤 H 𝓜 𝓡)
     (bytes-meets #callee Promise 𝓤 H (𝓖 .A) (givenOf 𝓤 H 𝓜 𝓖) (tablesOf 𝓤 H 𝓜 (tables 𝓤 H 𝓜 𝓡 code.env))
-    (cited 𝓤 H (Callee bytes #callee Promise 𝓤 H (𝓖 .A)) 𝓜 𝓡 code.env #callee callee-def.routine code.calls-game·win (callee-thm.met 𝓤 H 𝓜 𝓖 𝓡)))
+    (cited 𝓤 H (Callee bytes #callee Promise 𝓤 H (𝓖 .A)) 𝓜 𝓡 code.env #callee callee-def.routine code.calls-wins·win (callee-thm.met 𝓤 H 𝓜 𝓖 𝓡)))

@@ -1,0 +1,131 @@
+// What the tiles held are refused for: 2, 3 and 4 over them, and places past the tiles that are not 0 (01, Read; Write).
+ghost use mathlib.Core.Path.{_≡_};
+ghost use mathlib.Core.Bool.{true, false, _&&_, _||_, not};
+ghost use Prim.Native.Nat.{_+_, _-_, _*_, _/_, _%_, _≤_};
+ghost use lib.Dec.{ltb, eqb};
+ghost use lib.ListN.{getD};
+ghost use Rattle.tiles.specs.Below.{every, some};
+ghost use Rattle.tiles.specs.Kinds.{isRunStart};
+ghost use Rattle.hand.specs.Held.{tileOver33, chiWithoutRun, wrongHeld, descends as descendsOf, overFour, unusedNotZero};
+use hand::Held;
+
+// A tile over 33 among the first n.
+fn over_33(c: [u8; 13], n: usize) -> bool
+    requires { ⌜ n ≤ 13 ⌝ }
+    ensures { λ r. ⌜ r ≡ some n (λ i. ltb 33 (getD c i 0)) ⌝ }
+{
+    for i in 0..n {
+        if 33 < c[i] {
+            return true;
+        }
+    }
+    false
+}
+
+// A tile over 33 in a meld or among the concealed tiles.
+fn tile_over_33(x: Held) -> bool
+    ensures { λ r. ⌜ r ≡ tileOver33 x ⌝ }
+{
+    let m = x.m;
+    let d = x.melds;
+    let c = x.concealed;
+    (((0 < m) & (33 < d[0] % 64))
+        | ((1 < m) & (33 < d[1] % 64))
+        | ((2 < m) & (33 < d[2] % 64))
+        | ((3 < m) & (33 < d[3] % 64)))
+        | over_33(c, hand::others(m))
+}
+
+// A chi from whose tile no run goes.
+fn bad_chi(b: u8) -> bool
+    ensures { λ r. ⌜ r ≡ (eqb (b / 64) 0 && not (isRunStart (b % 64))) ⌝ }
+{
+    (b / 64 == 0) & !tiles::is_run_start(b % 64)
+}
+
+// Such a chi among the melds.
+fn chi_without_run(x: Held) -> bool
+    ensures { λ r. ⌜ r ≡ chiWithoutRun x ⌝ }
+{
+    let m = x.m;
+    let d = x.melds;
+    ((0 < m) & bad_chi(d[0]))
+        | ((1 < m) & bad_chi(d[1]))
+        | ((2 < m) & bad_chi(d[2]))
+        | ((3 < m) & bad_chi(d[3]))
+}
+
+// 2 of the tiles held, with the padding bits after them as a number.
+pub fn wrong_held(x: Held, padding: u32) -> bool
+    ensures { λ r. ⌜ r ≡ wrongHeld x padding ⌝ }
+{
+    tile_over_33(x) | chi_without_run(x) | (0 < padding)
+}
+
+// How many tiles have one after them.
+fn followed(m: u8) -> usize
+    ensures { λ r. ⌜ (r ≡ 13 - 3 * m - 1) × (r ≤ 12) ⌝ }
+{
+    if m <= 4 { 12 - 3 * (m as usize) } else { 0 }
+}
+
+// One of the first n tiles is over the one after it.
+fn falls(c: [u8; 13], n: usize) -> bool
+    requires { ⌜ n ≤ 12 ⌝ }
+    ensures { λ r. ⌜ r ≡ some n (λ i. ltb (getD c (i + 1) 0) (getD c i 0)) ⌝ }
+{
+    for i in 0..n {
+        if c[i + 1] < c[i] {
+            return true;
+        }
+    }
+    false
+}
+
+// 3: the concealed tiles descend somewhere.
+pub fn descends(x: Held) -> bool
+    ensures { λ r. ⌜ r ≡ descendsOf x ⌝ }
+{
+    let c = x.concealed;
+    falls(c, followed(x.m))
+}
+
+// 4: over four of a kind in a tally.
+pub fn over_four(t: [u8; 34]) -> bool
+    ensures { λ r. ⌜ r ≡ overFour (λ k. getD t k 0) ⌝ }
+{
+    for k in 0..34 {
+        if 4 < t[k] {
+            return true;
+        }
+    }
+    false
+}
+
+// ---- what Write asks beside them
+
+// Each place from n on is 0.
+fn zero_from(c: [u8; 13], n: usize) -> bool
+    ensures { λ r. ⌜ r ≡ every 13 (λ i. ltb i n || eqb (getD c i 0) 0) ⌝ }
+{
+    for i in 0..13 {
+        if !((i < n) | (c[i] == 0)) {
+            return false;
+        }
+    }
+    true
+}
+
+// A place past the m melds or past the 13 - 3m tiles is not 0.
+pub fn unused_not_zero(x: Held) -> bool
+    ensures { λ r. ⌜ r ≡ unusedNotZero x ⌝ }
+{
+    let m = x.m;
+    let d = x.melds;
+    let c = x.concealed;
+    !(((0 < m) | (d[0] == 0))
+        & ((1 < m) | (d[1] == 0))
+        & ((2 < m) | (d[2] == 0))
+        & ((3 < m) | (d[3] == 0)))
+        | !zero_from(c, hand::others(m))
+}

@@ -1,9 +1,0 @@
--- `hand::wrong_fields` meets its contract: each call gives its part.
-use borrow.Author.Needs.{needs}
-use Rattle.hand.specs.Refusals.{wrongFields}
-use Rattle.hand.proofs.wrong_fields.Statement.{statement}
-use Rattle.hand.proofs.wrong_fields.Tie as tie
-
-pub wrong-fields-spec : {M : Type 1} → statement M
-unfolding wrongFields
-wrong-fields-spec = tie.close (tie.spec (λ c κs. search needs) (λ c κs. search needs) (λ c. cc))

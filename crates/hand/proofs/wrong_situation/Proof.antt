@@ -1,7 +1,0 @@
--- `hand::wrong_situation` meets its contract: each call gives its part.
-use borrow.Author.Needs.{needs}
-use Rattle.hand.proofs.wrong_situation.Statement.{statement}
-use Rattle.hand.proofs.wrong_situation.Tie as tie
-
-pub wrong-situation-spec : {M : Type 1} → statement M
-wrong-situation-spec = tie.close (tie.spec (λ c κs. search needs) (λ c κs. search needs) (λ c. cc))
