@@ -169,6 +169,8 @@ typedef struct {
     uint8_t fu;          /* 0 with a yakuman */
     HbItems items;       /* of that fu */
     bool yaku[37];       /* yaku n at index n; index 0 is unused */
+    uint32_t tried;      /* "how many readings it tried, those with no yaku and each place in equal groups counted":
+                            up to the first with a yakuman, it included, or all */
     int32_t changes[4];  /* points of seats 0 to 3, summing to 0; sticks left out */
 } HbScored;
 

@@ -28,57 +28,66 @@ static void sizes(void)
     CHECK(sizeof(bool) == 1 && sizeof(size_t) == 8);
     CHECK(HB_RECORD_LENGTH(0) == 13 && HB_RECORD_LENGTH(1) == 12 && HB_RECORD_LENGTH(2) == 11);
     CHECK(HB_RECORD_LENGTH(3) == 10 && HB_RECORD_LENGTH(4) == 8);
-    CHECK(sizeof(HbItems) == 10 && sizeof(HbScored) == 68);
+    CHECK(sizeof(HbItems) == 10 && sizeof(HbScored) == 72);
     CHECK(sizeof(HbGame) == 28 && sizeof(HbWalk) == 48 && sizeof(HbPrinted) == 56);
 }
 
 /* A line of document 01's table: its number, record and score; from 101 on, hands that the table lacks. Points, and h and fu
- * where the table gives them, are the table's; other h and fu, the items and the yaku are by hand from the rules. */
+ * where the table gives them, are the table's; other h and fu, items, yaku and readings tried are by hand from the rules. */
 struct line {
     int number;
     uint8_t length, record[13];
     uint8_t refusal, h, fu;
     HbItems items;
-    uint8_t yaku[4];
+    uint8_t yaku[4], tried;
     int32_t changes[4];
 };
 
 static const struct line table[] = {
     {1, 13, {0xb8, 0x1e, 0x64, 0x02, 0x10, 0x62, 0x0a, 0x31, 0x66, 0x1a, 0x9a, 0x6b, 0xb0},
-     0, 2, 30, {20, 10, 0, {0}, 0, 0, 0}, {HB_YAKU_TANYAO, HB_YAKU_PINFU}, {0, 2000, 0, -2000}},
+     0, 2, 30, {20, 10, 0, {0}, 0, 0, 0}, {HB_YAKU_TANYAO, HB_YAKU_PINFU}, 1, {0, 2000, 0, -2000}},
     {2, 13, {0x20, 0x1e, 0x64, 0x02, 0x10, 0x62, 0x0a, 0x31, 0x66, 0x1a, 0x9a, 0x6b, 0xb0},
-     0, 3, 20, {20, 0, 0, {0}, 0, 0, 0}, {HB_YAKU_MENZEN_TSUMO, HB_YAKU_TANYAO, HB_YAKU_PINFU}, {-1300, 2700, -700, -700}},
+     0, 3, 20, {20, 0, 0, {0}, 0, 0, 0}, {HB_YAKU_MENZEN_TSUMO, HB_YAKU_TANYAO, HB_YAKU_PINFU}, 1, {-1300, 2700, -700, -700}},
     {3, 13, {0x98, 0x1e, 0x64, 0x02, 0x10, 0x62, 0x0a, 0x31, 0x66, 0x1a, 0x9a, 0x6b, 0xb0},
-     0, 2, 30, {20, 10, 0, {0}, 0, 0, 0}, {HB_YAKU_TANYAO, HB_YAKU_PINFU}, {2900, 0, 0, -2900}},
+     0, 2, 30, {20, 10, 0, {0}, 0, 0, 0}, {HB_YAKU_TANYAO, HB_YAKU_PINFU}, 1, {2900, 0, 0, -2900}},
     {4, 13, {0x20, 0x1e, 0x68, 0x00, 0x00, 0x00, 0x82, 0x08, 0x41, 0x04, 0x8a, 0x2c, 0x32},
      0, 6, 20, {20, 0, 0, {0}, 0, 0, 0}, {HB_YAKU_MENZEN_TSUMO, HB_YAKU_PINFU, HB_YAKU_IIPEIKOU, HB_YAKU_JUNCHAN},
-     {-6000, 12000, -3000, -3000}},
+     2, {-6000, 12000, -3000, -3000}},
     {5, 13, {0xb8, 0x1e, 0x58, 0x00, 0x00, 0x20, 0x84, 0x11, 0xe7, 0xa0, 0x82, 0x28, 0xac},
-     0, 3, 40, {20, 10, 0, {0}, 2, 0, 8}, {HB_YAKU_RYANPEIKOU}, {0, 5200, 0, -5200}},
+     0, 3, 40, {20, 10, 0, {0}, 2, 0, 8}, {HB_YAKU_RYANPEIKOU}, 2, {0, 5200, 0, -5200}},
     {6, 12, {0xb8, 0x1e, 0x64, 0x80, 0x88, 0x28, 0xc5, 0x14, 0x61, 0xa7, 0x2e, 0xc0},
-     0, 1, 30, {20, 0, 0, {0}, 0, 0, 10}, {HB_YAKU_TANYAO}, {0, 1000, 0, -1000}},
+     0, 1, 30, {20, 0, 0, {0}, 0, 0, 10}, {HB_YAKU_TANYAO}, 1, {0, 1000, 0, -1000}},
     {7, 12, {0xb8, 0x1e, 0x68, 0x80, 0x18, 0x69, 0xc8, 0xa2, 0x9a, 0x8a, 0xb0, 0xc8},
-     HB_REFUSAL_NO_YAKU, 0, 0, {0}, {0}, {0}},
+     HB_REFUSAL_NO_YAKU, 0, 0, {0}, {0}, 0, {0}},
     {8, 13, {0xb8, 0x1e, 0x60, 0x00, 0x00, 0x05, 0x96, 0x5a, 0xcb, 0x2c, 0xc3, 0x0d, 0x34},
-     0, 4, 50, {20, 10, 0, {8, 4, 4, 2}, 0, 0, 2}, {HB_YAKU_TOITOI, HB_YAKU_SANANKOU}, {0, 8000, 0, -8000}},
+     0, 4, 50, {20, 10, 0, {8, 4, 4, 2}, 0, 0, 2}, {HB_YAKU_TOITOI, HB_YAKU_SANANKOU}, 1, {0, 8000, 0, -8000}},
     {9, 13, {0x20, 0x1e, 0x60, 0x00, 0x00, 0x05, 0x96, 0x5a, 0xcb, 0x2c, 0xc3, 0x0d, 0x34},
-     0, 0, 0, {0}, {HB_YAKU_SUUANKOU}, {-16000, 32000, -8000, -8000}},
+     0, 0, 0, {0}, {HB_YAKU_SUUANKOU}, 1, {-16000, 32000, -8000, -8000}},
     {12, 13, {0xb8, 0x1e, 0x40, 0x00, 0x00, 0x00, 0x06, 0x18, 0xc3, 0x14, 0x51, 0xa6, 0xa0},
-     HB_REFUSAL_NO_READING, 0, 0, {0}, {0}, {0}},
+     HB_REFUSAL_NO_READING, 0, 0, {0}, {0}, 0, {0}},
     /* seven pairs 1122m 3344p 5566s EE */
     {101, 13, {0xb8, 0x1e, 0x6c, 0x00, 0x00, 0x20, 0x96, 0x59, 0x86, 0x2c, 0xb2, 0xeb, 0xb6},
-     0, 4, 25, {25, 0, 0, {0}, 0, 0, 0}, {HB_YAKU_CHIITOITSU}, {0, 6400, 0, -6400}},
+     0, 4, 25, {25, 0, 0, {0}, 0, 0, 0}, {HB_YAKU_CHIITOITSU}, 1, {0, 6400, 0, -6400}},
     /* the reading's group, then the melds in the record's order: 456m by 5m, kans 9999s 2222p, closed kan EEEE, pair white */
     {102, 10, {0x20, 0x1e, 0x11, 0xcd, 0x45, 0x6d, 0x86, 0x2b, 0xef, 0x80},
-     0, 7, 90, {20, 0, 2, {0, 16, 8, 32}, 2, 2, 8}, {HB_YAKU_YAKUHAI, HB_YAKU_SANKANTSU}, {-6000, 12000, -3000, -3000}},
+     0, 7, 90, {20, 0, 2, {0, 16, 8, 32}, 2, 2, 8}, {HB_YAKU_YAKUHAI, HB_YAKU_SANKANTSU}, 1, {-6000, 12000, -3000, -3000}},
     /* 345s by 3s, 888s, pair 99p, pon EEE, chi 123m; then the melds the other way round */
     {103, 11, {0xb8, 0x1e, 0x51, 0x2d, 0x80, 0x22, 0x8a, 0xab, 0x32, 0xcb, 0x20},
-     0, 4, 30, {20, 0, 0, {0, 4, 4, 0}, 0, 0, 2}, {HB_YAKU_YAKUHAI}, {0, 7700, 0, -7700}},
+     0, 4, 30, {20, 0, 0, {0, 4, 4, 0}, 0, 0, 2}, {HB_YAKU_YAKUHAI}, 1, {0, 7700, 0, -7700}},
     {104, 11, {0xb8, 0x1e, 0x51, 0x00, 0x2d, 0xa2, 0x8a, 0xab, 0x32, 0xcb, 0x20},
-     0, 4, 30, {20, 0, 0, {0, 4, 0, 4}, 0, 0, 2}, {HB_YAKU_YAKUHAI}, {0, 7700, 0, -7700}},
+     0, 4, 30, {20, 0, 0, {0, 4, 0, 4}, 0, 0, 2}, {HB_YAKU_YAKUHAI}, 1, {0, 7700, 0, -7700}},
     /* thirteen orphans */
     {105, 13, {0x20, 0x1e, 0x84, 0x00, 0x41, 0x28, 0xa4, 0xd3, 0x6e, 0x3a, 0xf3, 0xf0, 0x42},
-     0, 0, 0, {0}, {HB_YAKU_KOKUSHI_MUSOU}, {-16000, 32000, -8000, -8000}},
+     0, 0, 0, {0}, {HB_YAKU_KOKUSHI_MUSOU}, 1, {-16000, 32000, -8000, -8000}},
+    /* 111222333m by 1m, 456p, 99s: a place in each of three equal runs, and triplets with no yaku */
+    {106, 13, {0xb8, 0x1e, 0x00, 0x00, 0x00, 0x20, 0x82, 0x10, 0x41, 0x18, 0x69, 0xcd, 0x34},
+     0, 2, 30, {20, 10, 0, {0}, 0, 0, 0}, {HB_YAKU_PINFU, HB_YAKU_IIPEIKOU}, 4, {0, 2000, 0, -2000}},
+    /* 111 2222 3333 444m by 3m: the most readings there are */
+    {107, 13, {0xb8, 0x1e, 0x08, 0x00, 0x00, 0x00, 0x82, 0x08, 0x21, 0x04, 0x10, 0x61, 0x86},
+     0, 8, 50, {20, 10, 0, {0, 4, 4, 4}, 2, 0, 6}, {HB_YAKU_SANANKOU, HB_YAKU_CHINITSU}, 12, {0, 16000, 0, -16000}},
+    /* 11 222 333 444 555m by 4m: six readings of runs, then four concealed triplets; two with another pair come after */
+    {108, 13, {0x20, 0x1e, 0x0c, 0x00, 0x00, 0x20, 0x82, 0x10, 0x41, 0x06, 0x18, 0x82, 0x08},
+     0, 0, 0, {0}, {HB_YAKU_SUUANKOU}, 7, {-16000, 32000, -8000, -8000}},
 };
 
 /* Line 1 with riichi 1. */
@@ -158,7 +167,7 @@ static int sum_of(const HbItems *items)
 /* Whether a score is a refusal with all else zero. */
 static int is_refused(const HbScored *scored, uint8_t refusal)
 {
-    int zero = scored->h == 0 && scored->fu == 0 && sum_of(&scored->items) == 0;
+    int zero = scored->h == 0 && scored->fu == 0 && sum_of(&scored->items) == 0 && scored->tried == 0;
     for (size_t n = 0; n < 37; n++)
         zero = zero && !scored->yaku[n];
     for (size_t seat = 0; seat < 4; seat++)
@@ -198,6 +207,7 @@ static void table_of_hands(void)
         CHECK_CASE(line->number, scored.fu == line->fu && sum_of(&scored.items) == line->fu);
         CHECK_CASE(line->number, memcmp(&scored.items, &line->items, sizeof scored.items) == 0);
         CHECK_CASE(line->number, has_yaku(&scored, line));
+        CHECK_CASE(line->number, scored.tried == line->tried);
         CHECK_CASE(line->number, memcmp(scored.changes, line->changes, sizeof scored.changes) == 0);
         free(written);
         free(record);

@@ -35,6 +35,7 @@ impl Entry {
         for n in (0..40).filter(|n| scored.yaku >> n & 1 == 1) {
             bytes[22 + n / 8] |= 1 << (n % 8);
         }
+        bytes[27] = scored.tried as u8;
         for (seat, change) in scored.changes.iter().enumerate() {
             bytes[28 + 4 * seat..32 + 4 * seat].copy_from_slice(&change.to_le_bytes());
         }

@@ -15,9 +15,9 @@ pub struct Scored {
     /// The items of the reported reading's fu (02, S-3).
     pub items: fu::Items,
     pub yaku: u64,
+    /// How many readings were tried (02, S-4).
+    pub tried: u32,
     pub changes: [i32; 4],
-    /// The number of readings, for statistics only; the document has no such result.
-    pub readings: usize,
 }
 
 /// What one reading with a yaku is worth.
@@ -113,6 +113,17 @@ pub fn best(all: &[Valued]) -> Option<usize> {
     all.iter().position(|(_, value)| value.as_ref().map(rank) == Some(top))
 }
 
+/// Whether a yakuman is among the yaku, 26 to 36 (01, Yaku).
+pub fn has_yakuman(yaku: u64) -> bool {
+    yaku >> 26 != 0
+}
+
+/// How many of the readings in order are tried: up to the first with a yakuman, it included, or all (02, S-4).
+pub fn tried(all: &[Valued]) -> usize {
+    let first = all.iter().position(|(_, value)| value.is_some_and(|value| has_yakuman(value.yaku)));
+    first.map_or(all.len(), |at| at + 1)
+}
+
 /// A refused score: its number, all else zero (01, Score).
 fn refused(refusal: u8) -> Scored {
     Scored { refusal, ..Scored::default() }
@@ -131,9 +142,7 @@ pub fn score(record: &[u8], dealer: u8, wind: u8) -> Scored {
     if all.is_empty() {
         return refused(6);
     }
-    let Some(value) = best(&all).and_then(|at| all[at].1) else {
-        return Scored { readings: all.len(), ..refused(7) };
-    };
+    let Some(value) = best(&all).and_then(|at| all[at].1) else { return refused(7) };
     let Value { h, fu, items, yaku, changes, .. } = value;
-    Scored { refusal: 0, h, fu, items, yaku, changes, readings: all.len() }
+    Scored { refusal: 0, h, fu, items, yaku, tried: tried(&all) as u32, changes }
 }

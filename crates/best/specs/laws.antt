@@ -1,2 +1,4 @@
+pub mod Top
 pub mod First
+pub mod Tried
 pub mod Over

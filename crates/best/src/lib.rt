@@ -1,13 +1,13 @@
-// The best reading of a tally: every reading is searched, valued and held against the best so far.
+// The best reading of a tally: every reading is searched, valued and held against the best so far, up to the first yakuman, which nothing beats.
 ghost use mathlib.Core.Path.{_≡_};
-ghost use mathlib.Core.Bool.{cond};
+ghost use mathlib.Core.Bool.{false, cond};
 ghost use Prim.Native.Nat.{_<_, _≤_};
 ghost use lib.Dec.{eqb};
 ghost use Rattle.reading.specs.search.Readings.{placed, shaped};
 ghost use Rattle.reading.specs.search.Judged.{judged};
 ghost use Rattle.reading.specs.laws.Fold.{searched};
 ghost use Rattle.best.specs.search.Setting.{joined as joinedOf, partsIn, worthIn, Ready};
-ghost use Rattle.best.specs.search.Best.{beats as beatsOf, noneOf, judgeOf, bestOf};
+ghost use Rattle.best.specs.search.Best.{beats as beatsOf, counted as countedOf, noneOf, judgeOf, bestOf};
 use points::Seats;
 use reading::Reading;
 use units::Fu;
@@ -28,12 +28,14 @@ pub struct Setting {
     pub ways: [u8; 4],
 }
 
-// What the search keeps: whether a reading was seen, whether one had a yaku, the best of those and what it is worth.
+// What the search keeps: whether a reading had a yaku, the best of those and what it is worth; whether the search is done, as the last reading had a
+// yakuman; and how many readings it tried.
 pub struct Best {
-    pub seen: bool,
     pub valued: bool,
     pub value: Value,
     pub reading: Reading,
+    pub done: bool,
+    pub tried: u32,
 }
 
 // The group of a reading or, where it has none, of the melds.
@@ -110,37 +112,49 @@ fn none() -> Best
     };
     let r = reading::of_shape(0);
     Best {
-        seen: false,
         valued: false,
         value: v,
         reading: r,
+        done: false,
+        tried: 0,
     }
 }
 
-// The better of what is kept and a reading; of equals what is kept.
+// One more is tried.
+fn counted(n: u32) -> u32
+    ensures { λ r. ⌜ r ≡ countedOf n ⌝ }
+{
+    if n < 4294967295 { n + 1 } else { n }
+}
+
+// The better of what is kept and a reading; of equals what is kept. None is valued once the search is done.
 fn judge(t: Setting, b: Best, r: Reading) -> Best
-    requires { ⌜ Ready t × (r .place ≤ 4) ⌝ }
+    requires { ⌜ Ready t × (r .place ≤ 4) × (b .done ≡ false) ⌝ }
     ensures { λ x. ⌜ x ≡ judgeOf (worthIn t) b r ⌝ }
 {
     let kept = b.value;
     let v = worth(t, r);
     let y = v.yaku;
+    let done = yaku::is_yakuman(y);
+    let tried = counted(b.tried);
     if yaku::has_yaku(y) & (!b.valued | beats(v, kept)) {
         return Best {
-            seen: true,
             valued: true,
             value: v,
             reading: r,
+            done,
+            tried,
         };
     }
     let mut same = b;
-    same.seen = true;
+    same.done = done;
+    same.tried = tried;
     same
 }
 
 // Each place of a pair and groups that holds the winning kind.
 fn places(h: Setting, pair: u8, groups: [u8; 4], size: u8, win: u8, best: Best) -> Best
-    requires { ⌜ Ready h × (size ≤ 4) ⌝ }
+    requires { ⌜ Ready h × (size ≤ 4) × (best .done ≡ false) ⌝ }
     ensures { λ r. ⌜ r ≡ judged (judgeOf (worthIn h)) best (placed size win pair groups) ⌝ }
 {
     let mut b = best;
@@ -157,6 +171,9 @@ fn places(h: Setting, pair: u8, groups: [u8; 4], size: u8, win: u8, best: Best) 
                     place: p,
                 },
             );
+            if b.done {
+                return b;
+            }
         }
         p += 1;
     }
@@ -175,7 +192,7 @@ fn split(
     pair: u8,
     best: Best,
 ) -> Best
-    requires { ⌜ Ready h × (left ≤ size) × (size ≤ 4) ⌝ }
+    requires { ⌜ Ready h × (left ≤ size) × (size ≤ 4) × (best .done ≡ false) ⌝ }
     ensures { λ r. ⌜ r ≡ searched (judgeOf (worthIn h)) size win pair so left code t best ⌝ }
 {
     if left == 0 {
@@ -201,6 +218,9 @@ fn split(
                 pair,
                 found,
             );
+            if found.done {
+                return found;
+            }
         }
         if !reading::passes(t, c) {
             return found;
@@ -212,7 +232,7 @@ fn split(
 
 // The shapes without groups.
 fn shapes(h: Setting, t: [u8; 34], m: u8, best: Best) -> Best
-    requires { ⌜ Ready h ⌝ }
+    requires { ⌜ Ready h × (best .done ≡ false) ⌝ }
     ensures { λ r. ⌜ r ≡ judged (judgeOf (worthIn h)) best (shaped t m) ⌝ }
 {
     if m != 0 {
@@ -221,6 +241,9 @@ fn shapes(h: Setting, t: [u8; 34], m: u8, best: Best) -> Best
     let mut b = best;
     if reading::is_seven_pairs(t) {
         b = judge(h, b, reading::of_shape(1));
+        if b.done {
+            return b;
+        }
     }
     if reading::is_orphans(t) {
         b = judge(h, b, reading::of_shape(2));
@@ -228,7 +251,7 @@ fn shapes(h: Setting, t: [u8; 34], m: u8, best: Best) -> Best
     b
 }
 
-// The best reading of the tally t with m melds, won by the kind win, and what it is worth: every reading is held against the others.
+// The best reading of the tally t with m melds, won by the kind win, and what it is worth: every reading up to the first yakuman is held against the others.
 pub fn best_of(h: Setting, t: [u8; 34], m: u8, win: u8) -> Best
     requires { ⌜ Ready h × (m ≤ 4) ⌝ }
     ensures { λ r. ⌜ r ≡ bestOf (worthIn h) t m win ⌝ }
@@ -247,6 +270,9 @@ pub fn best_of(h: Setting, t: [u8; 34], m: u8, win: u8) -> Best
                 k as u8,
                 b,
             );
+            if b.done {
+                return b;
+            }
         }
     }
     shapes(h, t, m, b)

@@ -2,6 +2,8 @@ pub mod Lists
 pub mod Groups
 pub mod Splits
 pub mod Readings
+pub mod Only
 pub mod Fold
+pub mod Few
 pub mod Counted
 pub mod Examples

@@ -1,4 +1,3 @@
 pub mod Readings
 pub mod Judged
-pub mod Ordered
 pub mod Claims

@@ -1,33 +1,37 @@
--- The theorems of Score (01, Readings and Score), over every reading of a hand; `Score` has the theorem that there is exactly one score.
+-- The theorems of Score (01, Readings and Score; 02, S-3 and S-4), over every reading of a hand; `Score` has the theorem that there is exactly one score.
 use Prim.Native.Nat.{ℕ, _≤_, _<_}
 use mathlib.Core.Path.{_≡_}
-use mathlib.Core.Bool.{false}
+use mathlib.Core.Bool.{true, false}
 use mathlib.Core.List.{List}
-use mathlib.Core.Logic.{_↔_}
+use mathlib.Core.Logic.{_⊎_, _↔_}
 use lib.IntN.{pos}
-use lib.ListN.{getD}
+use lib.ListN.{length, getD}
 use Rattle.hand.specs.declared.Hand.{Hand}
 use Rattle.hand_record.specs.Record.{handOf, readOf, IsSound}
 use Rattle.reading.specs.declared.Reading.{Reading}
+use Rattle.reading.specs.Order.{Before}
 use Rattle.points.specs.Points.{sumOfFour}
 use Rattle.value.specs.Fu.{fu, groupFu, added, baseAlone}
 use Rattle.value.specs.Value.{yakuman}
+use Rattle.best.specs.Best.{withYakuman, upTo}
 use Rattle.score.specs.declared.Scored.{Scored}
+use Rattle.score.specs.Readings.{AreReadingsOf}
 use Rattle.score.specs.Named.{wonOf, groupsOf, waysOf, partsOf, worth, IsReadingOf, ReadsWithYaku, IsReported, gainIn, scoredAs, Named}
 use Rattle.score.specs.Score.{scoreOf, is-score}
-use Rattle.score.specs.Table.{Lines}
+use Rattle.score.specs.Table.{Lines, Counts}
 use Rattle.score.specs.laws.Named as laws
 use Rattle.score.specs.laws.Items as items
 use Rattle.score.specs.laws.Settled as settled
+use Rattle.score.specs.laws.Tried as tries
 use Rattle.score.specs.laws.Changes as changes
 use Rattle.score.specs.laws.Table as table
 
 -- ---- of a sound hand
 
 module _ (h : Hand) (dealer wind : ℕ) where
-  -- document 01 names an answer
+  -- the papers name an answer
   pub named : (a : Scored) × Named h dealer wind a
-  named = (_, laws.named h dealer wind)
+  named = laws.named h dealer wind
 
   -- and only one
   pub only-one : {x y : Scored} → Named h dealer wind x → Named h dealer wind y → x ≡ y
@@ -63,7 +67,7 @@ module _ (h : Hand) (dealer wind : ℕ) where
 -- ---- of a record
 
 module _ (s : List ℕ) (dealer wind : ℕ) where
-  -- the score of a sound record is what document 01 names for its hand
+  -- the score of a sound record is what the papers name for its hand
   pub scored : dealer ≤ 3 → wind ≤ 1 → IsSound s → Named (handOf (readOf s)) dealer wind (scoreOf s dealer wind)
   scored = settled.scored s dealer wind
 
@@ -75,6 +79,25 @@ module _ (s : List ℕ) (dealer wind : ℕ) where
   pub no-items : (scoreOf s dealer wind .refusal ≡ 0 → ⊥) → scoreOf s dealer wind .items ≡ baseAlone 0
   no-items = items.none (is-score s dealer wind)
 
+  -- "how many readings it tried, those with no yaku and each place in equal groups counted: up to that one, it included, or all where there is none"
+  -- (02, S-4): of any list that has all readings in order, those up to "the first yakuman reading"
+  pub tried : dealer ≤ 3 → wind ≤ 1 → IsSound s → scoreOf s dealer wind .refusal ≡ 0 →
+      let h = handOf (readOf s) in
+      (rs : List Reading) → AreReadingsOf h rs → scoreOf s dealer wind .tried ≡ length (upTo (withYakuman (worth h dealer wind)) rs)
+  tried = tries.tried s dealer wind
+
+  -- "a refused call returns its number with all else zero" (01)
+  pub none-tried : (scoreOf s dealer wind .refusal ≡ 0 → ⊥) → scoreOf s dealer wind .tried ≡ 0
+  none-tried = tries.none-tried s dealer wind
+
+  -- "A yakuman can't be beaten, and among readings with one the first in document 01's order is reported" (02, S-4)
+  pub first-yakuman : dealer ≤ 3 → IsSound s →
+      let h = handOf (readOf s) in
+      (r : Reading) → IsReadingOf h r → withYakuman (worth h dealer wind) r ≡ true
+      → ((q : Reading) → IsReadingOf h q → withYakuman (worth h dealer wind) q ≡ true → (r ≡ q) ⊎ Before r q)
+      → IsReported h dealer wind r
+  first-yakuman = tries.first-yakuman s dealer wind
+
   -- "four changes summing to 0"
   pub zero-sum : sumOfFour (scoreOf s dealer wind .changes) ≡ pos 0
   zero-sum = changes.zero-sum s dealer wind
@@ -82,3 +105,7 @@ module _ (s : List ℕ) (dealer wind : ℕ) where
 -- "lines 1 to 12 are theorems gathered in one table under one theorem"
 pub lines : Lines
 lines = table.lines
+
+-- hands whose readings are counted (02, S-4)
+pub counts : Counts
+counts = table.counts

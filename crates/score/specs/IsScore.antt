@@ -15,5 +15,5 @@ pub data IsScore (s : List ℕ) (dealer wind : ℕ) : Scored → Type 0 where
   eight : (3 < dealer) ⊎ (1 < wind) → IsScore s dealer wind (refusedWith 8)
   -- "1 to 5": "A record that fails to read ends scoring there"
   unread : dealer ≤ 3 → wind ≤ 1 → (n : ℕ) → readOf s .answer ≡ Refused n → IsScore s dealer wind (refusedWith n)
-  -- a sound record: what document 01 names for its hand
+  -- a sound record: what the papers name for its hand
   read : dealer ≤ 3 → wind ≤ 1 → (f : Fields) → readOf s .answer ≡ Sound f → {a : Scored} → Named (handOf (readOf s)) dealer wind a → IsScore s dealer wind a

@@ -1,10 +1,12 @@
--- Named    what document 01 names as the score of a sound hand
+-- Readings the readings of a hand in order, one list
+-- Named    what the papers name as the score of a sound hand
 -- IsScore  what Score answers, for every record, dealer and round wind
 -- Score    there is exactly one such answer: the score
--- Table    lines 1 to 12 of the table of hands
--- Claims   the theorems: what is named of a hand, that the changes sum to 0, the table
+-- Table    lines 1 to 12 of the table of hands, and hands whose readings are counted
+-- Claims   the theorems: what is named of a hand, how many readings are tried, that the changes sum to 0, the table
 -- search   how the code finds it
 -- laws     what they stand on, and what the game needs of the changes
+pub mod Readings
 pub mod Named
 pub mod IsScore
 pub mod search

@@ -1,11 +1,11 @@
--- What document 01 names as the score of a sound hand (01, Readings and Score). Nothing here says how it is found.
+-- What the papers name as the score of a sound hand (01, Readings and Score; 02, S-3 and S-4). Nothing here says how it is found.
 use mathlib.Core.Bool.{Bool, true, false, _&&_, cond}
 use mathlib.Core.List.{List, _++_, map}
 use mathlib.Core.Path.{_≡_}
 use Prim.Native.Nat.{ℕ, _+_, _-_, _%_}
 use lib.Dec.{eqb}
 use lib.IntN.{pos}
-use lib.ListN.{take, replicate}
+use lib.ListN.{length, take, replicate}
 use Rattle.tiles.specs.Below.{tabulate}
 use Rattle.tiles.specs.Kinds.{doraOf}
 use Rattle.hand.specs.declared.Hand.{Hand}
@@ -21,8 +21,9 @@ use Rattle.points.specs.Points.{changes}
 use Rattle.value.specs.declared.Value.{Value}
 use Rattle.value.specs.Fu.{baseAlone}
 use Rattle.value.specs.Value.{valueOf}
-use Rattle.best.specs.Best.{withYaku, Over}
+use Rattle.best.specs.Best.{withYaku, Over, withYakuman, upTo}
 use Rattle.score.specs.declared.Scored.{Scored}
+use Rattle.score.specs.Readings.{readingsOf}
 
 -- ---- the hand at the table
 
@@ -67,13 +68,14 @@ worth h dealer wind r = valueOf (wonOf h dealer wind) (partsOf h r) (doraOf (h .
 
 -- "Refused: all zero"
 abbrev pub refusedWith : ℕ → Scored
-refusedWith n = record { refusal = n; h = 0; fu = 0; items = baseAlone 0; yaku = replicate 37 false; changes = replicate 4 (pos 0) }
+refusedWith n = record { refusal = n; h = 0; fu = 0; items = baseAlone 0; yaku = replicate 37 false; tried = 0; changes = replicate 4 (pos 0) }
 
--- "Accepted: h, fu, yaku set, four changes"; "The fu count must give its items" (02, S-3)
-abbrev pub acceptedAs : Value → Seats → Bool → Scored
-acceptedAs v s ron = record { refusal = 0; h = v .han .0; fu = v .fu .0; items = v .items; yaku = v .yaku; changes = changes s ron (v .basic .0) }
+-- "Accepted: h, fu, yaku set, four changes"; "The fu count must give its items" (02, S-3); "how many readings it tried" (02, S-4)
+abbrev pub acceptedAs : Value → Seats → Bool → ℕ → Scored
+acceptedAs v s ron tried =
+    record { refusal = 0; h = v .han .0; fu = v .fu .0; items = v .items; yaku = v .yaku; tried = tried; changes = changes s ron (v .basic .0) }
 
--- ---- what document 01 names for a sound hand
+-- ---- what the papers name for a sound hand
 
 -- r is "a reading of the concealed tiles with the winning tile"
 abbrev pub IsReadingOf : Hand → Reading → Type 0
@@ -93,9 +95,14 @@ module _ (h : Hand) (dealer wind : ℕ) where
   abbrev pub gainIn : Reading → ℕ
   gainIn r = worth h dealer wind r .gain .0
 
-  -- r reported: its h, fu with the items, yaku and changes
+  -- "how many readings it tried, those with no yaku and each place in equal groups counted: up to that one, it included, or all where there is none":
+  -- of all readings in order, those up to "the first yakuman reading" (02, S-4)
+  abbrev pub triedIn : ℕ
+  triedIn = length (upTo (withYakuman (worth h dealer wind)) (readingsOf h))
+
+  -- r reported: its h, fu with the items, yaku and changes, and how many were tried
   abbrev pub scoredAs : Reading → Scored
-  scoredAs r = acceptedAs (worth h dealer wind r) (seatsOf h dealer) (isRon (h .fields))
+  scoredAs r = acceptedAs (worth h dealer wind r) (seatsOf h dealer) (isRon (h .fields)) triedIn
 
   -- accepted; "6, no reading"; "7, readings but none with a yaku"
   pub data Named : Scored → Type 0 where

@@ -1,4 +1,4 @@
--- Score: for every record, dealer and round wind there is exactly one answer that document 01 names, and that is the score.
+-- Score: for every record, dealer and round wind there is exactly one answer that the papers name, and that is the score.
 use mathlib.Core.List.{List}
 use mathlib.Core.Path.{_≡_}
 use Prim.Native.Nat.{ℕ}

@@ -1,10 +1,12 @@
 pub mod Parts
+pub mod Paid
 pub mod Found
 pub mod Best
 pub mod Named
 pub mod Items
 pub mod Exact
 pub mod Settled
+pub mod Tried
 pub mod Z
 pub mod Changes
 pub mod Table

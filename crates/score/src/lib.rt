@@ -1,9 +1,11 @@
-// Score: a record, the dealer and the round wind give the best reading's h, fu with its items, yaku and four changes, or a refusal (01, Score; 02, S-3).
+// Score: a record, the dealer and the round wind give the best reading's h, fu with its items, yaku and four changes, and how many readings were
+// tried, or a refusal (01, Score; 02, S-3 and S-4).
 ghost use mathlib.Core.Path.{_≡_};
-ghost use mathlib.Core.Bool.{cond};
+ghost use mathlib.Core.Bool.{false, cond};
 ghost use Prim.Native.Nat.{_-_, _<_, _≤_};
 ghost use lib.Dec.{ltb};
 ghost use lib.ListN.{getD};
+ghost use Rattle.hand.specs.Refusals.{wrongDiscarder};
 ghost use Rattle.groups.specs.Melds.{meldCode, meldWay};
 ghost use Rattle.best.specs.search.Setting.{Ready};
 ghost use Rattle.score.specs.Named.{wonOf, refusedWith, acceptedAs, Named};
@@ -20,7 +22,8 @@ use value::Items;
 use value::Value;
 use yaku::Won;
 
-// What Score gives: 0 and h, fu, the items that add up to it, the yaku set (yaku n at n) and the four changes, or the refusal and zeros.
+// What Score gives: 0 and h, fu, the items that add up to it, the yaku set (yaku n at n), how many readings were tried and the four changes, or the
+// refusal and zeros.
 #[repr(C)]
 pub struct Scored {
     pub refusal: u8,
@@ -28,6 +31,7 @@ pub struct Scored {
     pub fu: u8,
     pub items: Items,
     pub yaku: [bool; 37],
+    pub tried: u32,
     pub changes: [i32; 4],
 }
 
@@ -148,14 +152,15 @@ fn refused(n: u8) -> Scored
         fu: 0,
         items,
         yaku: none,
+        tried: 0,
         changes: zero,
     }
 }
 
-// An accepted hand by the value of its reported reading.
-fn accepted(v: Value, s: Seats, ron: bool) -> Scored
+// An accepted hand by the value of its reported reading and how many were tried.
+fn accepted(v: Value, s: Seats, ron: bool, tried: u32) -> Scored
     requires { ⌜ v .basic .0 ≤ 8000 ⌝ }
-    ensures { λ r. ⌜ r ≡ acceptedAs v s ron ⌝ }
+    ensures { λ r. ⌜ r ≡ acceptedAs v s ron tried ⌝ }
 {
     let y = v.yaku;
     let a = v.basic;
@@ -167,20 +172,22 @@ fn accepted(v: Value, s: Seats, ron: bool) -> Scored
         fu: v.fu.0,
         items,
         yaku: y,
+        tried,
         changes: c,
     }
 }
 
-// What a hand that read as sound scores, the answer that document 01 names for it: an inner call of Score and of the game.
+// What a hand that read as sound scores, the answer that the papers name for it: an inner call of Score and of the game. That a ron is from another
+// seat makes each yakuman a paid one, at which the search may end.
 pub fn settle(h: Hand, dealer: u8, wind: u8) -> Scored
-    requires { ⌜ (h .held .m ≤ 4) × (h .fields .winner ≤ 3) × (dealer ≤ 3) × (wind ≤ 1) ⌝ }
+    requires { ⌜ (h .held .m ≤ 4) × (h .fields .winner ≤ 3) × (dealer ≤ 3) × (wind ≤ 1) × (h .fields .discarder ≤ 3) × (wrongDiscarder (h .fields) ≡ false) ⌝ }
     ensures { λ r. ⌜ Named h dealer wind r ⌝ }
     ensures { λ r. ⌜ r ≡ settledOf h dealer wind ⌝ }
 {
     let t = setting_of(h, dealer, wind);
     let c = hand::concealed_tally(h);
     let b = best::best_of(t, c, h.held.m, h.fields.winning);
-    if b.seen {
+    if 0 < b.tried {
         if b.valued {
             let v = b.value;
             let s = Seats {
@@ -188,7 +195,7 @@ pub fn settle(h: Hand, dealer: u8, wind: u8) -> Scored
                 dealer,
                 discarder: h.fields.discarder,
             };
-            return accepted(v, s, h.fields.how == 1);
+            return accepted(v, s, h.fields.how == 1, b.tried);
         }
         return refused(7);
     }

@@ -1,6 +1,6 @@
 // Holds Score against another scorer: reads hands with that one's answers and says how many agree, with the number of each that differs.
 // An entry is 54 bytes: the record's length, 16 bytes of it, dealer, wind, refusal, h, fu, the yaku set (yaku n is bit n % 8 of byte 22 + n / 8),
-// a zero, four changes of 4 bytes from the least significant on, and the ten items of fu.
+// how many readings are tried, four changes of 4 bytes from the least significant on, and the ten items of fu.
 ghost use mathlib.Core.Path.{_≡_};
 ghost use Prim.Native.Nat.{_+_, _<_, _≤_};
 ghost use lib.ListN.{length};
@@ -98,6 +98,7 @@ fn is_told(e: &[u8], s: Scored) -> bool
         & (s.fu == e[21])
         & same_items(e, i)
         & same_yaku(e, y)
+        & (long(s.tried) == wide(e[27]))
         & same_changes(e, c)
 }
 

@@ -97,6 +97,7 @@ pub struct Scored {
     pub fu: u8,
     pub items: Items,
     pub yaku: Yaku,
+    pub tried: u32,
     pub changes: [i32; 4],
 }
 

@@ -61,7 +61,7 @@ fn items(items: &other_scorer::fu::Items) -> archive::Items {
     }
 }
 
-/// What Score should give (01, Score; 02, S-3).
+/// What Score should give (01, Score; 02, S-3 and S-4).
 pub fn scored(scored: &other_scorer::Scored) -> archive::Scored {
     let mut yaku = [0; 37];
     for (n, held) in yaku.iter_mut().enumerate() {
@@ -73,6 +73,7 @@ pub fn scored(scored: &other_scorer::Scored) -> archive::Scored {
         fu: scored.fu,
         items: items(&scored.items),
         yaku: archive::Yaku(yaku),
+        tried: scored.tried,
         changes: scored.changes,
     }
 }

@@ -110,6 +110,7 @@ fn compare(report: &mut Report, rng: &mut Rng, index: usize) {
     let wanted = same::scored(&scored);
     report.count("Score by refusal", wanted.refusal);
     wanted.yaku.numbers().iter().for_each(|&n| report.count("Score by yaku", n as u16));
+    report.count("Score by readings tried", wanted.tried as u16);
     let items = wanted.items.list();
     (0..10).filter(|&at| items[at] > 0).for_each(|at| report.count("Score by item of fu (0 base to 9 rounding)", at as u16));
     let got = archive::score(&record, dealer, wind);

@@ -10,7 +10,7 @@ use other_scorer::Hand;
 
 use crate::both::Core;
 use crate::input;
-use crate::names::{count, seat_wind, wind};
+use crate::names::{count, seat_wind, wind, FIRST_YAKUMAN};
 use crate::page::Page;
 use crate::refusals;
 use crate::words::{Bad, Words};
@@ -64,7 +64,7 @@ impl Answer {
         refusals::of_record(self.scored.refusal, &self.record, self.dealer, self.wind)
     }
 
-    /// What was asked, and whether it was accepted.
+    /// What was asked, whether it was accepted, and how many readings were tried.
     pub fn head(&self, page: &mut Page) {
         let hand = self.hand().map(|hand| print(hand).unwrap_or_else(|| fields(hand)));
         page.row("hand", hand.unwrap_or("none".into()));
@@ -74,6 +74,14 @@ impl Answer {
         page.row("table", format!("dealer={} wind={round}{}", self.dealer, own.unwrap_or_default()));
         page.row("record", format!("{}, {}", to_hex(&self.record), count(self.record.len(), "byte")));
         page.row("answer", refusals::sentence(self.scored.refusal, &self.met()));
+        if self.scored.refusal == 0 {
+            let end = match (self.scored.yaku.numbers().last(), self.scored.tried) {
+                (Some(&(FIRST_YAKUMAN..)), 1) => ", a yakuman",
+                (Some(&(FIRST_YAKUMAN..)), _) => ", the last a yakuman",
+                _ => "",
+            };
+            page.row("tried", format!("{}{end}", count(self.scored.tried as usize, "reading")));
+        }
     }
 
     /// The same for scripts.

@@ -79,5 +79,6 @@ fn plain_score(page: &mut Page, answer: &Answer) {
         page.plain("han", scored.yaku.numbers().iter().map(|&n| value.han[n]));
     }
     page.plain("fu-items", scored.items.list());
+    page.plain("tried", [scored.tried]);
     page.plain("changes", scored.changes);
 }

@@ -33,16 +33,17 @@ tester hand HEX [dealer=N] [wind=E|S] [--plain]
   HEX             the record's bytes instead, in one word or more
 
 For scripts: notation, dealer, wind, record, refusal, why, h, fu, yaku, han (of each yaku), fu-items (base, closed ron,
-pair, four groups, wait, tsumo, rounding), changes of seats 0 to 3, differences.
+pair, four groups, wait, tsumo, rounding), tried (how many readings), changes of seats 0 to 3, differences.
 ";
 
 pub const READINGS: &str = "\
 tester readings HAND [dealer=N] [wind=E|S] [--plain]
 
 HAND as for `tester hand`. Lists every reading in document 01's order: pair, groups, place (what the winning tile
-completes: 0 the pair, then the groups from 1), yaku, h, fu and gain. > marks the reported one; each other says why it loses.
+completes: 0 the pair, then the groups from 1), yaku, h, fu and gain. > marks the reported one; each other says why it loses,
+or that it was not tried, as one before it is a yakuman.
 
-For scripts: the lines of `hand` up to why, then reading N SHAPE PAIR GROUPS PLACE YAKU H FU GAIN reported|loses.
+For scripts: the lines of `hand` up to why, tried, then reading N SHAPE PAIR GROUPS PLACE YAKU H FU GAIN reported|loses.
 ";
 
 pub const LOG: &str = "\

@@ -9,6 +9,10 @@ use crate::names::{points, yaku};
 use crate::page::{table, Page};
 use crate::words::{Bad, Words};
 
+/// What the stars say.
+const NOTE: &str =
+    "* listed by the other scorer; h, fu, yaku and gain of the reported reading, and how many were tried, are the core's";
+
 /// The list of readings; it is the other scorer's, and its reported one is what the core reports.
 pub fn run(core: &mut Core, mut words: Words) -> Result<String, Bad> {
     let plain = words.take_flag("--plain");
@@ -16,6 +20,7 @@ pub fn run(core: &mut Core, mut words: Words) -> Result<String, Bad> {
     let mut page = Page::default();
     if plain {
         answer.plain_head(&mut page);
+        page.plain("tried", [answer.scored.tried]);
         (1..).zip(&answer.readings).for_each(|(n, valued)| plain_row(&mut page, n, valued, &answer));
         page.plain("differences", [core.differences.count]);
         return Ok(page.finish());
@@ -30,7 +35,7 @@ pub fn run(core: &mut Core, mut words: Words) -> Result<String, Bad> {
         table(&all, &[5, 6, 7]).iter().for_each(|line| page.line(line));
         page.line("");
         legend(&mut page, &answer);
-        page.line("* listed by the other scorer; h, fu, yaku and gain of the reported reading are the core's");
+        page.line(NOTE);
     }
     page.line(core.verdict());
     Ok(page.finish())
@@ -50,12 +55,16 @@ fn place(reading: &Reading) -> String {
     }
 }
 
-/// Why a reading is reported, or loses to the reported one (01, Readings).
+/// Why a reading is reported, or loses to the reported one (01, Readings), or was not tried (02, S-4).
 fn verdict(at: usize, answer: &Answer) -> String {
+    let reported = answer.reported();
+    let n = answer.best.map_or(0, |best| best + 1);
+    if reported.is_some() && at >= answer.scored.tried as usize {
+        return format!("not tried, {n} is a yakuman");
+    }
     let Some(value) = &answer.readings[at].1 else { return "no yaku".into() };
-    let (Some(best), Some((_, reported))) = (answer.best, answer.reported()) else { return String::new() };
-    let n = best + 1;
-    if at == best {
+    let Some((_, reported)) = reported else { return String::new() };
+    if at + 1 == n {
         "REPORTED".into()
     } else if value.gain < reported.gain {
         format!("{} less than {n}", points((reported.gain - value.gain) as i64))

@@ -147,6 +147,28 @@ fn readings_say_why_they_lose() {
 }
 
 #[test]
+fn readings_tried() {
+    for (hand, tried, row) in [
+        ("234567m345p67s22s+8s seat=1 ron=3", 1, "1 reading"),
+        ("11222333m456p99s+1m seat=1 ron=3", 4, "4 readings"),
+        ("1112222333444m+3m seat=1 ron=3", 12, "12 readings"),
+        ("1122233344555m+4m seat=1 tsumo", 7, "7 readings, the last a yakuman"),
+        ("19m19p19sESWNPFC+C seat=1 tsumo", 1, "1 reading, a yakuman"),
+    ] {
+        for command in ["hand", "readings"] {
+            let (out, plain) = (answer(&format!("{command} {hand}")), answer(&format!("{command} {hand} --plain")));
+            assert!(out.contains(&format!("\nanswer     accepted\ntried      {row}\n")), "{out}");
+            assert!(plain.contains(&format!("\ntried {tried}\n")), "{plain}");
+        }
+    }
+    let stopped = answer("readings 1122233344555m+4m seat=1 tsumo");
+    assert_eq!(stopped.matches("not tried, 7 is a yakuman").count(), 2, "{stopped}");
+    let refused = "456p78s234s99p+9s chi=123m seat=1 ron=3";
+    assert!(answer(&format!("hand {refused} --plain")).contains("\ntried 0\n"));
+    assert!(!answer(&format!("readings {refused}")).contains("\ntried "));
+}
+
+#[test]
 fn the_worked_logs() {
     let lines = "1 R 0 30000 29000 30000 30000 1\n2 D 0 29000 32000 29000 29000 1\n";
     assert_eq!(answer("tally 01 24 --plain"), lines);

@@ -6,7 +6,7 @@ use crate::entry::{decided_by, first_is_not_best, has_tie, Entry};
 use crate::points::{basic, YAKUMAN};
 use crate::reading::Reading;
 use crate::record::{Hand, RON};
-use crate::score::Valued;
+use crate::score::{has_yakuman, Valued};
 use crate::shape::Shape;
 use crate::tiles::suit;
 use crate::win::Win;
@@ -38,6 +38,7 @@ impl Survey {
         cover.watch("h");
         cover.watch("fu");
         cover.expect("readings", &["1", "2", "3", "4", "5-8", "9+", "several-places"]);
+        cover.expect("tried", &["all", "first-yakuman", "later-yakuman", "some-left", "several-and-some-left"]);
         cover.expect("accepted", &[
             "one-suit", "several-yakuman", "tie-other-yaku-set", "tie-without-yakuman",
             "first-valuable-not-best", "chosen-by-h", "chosen-by-fu", "a-reading-without-yaku",
@@ -94,7 +95,7 @@ impl Survey {
         let how = if hand.how == RON { "ron" } else { "tsumo" };
         cover.add("won by", format!("{seat}-{how}"));
         cover.add("dora", win.dora());
-        let yakuman = entry.scored.yaku >> 26 != 0;
+        let yakuman = has_yakuman(entry.scored.yaku);
         cover.add_if(!yakuman, "h", entry.scored.h);
         cover.add_if(!yakuman, "fu", entry.scored.fu);
         for (name, item) in ITEMS.iter().zip(entry.scored.items.list()) {
@@ -102,6 +103,12 @@ impl Survey {
         }
         let a = if yakuman { YAKUMAN } else { basic(entry.scored.h, entry.scored.fu) };
         cover.add_if(a >= 2000, "A at a limit", a);
+        let (tried, some_left) = (entry.scored.tried, (entry.scored.tried as usize) < all.len());
+        cover.add_if(!yakuman, "tried", "all");
+        cover.add_if(yakuman && tried == 1, "tried", "first-yakuman");
+        cover.add_if(yakuman && tried > 1, "tried", "later-yakuman");
+        cover.add_if(some_left, "tried", "some-left");
+        cover.add_if(some_left && tried > 1, "tried", "several-and-some-left");
         match &all[at].0 {
             Reading::Regular { pair, groups, place } => {
                 cover.add("reported", "regular");

@@ -6,13 +6,9 @@ use Prim.Native.Nat.{ℕ}
 use Rattle.reading.specs.declared.Reading.{Reading}
 use Rattle.reading.specs.Order.{Lex, keyOf}
 use Rattle.reading.specs.laws.Readings.{lex-irreflexive}
+use Rattle.reading.specs.laws.Only.{lex-one-way}
 use Rattle.value.specs.declared.Value.{Value}
 use Rattle.best.specs.Best.{figures, Over}
-use Rattle.best.specs.laws.First.{lex-trans}
-
--- neither of two comes before the other
-lex-one-way : (a b : List ℕ) → Lex a b → Lex b a → ⊥
-lex-one-way a b h g = lex-irreflexive a (lex-trans a b a h g)
 
 lex-differ : (a b : List ℕ) → Lex a b → a ≡ b → ⊥
 lex-differ a b h e = lex-irreflexive b (subst (λ (z : List ℕ). Lex z b) e h)

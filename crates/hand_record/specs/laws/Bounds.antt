@@ -1,4 +1,4 @@
--- The fields of a hand that was read are within their ranges.
+-- The fields of a hand that was read are within their ranges, and a ron is from another seat.
 use Prim.Native.Nat.{ℕ, zero, suc, _≤_, _<_}
 use native.Mathlib.Omega.{arith}
 use mathlib.Core.Path.{_≡_, ap, sym, _∙_, subst}
@@ -10,6 +10,8 @@ use Rattle.tiles.specs.laws.Below.{or-both}
 use Rattle.bits.specs.Bits.{bitsOf}
 use Rattle.hand.specs.declared.Fields.{Fields}
 use Rattle.hand.specs.declared.Hand.{Hand}
+use Rattle.hand.specs.Held.{wrongHeld}
+use Rattle.hand.specs.Refusals.{fieldOver33, fieldOver, wrongDiscarder, wrongFields}
 use Rattle.hand_record.specs.declared.Answer.{Answer}
 use Rattle.hand_record.specs.declared.Answer.the-variants.{Sound, Refused}
 use Rattle.hand_record.specs.declared.HandRead.{HandRead}
@@ -25,14 +27,23 @@ pub record Bounds (h : Hand) : Type 0 where
   pub discarder : h .fields .discarder ≤ 3
   pub winning : h .fields .winning ≤ 33
   pub indicator : h .fields .indicator ≤ 33
+  pub other : wrongDiscarder (h .fields) ≡ false
 
 -- what a hand that Write accepts has
 pub bounds-of : (h : Hand) → Accepted h → Bounds h
+unfolding wrongFields
 bounds-of h y =
     let f = h .fields in
     let p = four (ltb 4 (h .held .m)) (ltb 1 (f .how)) (ltb 3 (f .winner)) (ltb 3 (f .discarder)) (ltb 3 (f .riichi)) (ltb 7 (f .situation)) (y .large) in
     let k = kinds-of h 0 (y .clean .fields) in
-    record { few = ltb-false 4 (h .held .m) (p .0); winner = ltb-false 3 (f .winner) (p .1); discarder = ltb-false 3 (f .discarder) (p .2); winning = k .winning; indicator = k .indicator }
+    record {
+      few = ltb-false 4 (h .held .m) (p .0);
+      winner = ltb-false 3 (f .winner) (p .1);
+      discarder = ltb-false 3 (f .discarder) (p .2);
+      winning = k .winning;
+      indicator = k .indicator;
+      other = or-both (wrongHeld (h .held) 0 || fieldOver33 f || fieldOver f) (wrongDiscarder f) (y .clean .fields) .1;
+    }
   where
     four : (a b c d u v : Bool) → a || b || c || d || u || v ≡ false → (a ≡ false) × (c ≡ false) × (d ≡ false)
     four a b c d u v q =

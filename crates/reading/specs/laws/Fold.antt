@@ -36,6 +36,15 @@ module _ {B : Type 0} (judge : B → Reading → B) where
   judged-append b [] y = refl
   judged-append b (r ∷ x) y = judged-append (judge b r) x y
 
+  -- ---- what no reading moves stays: the search may end there
+  abbrev pub Still : B → Type 0
+  Still b = (r : Reading) → judge b r ≡ b
+
+  pub judged-still : (b : B) → Still b → (rs : List Reading) → b ≡ judged judge b rs
+  unfolding judged
+  judged-still b s [] = refl
+  judged-still b s (r ∷ rs) = rw (s r) (judged-still b s rs)
+
   -- ---- one reading, where a test holds
   pub judged-with : (b x : B) (r : Reading) (e : Bool) → e ≡ true → x ≡ judge b r → x ≡ judged judge b (when e (λ _. r ∷ []))
   unfolding judged
@@ -59,6 +68,10 @@ module _ {B : Type 0} (judge : B → Reading → B) where
   unfolding ranged concatMap judged
   ranged-done f n i b h = let s : n - i ≡ 0 = omega arith in rw s
 
+  pub ranged-still : (f : ℕ → List Reading) (n i : ℕ) (b : B) → Still b → b ≡ ranged f n i b
+  unfolding ranged
+  ranged-still f n i b s = judged-still b s (concatMap f (tabulate (n - i) i (λ k. k)))
+
   -- ---- the places of a pair and groups
   pub placed-all : (n win pair : ℕ) (gs : List ℕ) (b : B) → ranged (placedAt win pair gs) (n + 1) 0 b ≡ judged judge b (placed n win pair gs)
   unfolding ranged placed
@@ -73,6 +86,10 @@ module _ {B : Type 0} (judge : B → Reading → B) where
     -- what is kept after all splittings of t into n groups from the code c on, each behind the size - n groups that so has
     unfoldable pub searched : List ℕ → ℕ → ℕ → List ℕ → B → B
     searched so n c t b = judgedAll so (size - n) b (splits n (68 - c) c t)
+
+    searched-same : (so : List ℕ) (n c : ℕ) (t : List ℕ) (b : B) → Still b → b ≡ searched so n c t b
+    unfolding searched judgedAll
+    searched-same so n c t b s = judged-still b s (concatMap (λ (gs : List ℕ). placed size win pair (sets so (size - n) gs)) (splits n (68 - c) c t))
 
     judgedAll-taken : (so : List ℕ) (i : ℕ) (b : B) (c : ℕ) (x : List (List ℕ)) (f : Bool) →
         judgedAll so i b (when f (λ _. map (λ (gs : List ℕ). c ∷ gs) x)) ≡ cond f (judgedAll (set so i c) (suc i) b x) b
@@ -151,6 +168,15 @@ module _ {B : Type 0} (judge : B → Reading → B) where
     pub searched-stop : (so : List ℕ) (n c : ℕ) (t : List ℕ) (b found : B) → (n ≡ 0 → ⊥) → n ≤ size → c < 68 →
         passes t c ≡ false → found ≡ foundAt so n c t b → found ≡ searched so n c t b
     searched-stop so n c t b found h l k e q = rw (q, searched-step so n c t b h l k, e)
+
+    -- no later reading moves what is found
+    pub searched-still : (so : List ℕ) (n c : ℕ) (t : List ℕ) (b found : B) → (n ≡ 0 → ⊥) → n ≤ size → c < 68 →
+        found ≡ foundAt so n c t b → Still found → found ≡ searched so n c t b
+    searched-still so n c t b found h l k q s = go (passes t c) refl
+      where
+        go : (p : Bool) → passes t c ≡ p → found ≡ searched so n c t b
+        go true e = searched-same so n (c + 1) t found s ∙ searched-next so n c t b found h l k e q
+        go false e = searched-stop so n c t b found h l k e q
 
   -- ---- the pairs
   module _ (t : List ℕ) (m win k : ℕ) where

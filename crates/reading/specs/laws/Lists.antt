@@ -7,7 +7,7 @@ use Prim.Native.Nat.{ℕ, zero, suc, _+_, _≤_, _<_}
 use native.Mathlib.Nat.{eq-or-lt-of-le}
 use native.Mathlib.Omega.{arith}
 use Rattle.tiles.specs.Below.{tabulate}
-use Rattle.reading.specs.search.Ordered.{Each, none, also, Pairwise, ended, first}
+use Rattle.reading.specs.All.{Each, none, also, Pairwise, ended, first}
 use Rattle.reading.specs.search.Readings.{when, concatMap}
 
 -- ---- each element

@@ -13,7 +13,7 @@ use Rattle.tiles.specs.Groups.{at}
 use Rattle.reading.specs.declared.Reading.{Reading}
 use Rattle.reading.specs.Reading.{holds, IsRegular, isSevenPairs, isOrphans, ofShape, IsReading, regular, pairs, orphans}
 use Rattle.reading.specs.Order.{Lex, Before}
-use Rattle.reading.specs.search.Ordered.{Each, none, also, Pairwise}
+use Rattle.reading.specs.All.{Each, none, also, Pairwise}
 use Rattle.reading.specs.search.Readings.{when, concatMap, less, regularOf, placedAt, placed, paired, shaped, readings}
 use Rattle.reading.specs.laws.Lists.{each-append, each-imp, each-when, each-all, each-concat, pairwise-append, pairwise-when, pairwise-one, pairwise-concat, mem-when, mem-concat, range-in, range-ascends, mem-range}
 use Rattle.reading.specs.laws.Groups.{at-same, less-at, less-long}

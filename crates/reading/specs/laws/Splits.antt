@@ -10,7 +10,7 @@ use lib.ListN.{length, getD}
 use Rattle.tiles.specs.Groups.{uses}
 use Rattle.reading.specs.Reading.{usedBy, Ascends}
 use Rattle.reading.specs.Order.{Lex}
-use Rattle.reading.specs.search.Ordered.{Each, none, also, Pairwise, ended}
+use Rattle.reading.specs.All.{Each, none, also, Pairwise, ended}
 use Rattle.reading.specs.search.Readings.{isEmpty, fits, without, passes, when, step, splits}
 use Rattle.reading.specs.laws.Lists.{each-append, each-map, each-imp, each-when, pairwise-append, pairwise-when, pairwise-one, pairwise-map, mem-when}
 use Rattle.reading.specs.laws.Groups.{fits-group, fits-of, without-at, without-long, group-in, passes-of, empty-at, empty-of}

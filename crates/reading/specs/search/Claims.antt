@@ -6,7 +6,7 @@ use lib.ListN.{length}
 use Rattle.reading.specs.declared.Reading.{Reading}
 use Rattle.reading.specs.Reading.{IsReading}
 use Rattle.reading.specs.Order.{keyOf, Before}
-use Rattle.reading.specs.search.Ordered.{Pairwise}
+use Rattle.reading.specs.All.{Pairwise}
 use Rattle.reading.specs.search.Readings.{readings}
 use Rattle.reading.specs.laws.Lists.{each-member}
 use Rattle.reading.specs.laws.Readings.{readings-each, readings-has, readings-ascend, lex-irreflexive}

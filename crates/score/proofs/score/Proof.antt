@@ -29,7 +29,7 @@ score-spec =
     let a = r .before .before .before .args in
     let q = or-both (ltb 3 (a .dealer)) (ltb 1 (a .wind)) (r .before .if1 .left) in
     let b = hand-bounds (a .s .now) (r .read .result) (r .read .ensures) _ (c .before .before .a .given .1) in
-    (b .few, b .winner, ltb-false 3 (a .dealer) (q .0), ltb-false 1 (a .wind) (q .1)))
+    (b .few, b .winner, ltb-false 3 (a .dealer) (q .0), ltb-false 1 (a .wind) (q .1), b .discarder, b .other))
     (λ c.
     let r = c .before .before .before .before .before in
     let a = r .before .before .before .args in

@@ -3,6 +3,7 @@ use borrow.Author.Needs.{needs}
 use mathlib.Core.Path.{_≡_, _∙_}
 use lib.ListN.{length}
 use Rattle.score.specs.search.Settled.{keptOf}
+use Rattle.score.specs.laws.Paid.{Paid, paid-of}
 use Rattle.score.specs.laws.Named.{settled-named}
 use Rattle.score.specs.laws.Parts.{kept-in}
 use Rattle.score.specs.laws.Found.{basic-kept, settled-accepted, settled-seven, settled-six}
@@ -22,30 +23,39 @@ kept c =
     (c .before .before .setting-of .result) (c .before .concealed-tally .result) (c .best-of .result)
     (c .before .before .setting-of .ensures .0) (c .before .concealed-tally .ensures) (c .best-of .ensures)
 
+-- a yakuman is paid
+paid : (c : tie.Start) → Paid (c .args .h) (c .args .dealer)
+paid c = paid-of (c .args .h) (c .args .dealer) (c .pre .1) (c .pre .2) (c .pre .4) (c .pre .5)
+
+-- the search, from where it is known to have tried a reading
+abbrev searched : tie.Then1 → tie.After-best-of
+searched c = c .before .before
+
 pub settle-spec : {M : Type 1} → statement M
 settle-spec =
     tie.close
     (tie.spec (λ c κs. search needs) (λ c κs. search needs)
     (λ c κs. (c .before .setting-of .ensures .1, c .before .before .pre .0))
     (λ c κs.
-    let b = c .before .before .before .before in
+    let b = searched (c .before .before .before) in
     let a = b .before .before .before .args in
     basic-kept (a .h) (a .dealer) (a .wind) (b .best-of .result) (kept b))
     (λ c.
-    let b = c .before .before .before .before .before in
+    let two = c .before .before .before in
+    let b = searched (two .before) in
     let a = b .before .before .before .args in
-    settled-named (a .h) (a .dealer) (a .wind) _
-    (c .accepted .ensures ∙ settled-accepted (a .h) (a .dealer) (a .wind) (b .best-of .result) (kept b)
-    (c .before .before .before .before .if1 .taken) (c .before .before .before .if2 .taken)))
+    settled-named (a .h) (a .dealer) (a .wind) (paid (b .before .before .before)) _
+    (c .accepted .ensures ∙ settled-accepted (a .h) (a .dealer) (a .wind) (b .best-of .result) (kept b) (two .before .if1 .taken) (two .if2 .taken)))
+    (λ c κs. search needs)
+    (λ c.
+    let one = c .before .before in
+    let b = searched one in
+    let a = b .before .before .before .args in
+    settled-named (a .h) (a .dealer) (a .wind) (paid (b .before .before .before)) _
+    (c .refused .ensures ∙ settled-seven (a .h) (a .dealer) (a .wind) (b .best-of .result) (kept b) (one .if1 .taken) (c .before .if2 .left)))
     (λ c κs. search needs)
     (λ c.
     let b = c .before .before .before in
     let a = b .before .before .before .args in
-    settled-named (a .h) (a .dealer) (a .wind) _
-    (c .refused .ensures ∙ settled-seven (a .h) (a .dealer) (a .wind) (b .best-of .result) (kept b) (c .before .before .if1 .taken) (c .before .if2 .left)))
-    (λ c κs. search needs)
-    (λ c.
-    let b = c .before .before in
-    let a = b .before .before .before .args in
-    settled-named (a .h) (a .dealer) (a .wind) _
+    settled-named (a .h) (a .dealer) (a .wind) (paid (b .before .before .before)) _
     (c .refused2 .ensures ∙ settled-six (a .h) (a .dealer) (a .wind) (b .best-of .result) (kept b) (c .before .if1 .left))))

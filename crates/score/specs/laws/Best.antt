@@ -1,41 +1,60 @@
 -- What the search kept of a hand's readings, over all that are readings.
-use Prim.Native.Nat.{ℕ}
-use mathlib.Core.Path.{_≡_, refl}
+use Prim.Native.Nat.{ℕ, _<_}
+use mathlib.Core.Path.{_≡_, refl, ap, _∙_}
 use mathlib.Core.Bool.{Bool, true, false}
-use mathlib.Core.List.{List·Memᴰ as Member}
+use mathlib.Core.List.{List, List·Memᴰ as Member}
+use lib.Dec.{ltb}
+use lib.ListN.{length}
 use Rattle.hand.specs.declared.Hand.{Hand}
 use Rattle.hand.specs.Hand.{isRon, concealedTally}
+use Rattle.reading.specs.declared.Reading.{Reading}
 use Rattle.reading.specs.search.Readings.{readings}
+use Rattle.reading.specs.search.Judged.{judged}
 use Rattle.reading.specs.search.Claims.{readings-sound, readings-complete, readings-ordered}
+use Rattle.reading.specs.laws.Only.{readings-all}
 use Rattle.best.specs.declared.Best.{Best}
-use Rattle.best.specs.search.Best.{bestOf}
-use Rattle.best.specs.laws.First.{Kept, kept-all, kept-same}
-use Rattle.score.specs.Named.{worth, seatsOf, IsReadingOf, refusedWith, acceptedAs}
-use Rattle.score.specs.laws.Parts.{tally-long}
+use Rattle.best.specs.Best.{withYakuman, upTo}
+use Rattle.best.specs.search.Best.{noneOf, judgeBy, bestOf}
+use Rattle.best.specs.laws.First.{Kept, MayEnd, kept-all, kept-same}
+use Rattle.best.specs.laws.Tried.{tried-all}
+use Rattle.score.specs.Readings.{all-kinds, readingsOf, only-readings}
+use Rattle.score.specs.Named.{worth, seatsOf, IsReadingOf, refusedWith, acceptedAs, triedIn}
 use Rattle.score.specs.search.Settled.{settledBy, keptOf, settledOf}
 
 module _ (h : Hand) (dealer wind : ℕ) where
   abbrev kept : Best
   kept = keptOf h dealer wind
 
-  -- the search held each reading of the hand against the others
-  pub over-readings : Kept (worth h dealer wind) (IsReadingOf h) kept
-  unfolding bestOf keptOf
-  over-readings =
+  -- a search, up to where it may end, held each reading of the hand against the others
+  pub over-readings : (ends : Reading → Bool) → MayEnd (worth h dealer wind) ends
+      → Kept (worth h dealer wind) (IsReadingOf h) (judged (judgeBy (worth h dealer wind) ends) noneOf (readings (concealedTally h) (h .held .m) (h .fields .winning)))
+  over-readings ends may =
       let t = worth h dealer wind in
       let c = concealedTally h in
       let m = h .held .m in
       let w = h .fields .winning in
-      kept-same t (λ q. Member q (readings c m w)) (IsReadingOf h) _ (λ q n. readings-sound c m w (tally-long h) q n) (λ q n. readings-complete c m w (tally-long h) q n)
-      (kept-all t (readings c m w) (readings-ordered c m w (tally-long h)))
+      kept-same t (λ q. Member q (readings c m w)) (IsReadingOf h) _ (λ q n. readings-sound c m w (all-kinds h) q n) (λ q n. readings-complete c m w (all-kinds h) q n)
+      (kept-all t ends may (readings c m w) (readings-ordered c m w (all-kinds h)))
+
+  -- what the code keeps
+  pub over-kept : MayEnd (worth h dealer wind) (withYakuman (worth h dealer wind)) → Kept (worth h dealer wind) (IsReadingOf h) kept
+  unfolding bestOf keptOf
+  over-kept may = over-readings (withYakuman (worth h dealer wind)) may
+
+  -- it tried as many as are named
+  pub tried-kept : kept .tried ≡ triedIn h dealer wind
+  unfolding keptOf
+  tried-kept =
+      tried-all (worth h dealer wind) (concealedTally h) (h .held .m) (h .fields .winning)
+      ∙ ap (λ (l : List Reading). length (upTo (withYakuman (worth h dealer wind)) l)) (only-readings h _ (readings-all (concealedTally h) (h .held .m) (h .fields .winning) (all-kinds h)))
 
   -- the three answers
-  pub answers : {A : Type 0} → (kept .seen ≡ false → settledOf h dealer wind ≡ refusedWith 6 → A) → (kept .seen ≡ true → kept .valued ≡ false → settledOf h dealer wind ≡ refusedWith 7 → A)
-      → (kept .seen ≡ true → kept .valued ≡ true → settledOf h dealer wind ≡ acceptedAs (kept .value) (seatsOf h dealer) (isRon (h .fields)) → A) → A
+  pub answers : {A : Type 0} → (settledOf h dealer wind ≡ refusedWith 6 → A) → (settledOf h dealer wind ≡ refusedWith 7 → A)
+      → (settledOf h dealer wind ≡ acceptedAs (kept .value) (seatsOf h dealer) (isRon (h .fields)) (kept .tried) → A) → A
   unfolding settledOf settledBy
-  answers {A} six seven none = go (kept .seen) (kept .valued) refl refl
+  answers {A} six seven none = go (ltb 0 (kept .tried)) (kept .valued) refl refl
     where
-      go : (s v : Bool) → kept .seen ≡ s → kept .valued ≡ v → A
-      go false v es ev = six es (rw es)
-      go true false es ev = seven es ev (rw (es, ev))
-      go true true es ev = none es ev (rw (es, ev))
+      go : (s v : Bool) → ltb 0 (kept .tried) ≡ s → kept .valued ≡ v → A
+      go false v es ev = six (rw es)
+      go true false es ev = seven (rw (es, ev))
+      go true true es ev = none (rw (es, ev))

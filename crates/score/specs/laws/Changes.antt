@@ -66,8 +66,8 @@ module _ (P : List ℤ → Type 0) (h : Hand) (dealer wind : ℕ) (none : P (rep
   of-changes : P (settledOf h dealer wind .changes)
   of-changes =
       let to : (x : Scored) → settledOf h dealer wind ≡ x → P (x .changes) → P (settledOf h dealer wind .changes) = λ x e p. subst (λ (y : Scored). P (y .changes)) (sym e) p in
-      answers h dealer wind (λ s e. to (refusedWith 6) e none) (λ s v e. to (refusedWith 7) e none)
-      (λ s v e. to _ e (paid _ (kept-le h dealer wind)))
+      answers h dealer wind (λ e. to (refusedWith 6) e none) (λ e. to (refusedWith 7) e none)
+      (λ e. to _ e (paid _ (kept-le h dealer wind)))
 
 module _ (h : Hand) (dealer wind : ℕ) where
   pub changes-within : (i : ℕ) → Within (change h dealer wind i) 48000

@@ -16,7 +16,8 @@ use Rattle.score.specs.declared.Scored.{Scored}
 use Rattle.score.specs.Named.{refusedWith, Named}
 use Rattle.score.specs.IsScore.{IsScore, eight, unread, read}
 use Rattle.score.specs.search.Settled.{foundBy, foundOf}
-use Rattle.score.specs.laws.Named.{named, only-one}
+use Rattle.score.specs.laws.Paid.{read-paid}
+use Rattle.score.specs.laws.Named.{settled, only-one}
 
 module _ (s : List ℕ) (dealer wind : ℕ) where
   -- ---- what the search finds is a score
@@ -24,7 +25,7 @@ module _ (s : List ℕ) (dealer wind : ℕ) where
   by-answer : dealer ≤ 3 → wind ≤ 1 → (a : Answer) → readOf s .answer ≡ a → IsScore s dealer wind (foundBy a (handOf (readOf s)) dealer wind)
   unfolding foundBy
   by-answer d w (Refused n) e = unread d w n e
-  by-answer d w (Sound f) e = read d w f e (named (handOf (readOf s)) dealer wind)
+  by-answer d w (Sound f) e = read d w f e (settled (handOf (readOf s)) dealer wind (read-paid s dealer d (ap refusalIn e)))
 
   by-seats : (a b : Bool) → ltb 3 dealer ≡ a → ltb 1 wind ≡ b
       → IsScore s dealer wind (cond (a || b) (refusedWith 8) (foundBy (readOf s .answer) (handOf (readOf s)) dealer wind))

@@ -4,9 +4,8 @@ use mathlib.Core.Path.{_≡_, refl, sym, ap, _∙_}
 use mathlib.Core.Bool.{Bool, true, false, _&&_, _||_, not, cond}
 use mathlib.Core.List.{List, [], _∷_}
 use native.Mathlib.Omega.{arith}
-use borrow.Author.Tests.{ltb-false, le-ltb}
-use lib.Dec.{ltb, leb}
-use Rattle.tiles.specs.laws.Below.{cond-le}
+use borrow.Author.Tests.{lt-ltb, le-ltb}
+use lib.Dec.{ltb}
 use Rattle.hand.specs.declared.Fields.{Fields}
 use Rattle.hand.specs.declared.Hand.{Hand}
 use Rattle.hand.specs.Hand.{isRon, concealedTally}
@@ -18,34 +17,17 @@ use Rattle.hand_record.specs.laws.Bounds.{answer-is, hand-is, refused-number}
 use Rattle.reading.specs.declared.Reading.{Reading}
 use Rattle.reading.specs.search.Readings.{readings}
 use Rattle.reading.specs.search.Judged.{judged}
-use Rattle.points.specs.Points.{plain, limit, ordinary, basic}
 use Rattle.value.specs.declared.Value.{Value}
 use Rattle.value.specs.Value.{valueOf}
 use Rattle.best.specs.declared.Best.{Best}
-use Rattle.best.specs.Best.{withYaku}
-use Rattle.best.specs.search.Best.{beats, noneOf, judgeOf, bestOf}
+use Rattle.best.specs.Best.{withYaku, withYakuman}
+use Rattle.best.specs.search.Best.{beats, noneOf, taking, passing, judgeBy, judgeOf, bestOf}
+use Rattle.best.specs.laws.Top.{basic-le}
 use Rattle.score.specs.declared.Scored.{Scored}
 use Rattle.score.specs.Named.{seatsOf, worth, refusedWith, acceptedAs}
 use Rattle.score.specs.search.Settled.{settledBy, keptOf, settledOf, foundBy, foundOf}
 
 -- ---- basic points are at most 8,000
-
-limit-le : (h : ℕ) → limit h ≤ 6000
-unfolding limit
-limit-le h = cond-le (leb h 5) _ _ 6000 (omega arith) (cond-le (leb h 7) _ _ 6000 (omega arith) (cond-le (leb h 10) _ _ 6000 (omega arith) (omega arith)))
-
-ordinary-le : (h f : ℕ) → ordinary h f ≤ 6000
-unfolding ordinary
-ordinary-le h f = go (leb 5 h) (ltb 2000 (plain h f)) refl
-  where
-    go : (a b : Bool) → ltb 2000 (plain h f) ≡ b → cond (a || b) (limit h) (plain h f) ≤ 6000
-    go true b e = limit-le h
-    go false true e = limit-le h
-    go false false e = omega (arith, ltb-false 2000 (plain h f) e)
-
-pub basic-le : (y : Bool) (h f : ℕ) → basic y h f ≤ 8000
-unfolding basic
-basic-le y h f = cond-le y _ _ 8000 (omega arith) (omega (arith, ordinary-le h f))
 
 worth-le : (h : Hand) (dealer wind : ℕ) (r : Reading) → worth h dealer wind r .basic .0 ≤ 8000
 unfolding worth valueOf
@@ -53,12 +35,13 @@ worth-le h dealer wind r = basic-le _ _ _
 
 module _ (of : Reading → Value) (le : (r : Reading) → of r .basic .0 ≤ 8000) where
   judge-le : (b : Best) (r : Reading) → b .value .basic .0 ≤ 8000 → judgeOf of b r .value .basic .0 ≤ 8000
-  unfolding judgeOf
-  judge-le b r h = go (withYaku of r && (not (b .valued) || beats (of r) (b .value)))
+  unfolding judgeBy
+  judge-le b r h = go (b .done) (withYaku of r && (not (b .valued) || beats (of r) (b .value)))
     where
-      go : (c : Bool) → cond {A = Best} c (record { seen = true; valued = true; value = of r; reading = r }) (record { seen = true; valued = b .valued; value = b .value; reading = b .reading }) .value .basic .0 ≤ 8000
-      go true = le r
-      go false = h
+      go : (d c : Bool) → cond {A = Best} d b (cond {A = Best} c (taking of (withYakuman of) b r) (passing of (withYakuman of) b r)) .value .basic .0 ≤ 8000
+      go true c = h
+      go false true = le r
+      go false false = h
 
   judged-le : (b : Best) (rs : List Reading) → b .value .basic .0 ≤ 8000 → judged (judgeOf of) b rs .value .basic .0 ≤ 8000
   unfolding judged
@@ -80,17 +63,17 @@ module _ (h : Hand) (dealer wind : ℕ) where
     unfolding settledOf
     settled-by = ap (λ (x : Best). settledBy x (seatsOf h dealer) (isRon (h .fields))) e
 
-    pub settled-accepted : b .seen ≡ true → b .valued ≡ true → acceptedAs (b .value) (seatsOf h dealer) (isRon (h .fields)) ≡ settledOf h dealer wind
+    pub settled-accepted : 0 < b .tried → b .valued ≡ true → acceptedAs (b .value) (seatsOf h dealer) (isRon (h .fields)) (b .tried) ≡ settledOf h dealer wind
     unfolding settledBy
-    settled-accepted s v = rw (s, v) at settled-by
+    settled-accepted s v = rw (lt-ltb 0 (b .tried) s, v) at settled-by
 
-    pub settled-seven : b .seen ≡ true → b .valued ≡ false → refusedWith 7 ≡ settledOf h dealer wind
+    pub settled-seven : 0 < b .tried → b .valued ≡ false → refusedWith 7 ≡ settledOf h dealer wind
     unfolding settledBy
-    settled-seven s v = rw (s, v) at settled-by
+    settled-seven s v = rw (lt-ltb 0 (b .tried) s, v) at settled-by
 
-    pub settled-six : b .seen ≡ false → refusedWith 6 ≡ settledOf h dealer wind
+    pub settled-six : b .tried ≤ 0 → refusedWith 6 ≡ settledOf h dealer wind
     unfolding settledBy
-    settled-six s = rw s at settled-by
+    settled-six s = rw (le-ltb 0 (b .tried) s) at settled-by
 
 -- ---- a record
 

@@ -1,38 +1,70 @@
 -- The search finds what document 01 names for a hand, and it names one answer.
 use Prim.Native.Nat.{ℕ, _≤_}
 use mathlib.Core.Path.{_≡_, refl, sym, ap, _∙_, subst}
-use mathlib.Core.Bool.{false≢true}
+use mathlib.Core.Bool.{Bool, true, false, cond, false≢true}
 use mathlib.Core.Logic.{_⊎_, inl, inr, ⊎-elim, _↔_}
 use native.Mathlib.Omega.{arith}
+use borrow.Author.Tests.{ltb-true, ltb-false}
+use lib.Dec.{ltb}
 use Rattle.hand.specs.declared.Hand.{Hand}
 use Rattle.hand.specs.Hand.{isRon}
 use Rattle.reading.specs.declared.Reading.{Reading}
 use Rattle.reading.specs.Order.{Lex}
 use Rattle.value.specs.declared.Value.{Value}
+use Rattle.best.specs.declared.Best.{Best}
 use Rattle.best.specs.Best.{figures}
+use Rattle.best.specs.laws.First.{Kept, never}
 use Rattle.best.specs.laws.Over.{over-same}
 use Rattle.score.specs.declared.Scored.{Scored}
-use Rattle.score.specs.Named.{worth, seatsOf, IsReadingOf, acceptedAs, ReadsWithYaku, IsReported, gainIn, scoredAs, Named, reported, six, seven}
-use Rattle.score.specs.search.Settled.{keptOf, settledOf}
-use Rattle.score.specs.laws.Best.{over-readings, answers}
+use Rattle.score.specs.Named.{worth, seatsOf, IsReadingOf, refusedWith, acceptedAs, ReadsWithYaku, IsReported, gainIn, triedIn, scoredAs, Named, reported, six, seven}
+use Rattle.score.specs.search.Settled.{settledBy, keptOf, settledOf}
+use Rattle.score.specs.laws.Best.{over-readings, over-kept, tried-kept}
+use Rattle.score.specs.laws.Paid.{Paid, may-end}
 
 -- what comes first in the figures is the gain
 gain-le : (v w : Value) → Lex (figures v) (figures w) ⊎ (figures v ≡ figures w) → v .gain .0 ≤ w .gain .0
 gain-le v w h = ⊎-elim (λ l. ⊎-elim (λ k. omega arith) (λ k. omega arith) l) (λ e. let q : v .gain .0 ≡ w .gain .0 = cc in omega arith) h
 
 module _ (h : Hand) (dealer wind : ℕ) where
-  by : {x : Scored} → settledOf h dealer wind ≡ x → Named h dealer wind x → Named h dealer wind (settledOf h dealer wind)
-  by e n = subst (λ (y : Scored). Named h dealer wind y) (sym e) n
+  -- ---- by what a search kept
 
-  pub named : Named h dealer wind (settledOf h dealer wind)
-  named =
-      let k = over-readings h dealer wind in
-      answers h dealer wind (λ s e. by e (six (k .unseen s)))
-      (λ s v e. let y = k .seen s in by e (seven (y .0) (y .1) (λ r w. absurd (false≢true (sym (k .worthless v r (w .0)) ∙ w .1)))))
-      (λ s v e.
-      let y = k .best v in
-      by (e ∙ ap (λ (x : Value). acceptedAs x (seatsOf h dealer) (isRon (h .fields))) (y .2))
-      (reported (keptOf h dealer wind .reading) (record { yaku = (y .0, y .1); first = λ q w. y .3 q (w .0) (w .1) })))
+  module _ (b : Best) (k : Kept (worth h dealer wind) (IsReadingOf h) b) where
+    abbrev answerBy : Scored
+    answerBy = cond (ltb 0 (b .tried)) (cond (b .valued) (scoredAs h dealer wind (b .reading)) (refusedWith 7)) (refusedWith 6)
+
+    named-by : Named h dealer wind answerBy
+    named-by = go (ltb 0 (b .tried)) (b .valued) refl refl
+      where
+        go : (s v : Bool) → ltb 0 (b .tried) ≡ s → b .valued ≡ v → Named h dealer wind (cond s (cond v (scoredAs h dealer wind (b .reading)) (refusedWith 7)) (refusedWith 6))
+        go false v es ev = six (k .untried (omega (arith, ltb-false 0 (b .tried) es)))
+        go true false es ev =
+            let y = k .tried (ltb-true 0 (b .tried) es) in
+            seven (y .0) (y .1) (λ r w. absurd (false≢true (sym (k .worthless ev r (w .0)) ∙ w .1)))
+        go true true es ev = let y = k .best ev in reported (b .reading) (record { yaku = (y .0, y .1); first = λ q w. y .3 q (w .0) (w .1) })
+
+    settled-by : b .tried ≡ triedIn h dealer wind → settledBy b (seatsOf h dealer) (isRon (h .fields)) ≡ answerBy
+    unfolding settledBy
+    settled-by n = go (b .valued) refl
+      where
+        go : (v : Bool) → b .valued ≡ v
+            → cond (ltb 0 (b .tried)) (cond v (acceptedAs (b .value) (seatsOf h dealer) (isRon (h .fields)) (b .tried)) (refusedWith 7)) (refusedWith 6)
+            ≡ cond (ltb 0 (b .tried)) (cond v (scoredAs h dealer wind (b .reading)) (refusedWith 7)) (refusedWith 6)
+        go false ev = refl
+        go true ev =
+            ap (λ (x : Scored). cond (ltb 0 (b .tried)) x (refusedWith 6))
+            (ap (λ (x : Value). acceptedAs x (seatsOf h dealer) (isRon (h .fields)) (b .tried)) (k .best ev .2)
+            ∙ ap (acceptedAs (worth h dealer wind (b .reading)) (seatsOf h dealer) (isRon (h .fields))) n)
+
+  -- by one that goes through all readings there is an answer for every hand
+  pub named : (a : Scored) × Named h dealer wind a
+  named = let k = over-readings h dealer wind (λ _. false) (never (worth h dealer wind)) in (answerBy _ k, named-by _ k)
+
+  -- and where a yakuman is paid it is what the code finds
+  pub settled : Paid h dealer → Named h dealer wind (settledOf h dealer wind)
+  unfolding settledOf
+  settled paid =
+      let k = over-kept h dealer wind (may-end h dealer wind paid) in
+      subst (λ (y : Scored). Named h dealer wind y) (sym (settled-by (keptOf h dealer wind) k (tried-kept h dealer wind))) (named-by (keptOf h dealer wind) k)
 
   pub only-one : {x y : Scored} → Named h dealer wind x → Named h dealer wind y → x ≡ y
   only-one (reported r a) (reported q b) = ap (scoredAs h dealer wind) (over-same (worth h dealer wind) r q (a .first q (b .yaku)) (b .first r (a .yaku)))
@@ -76,9 +108,16 @@ module _ (h : Hand) (dealer wind : ℕ) where
   for-tiles (six n) = (λ e r w. n r (w .0), λ m. inl refl)
   for-tiles (seven q i n) = (λ e. n, λ m. inr refl)
 
-  -- what is named is what the search finds
-  pub settled-is : (x : Scored) → Named h dealer wind x → x ≡ settledOf h dealer wind
-  settled-is x n = only-one n named
+  pub tried : {x : Scored} → Named h dealer wind x → x .refusal ≡ 0 → x .tried ≡ triedIn h dealer wind
+  tried (reported r a) e = refl
+  tried (six n) e = absurd (omega arith)
+  tried (seven q i n) e = absurd (omega arith)
 
-  pub settled-named : (x : Scored) → x ≡ settledOf h dealer wind → Named h dealer wind x × (x ≡ settledOf h dealer wind)
-  settled-named x e = (subst (λ (y : Scored). Named h dealer wind y) (sym e) named, e)
+  pub none-tried : {x : Scored} → Named h dealer wind x → (x .refusal ≡ 0 → ⊥) → x .tried ≡ 0
+  none-tried (reported r a) e = absurd (e refl)
+  none-tried (six n) e = refl
+  none-tried (seven q i n) e = refl
+
+  -- what the code finds is what is named
+  pub settled-named : Paid h dealer → (x : Scored) → x ≡ settledOf h dealer wind → Named h dealer wind x × (x ≡ settledOf h dealer wind)
+  settled-named paid x e = (subst (λ (y : Scored). Named h dealer wind y) (sym e) (settled paid), e)

@@ -11,9 +11,8 @@ use lib.Seq.{getD-take, getD-append-add, length-take-le, take-at, ext-getD}
 use Rattle.tiles.specs.Below.{tabulate}
 use Rattle.tiles.specs.Kinds.{doraOf}
 use Rattle.tiles.specs.laws.Tabulate.{getD-tabulate}
-use Rattle.tiles.specs.laws.Tally.{length-tally}
 use Rattle.hand.specs.declared.Hand.{Hand}
-use Rattle.hand.specs.Hand.{isRon, inConcealed, concealedTally}
+use Rattle.hand.specs.Hand.{isRon, concealedTally}
 use Rattle.reading.specs.declared.Reading.{Reading}
 use Rattle.reading.specs.Reading.{Ascends, ofShape, IsReading, regular, pairs, orphans}
 use Rattle.reading.specs.search.Readings.{readings}
@@ -28,6 +27,7 @@ use Rattle.best.specs.declared.Best.{Best}
 use Rattle.best.specs.search.Setting.{joined, partsIn, worthIn}
 use Rattle.best.specs.search.Best.{noneOf, judgeOf, bestOf}
 use Rattle.best.specs.laws.First.{judged-same}
+use Rattle.score.specs.Readings.{all-kinds}
 use Rattle.score.specs.Named.{wonOf, seatsOf, groupsOf, waysOf, partsOf, worth, IsReadingOf}
 use Rattle.score.specs.search.Setting.{meldCodes, meldWays, settingOf}
 use Rattle.score.specs.search.Settled.{keptOf}
@@ -141,11 +141,6 @@ none-joined melds m e = rw e refl
 
 -- ---- of a hand
 
--- a tally has 34 kinds
-pub tally-long : (h : Hand) → length (concealedTally h) ≡ 34
-unfolding concealedTally
-tally-long h = length-tally (inConcealed h)
-
 module _ (h : Hand) (few : h .held .m ≤ 4) (four : length (h .held .melds) ≡ 4) where
   abbrev m : ℕ
   m = h .held .m
@@ -187,4 +182,4 @@ module _ (h : Hand) (few : h .held .m ≤ 4) (four : length (h .held .melds) ≡
     kept-in =
         rw (et, ec) at eb
         ∙ judged-same (worthIn (settingOf h dealer wind)) (worth h dealer wind) noneOf (readings (concealedTally h) m (h .fields .winning))
-        (λ q n. worth-in dealer wind q (readings-sound (concealedTally h) m (h .fields .winning) (tally-long h) q n))
+        (λ q n. worth-in dealer wind q (readings-sound (concealedTally h) m (h .fields .winning) (all-kinds h) q n))

@@ -10,7 +10,8 @@ use Rattle.score.specs.IsScore.{IsScore}
 use Rattle.score.specs.Score.{scoreOf, one-score}
 use Rattle.score.specs.search.Settled.{settledOf, foundOf}
 use Rattle.score.specs.laws.Found.{found-read, found-unread}
-use Rattle.score.specs.laws.Named.{named}
+use Rattle.score.specs.laws.Paid.{read-paid}
+use Rattle.score.specs.laws.Named.{settled}
 use Rattle.score.specs.laws.Exact.{found-score}
 
 module _ (s : List ℕ) (dealer wind : ℕ) where
@@ -29,4 +30,6 @@ module _ (s : List ℕ) (dealer wind : ℕ) where
     score-unread n e l = sym found-is-score ∙ found-unread s dealer wind d w n e l
 
     pub scored : IsSound s → Named (handOf (readOf s)) dealer wind (scoreOf s dealer wind)
-    scored i = subst (λ (x : Scored). Named (handOf (readOf s)) dealer wind x) (sym (score-read (sound s .0 i))) (named (handOf (readOf s)) dealer wind)
+    scored i =
+        let e = sound s .0 i in
+        subst (λ (x : Scored). Named (handOf (readOf s)) dealer wind x) (sym (score-read e)) (settled (handOf (readOf s)) dealer wind (read-paid s dealer d e))

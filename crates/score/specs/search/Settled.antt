@@ -16,9 +16,9 @@ use Rattle.score.specs.Named.{seatsOf, worth, refusedWith, acceptedAs}
 
 -- "6, no reading; 7, readings but none with a yaku"
 unfoldable pub settledBy : Best → Seats → Bool → Scored
-settledBy b s ron = cond (b .seen) (cond (b .valued) (acceptedAs (b .value) s ron) (refusedWith 7)) (refusedWith 6)
+settledBy b s ron = cond (ltb 0 (b .tried)) (cond (b .valued) (acceptedAs (b .value) s ron (b .tried)) (refusedWith 7)) (refusedWith 6)
 
--- the best of the readings of a hand
+-- the best of the readings of a hand, up to the first yakuman
 unfoldable pub keptOf : Hand → ℕ → ℕ → Best
 keptOf h dealer wind = bestOf (worth h dealer wind) (concealedTally h) (h .held .m) (h .fields .winning)
 

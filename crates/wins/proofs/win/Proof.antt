@@ -65,7 +65,7 @@ win-spec =
     (λ c κs.
     let b = bounds (c .before) in
     let f = opened (read (c .before) .before) .form in
-    (b .few, b .winner, f .dealer, f .wind))
+    (b .few, b .winner, f .dealer, f .wind, b .discarder, b .other))
     (λ c κs.
     let on = read (past c) .before in
     let z = start on .args in
