@@ -10,6 +10,7 @@ pub mod score;
 pub mod shape;
 pub mod sound;
 pub mod tiles;
+pub mod turn;
 pub mod win;
 pub mod yaku;
 pub mod yakuman;

@@ -4,5 +4,6 @@ pub mod Read
 pub mod Write
 pub mod Round
 pub mod Claims
+pub mod Sound
 pub mod Bounds
 pub mod Examples

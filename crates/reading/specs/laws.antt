@@ -3,6 +3,8 @@ pub mod Groups
 pub mod Splits
 pub mod Readings
 pub mod Only
+pub mod Order
+pub mod Suits
 pub mod Fold
 pub mod Few
 pub mod Counted

@@ -6,6 +6,7 @@ pub mod Named
 pub mod Items
 pub mod Exact
 pub mod Settled
+pub mod Written
 pub mod Tried
 pub mod Z
 pub mod Changes

@@ -1,3 +1,4 @@
 pub mod Below
 pub mod Tabulate
 pub mod Tally
+pub mod Sums

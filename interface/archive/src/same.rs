@@ -3,6 +3,7 @@
 use other_scorer::game::book;
 use other_scorer::log::{booking, letter, next, Next};
 use other_scorer::record::Meld;
+use other_scorer::turn::moved_changes;
 
 use crate as archive;
 
@@ -76,6 +77,19 @@ pub fn scored(scored: &other_scorer::Scored) -> archive::Scored {
         tried: scored.tried,
         changes: scored.changes,
     }
+}
+
+/// What Score should give once the table is turned by so many seats: the changes moved on, nothing else altered (02, S-12).
+pub fn turned(scored: &archive::Scored, by: u8) -> archive::Scored {
+    archive::Scored { changes: moved_changes(scored.changes, by), ..*scored }
+}
+
+/// What of a score stays when the suits of a hand with m melds are renamed: all of it, but that the reading's groups may stand
+/// in another order, so that their items are put in order here (02, S-12).
+pub fn kept(scored: &archive::Scored, m: u8) -> archive::Scored {
+    let mut kept = *scored;
+    kept.items.group[..4 - m as usize].sort();
+    kept
 }
 
 /// A game in the archive's form.

@@ -10,6 +10,7 @@ use other_scorer::rng::Rng;
 use other_scorer::score;
 
 use crate::report::Report;
+use crate::turns;
 
 /// The longest buffer lent to Write; a few bytes more are looked at behind it.
 const BUFFER: usize = 16;
@@ -118,6 +119,9 @@ fn compare(report: &mut Report, rng: &mut Rng, index: usize) {
     report.same("Score", got, wanted, input);
     let total = got.items.list().iter().map(|&item| item as u32).sum::<u32>();
     report.same("the sum of the items, and fu", total, got.fu as u32, input);
+    if let 0 | 6 | 7 = got.refusal {
+        turns::compare(report, &same::to_other(&read.hand), dealer, wind, &got);
+    }
 
     let hand = hand(rng, &record);
     compare_write(report, rng, &hand);

@@ -32,6 +32,11 @@ impl Answer {
     pub fn of(core: &mut Core, mut words: Words) -> Result<Answer, Bad> {
         let (dealer, wind) = input::table(&mut words)?;
         let record = input::record(core, &words)?;
+        Ok(Answer::to(core, record, dealer, wind))
+    }
+
+    /// The answer to a record, for a dealer and a wind.
+    pub fn to(core: &mut Core, record: Vec<u8>, dealer: u8, wind: u8) -> Answer {
         core.read(&record);
         let scored = core.score(&record, dealer, wind);
         let fields = unpack(&record).ok();
@@ -40,12 +45,17 @@ impl Answer {
             _ => Vec::new(),
         };
         let best = best(&readings);
-        Ok(Answer { record, dealer, wind, scored, fields, readings, best })
+        Answer { record, dealer, wind, scored, fields, readings, best }
     }
 
     /// The hand of a record that Read accepts.
     pub fn hand(&self) -> Option<&Hand> {
         self.fields.as_ref().map(|(hand, _)| hand)
+    }
+
+    /// The hand of a sound record, at a table with a dealer and a wind.
+    pub fn sound(&self) -> Option<&Hand> {
+        self.hand().filter(|_| matches!(self.scored.refusal, 0 | 6 | 7))
     }
 
     /// The reported reading and its value.
@@ -64,24 +74,32 @@ impl Answer {
         refusals::of_record(self.scored.refusal, &self.record, self.dealer, self.wind)
     }
 
-    /// What was asked, whether it was accepted, and how many readings were tried.
-    pub fn head(&self, page: &mut Page) {
+    /// What was asked, whether it was accepted, and how many readings were tried, each with its label.
+    pub fn rows(&self) -> Vec<(&'static str, String)> {
         let hand = self.hand().map(|hand| print(hand).unwrap_or_else(|| fields(hand)));
-        page.row("hand", hand.unwrap_or("none".into()));
         let winner = self.hand().filter(|_| self.dealer < 4).map(|hand| hand.winner);
         let own = winner.map(|winner| format!("; the winner is {}", seat_wind(winner, self.dealer)));
         let round = if self.wind < 2 { wind(self.wind) } else { self.wind.to_string() };
-        page.row("table", format!("dealer={} wind={round}{}", self.dealer, own.unwrap_or_default()));
-        page.row("record", format!("{}, {}", to_hex(&self.record), count(self.record.len(), "byte")));
-        page.row("answer", refusals::sentence(self.scored.refusal, &self.met()));
+        let mut rows = vec![
+            ("hand", hand.unwrap_or("none".into())),
+            ("table", format!("dealer={} wind={round}{}", self.dealer, own.unwrap_or_default())),
+            ("record", format!("{}, {}", to_hex(&self.record), count(self.record.len(), "byte"))),
+            ("answer", refusals::sentence(self.scored.refusal, &self.met())),
+        ];
         if self.scored.refusal == 0 {
             let end = match (self.scored.yaku.numbers().last(), self.scored.tried) {
                 (Some(&(FIRST_YAKUMAN..)), 1) => ", a yakuman",
                 (Some(&(FIRST_YAKUMAN..)), _) => ", the last a yakuman",
                 _ => "",
             };
-            page.row("tried", format!("{}{end}", count(self.scored.tried as usize, "reading")));
+            rows.push(("tried", format!("{}{end}", count(self.scored.tried as usize, "reading"))));
         }
+        rows
+    }
+
+    /// The same on a page.
+    pub fn head(&self, page: &mut Page) {
+        self.rows().iter().for_each(|(label, text)| page.row(label, text));
     }
 
     /// The same for scripts.

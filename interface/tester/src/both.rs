@@ -5,6 +5,8 @@ use other_scorer::log::tally_lines;
 use other_scorer::notation::hex::to_hex;
 use other_scorer::{score, Hand};
 
+use crate::answer::Answer;
+
 /// Asks both, answers with the core's, and keeps what differs.
 #[derive(Default)]
 pub struct Core {
@@ -36,6 +38,12 @@ impl Core {
         let input = || format!("{} dealer {dealer} wind {wind}", to_hex(record));
         self.differences.same("Score", answer, wanted, input);
         answer
+    }
+
+    /// Compares a score with what is promised of it by another one; whether they are equal (02, S-12).
+    pub fn promised(&mut self, what: &str, score: Scored, wanted: Scored, of: &Answer) -> bool {
+        let input = || format!("{} dealer {} wind {}", to_hex(&of.record), of.dealer, of.wind);
+        self.differences.same(what, score, wanted, input)
     }
 
     /// Next entry.

@@ -24,8 +24,7 @@ pub fn run(core: &mut Core, mut words: Words) -> Result<String, Bad> {
     let answer = Answer::of(core, words)?;
     let mut page = Page::default();
     if plain {
-        answer.plain_head(&mut page);
-        plain_score(&mut page, &answer);
+        self::plain(&mut page, &answer);
         page.plain("differences", [core.differences.count]);
         return Ok(page.finish());
     }
@@ -69,8 +68,9 @@ fn yaku_rows(page: &mut Page, answer: &Answer, hand: &Hand, value: &Value) {
     page.figure("h", "", answer.scored.h);
 }
 
-/// The figures for scripts.
-fn plain_score(page: &mut Page, answer: &Answer) {
+/// The answer for scripts.
+pub fn plain(page: &mut Page, answer: &Answer) {
+    answer.plain_head(page);
     let scored = &answer.scored;
     page.plain("h", [scored.h]);
     page.plain("fu", [scored.fu]);

@@ -6,6 +6,8 @@ tester COMMAND WORDS: asks the proved core, and compares every answer with the o
 
   hand       a hand in notation or hexadecimal: its record, refusal, h, fu, yaku, and who pays what
   readings   every reading of a hand in order, the reported one, and why the others lose
+  turn       a hand keyed from another side of the table: both scores side by side
+  rename     a hand with its suits renamed: both scores side by side
   log        a text of bookings to the bytes of a log, or back
   tally      a log's bookings one after the other, and the game after each
   damage     a record or a log damaged in every way: refusals counted, both scorers compared
@@ -44,6 +46,25 @@ completes: 0 the pair, then the groups from 1), yaku, h, fu and gain. > marks th
 or that it was not tried, as one before it is a yakuman.
 
 For scripts: the lines of `hand` up to why, tried, then reading N SHAPE PAIR GROUPS PLACE YAKU H FU GAIN reported|loses.
+";
+
+pub const TURN: &str = "\
+tester turn HAND [dealer=N] [wind=E|S] by=N [--plain]
+
+HAND as for `tester hand`. Winner, discarder and dealer are moved on by N seats (a tsumo has no discarder), as when the table is
+keyed from another side. The four changes move on by N, and nothing else is altered; if it were, the tool would say so loudly.
+
+For scripts: the lines of `hand` up to changes, turned N, those lines for the turned hand, differences.
+";
+
+pub const RENAME: &str = "\
+tester rename HAND [dealer=N] [wind=E|S] suits=XYZ [--plain]
+
+HAND as for `tester hand`. m becomes X, p becomes Y and s becomes Z, three letters m p s in any order: of every tile, the indicator
+too, concealed tiles put back in order. Refusal, h, fu, yaku and changes stay as they were, unless the hand is all green (yaku 34)
+before or after; if they did not, the tool would say so loudly.
+
+For scripts: the lines of `hand` up to changes, renamed XYZ, those lines for the renamed hand, differences.
 ";
 
 pub const LOG: &str = "\

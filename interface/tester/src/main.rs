@@ -1,4 +1,4 @@
-//! `tester COMMAND WORDS`: hands, readings, logs, games and damaged bytes, answered by the proved core and compared
+//! `tester COMMAND WORDS`: hands, readings, turned tables, logs, games and damaged bytes, answered by the proved core and compared
 //! with the other scorer. Exit status 0: answered, refusals too; 1: the two differ; 2: bad input, told in one line.
 
 mod answer;
@@ -15,8 +15,11 @@ mod page;
 mod payments;
 mod readings;
 mod refusals;
+mod rename;
+mod sides;
 mod tally;
 mod text;
+mod turn;
 mod walk;
 mod words;
 
@@ -30,9 +33,11 @@ use words::{Bad, Words};
 type Command = fn(&mut Core, Words) -> Result<String, Bad>;
 
 /// The commands by name, with their help.
-const COMMANDS: [(&str, Command, &str); 5] = [
+const COMMANDS: [(&str, Command, &str); 7] = [
     ("hand", hand::run, help::HAND),
     ("readings", readings::run, help::READINGS),
+    ("turn", turn::run, help::TURN),
+    ("rename", rename::run, help::RENAME),
     ("log", log::run, help::LOG),
     ("tally", tally::run, help::TALLY),
     ("damage", damage::run, help::DAMAGE),
@@ -44,14 +49,14 @@ fn run(core: &mut Core, mut words: Words) -> Result<String, Bad> {
     let Some(name) = words.take_first() else {
         return match wants_help {
             true => Ok(help::TOOL.into()),
-            false => Err(Bad::new("no command: hand, readings, log, tally or damage; --help says more")),
+            false => Err(Bad::new("no command: hand, readings, turn, rename, log, tally or damage; --help says more")),
         };
     };
     match COMMANDS.iter().find(|(command, ..)| *command == name) {
         Some((.., help)) if wants_help => Ok(help.to_string()),
         Some((_, command, _)) => command(core, words),
         None => {
-            let why = "no command; there are hand, readings, log, tally and damage";
+            let why = "no command; there are hand, readings, turn, rename, log, tally and damage";
             Err(Bad::new(format!("word 1, \"{name}\": {why}")))
         }
     }

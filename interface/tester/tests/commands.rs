@@ -168,6 +168,88 @@ fn readings_tried() {
     assert!(!answer(&format!("readings {refused}")).contains("\ntried "));
 }
 
+/// The lines of a hand in the plain output of `turn` or `rename`: before and after the line that begins with the key.
+fn two_sides(line: &str, key: &str) -> [Vec<String>; 2] {
+    let out = answer(&format!("{line} --plain"));
+    let lines: Vec<String> = out.lines().map(String::from).collect();
+    let at = lines.iter().position(|line| *line == key).unwrap_or_else(|| panic!("{key} in {out}"));
+    assert_eq!(lines.last().map(String::as_str), Some("differences 0"));
+    [lines[..at].to_vec(), lines[at + 1..lines.len() - 1].to_vec()]
+}
+
+#[test]
+fn a_table_turned() {
+    let (closed, open) = ("234567m345p67s22s+8s", "456p78s234s99p+9s chi=123m");
+    for (tiles, as_typed, by, turned, changes) in [
+        (closed, "seat=1 ron=3", 1, "seat=2 ron=0 dealer=1", "-2000 0 2000 0"),
+        (closed, "seat=1 ron=3", 6, "seat=3 ron=1 dealer=2", "0 -2000 0 2000"),
+        (closed, "seat=3 tsumo dealer=2 wind=S", 2, "seat=1 tsumo dealer=0 wind=S", "-1300 2700 -700 -700"),
+        (open, "seat=1 ron=3", 3, "seat=0 ron=2 dealer=3", "0 0 0 0"),
+    ] {
+        let (hand, second) = (format!("{tiles} {as_typed}"), format!("{tiles} {turned}"));
+        let [one, two] = two_sides(&format!("turn {hand} by={by}"), &format!("turned {by}"));
+        let alone = |words: &str| answer(&format!("hand {words} --plain")).replace("differences 0\n", "");
+        assert_eq!([one.join("\n"), two.join("\n")].map(|text| text + "\n"), [alone(&hand), alone(&second)]);
+        assert!(two.contains(&format!("changes {changes}")), "{two:?}");
+        let moved = |line: &&String| ["notation", "dealer", "record", "changes"].contains(&line.split(' ').next().unwrap_or(""));
+        let rest = |lines: &[String]| lines.iter().filter(|line| !moved(line)).cloned().collect::<Vec<_>>();
+        assert_eq!(rest(&one), rest(&two));
+    }
+    let out = answer("turn 46mPP+5m kan=9999s kan=2222p ankan=EEEE seat=1 tsumo dealer=2 by=3");
+    for row in [
+        "           as typed                                                          turned by 3\n",
+        "yaku        3 value triplet                                                   3 value triplet\n           19 three kans",
+        "fu         90 = 20 + 2 + 16 + 8 + 32 + 2 + 2 + 8                             90 = 20 + 2 + 16 + 8 + 32 + 2 + 2 + 8\n",
+        "seat 0     W   -3,000                                                        N  +12,000\n",
+        "\nthe changes are moved on by 3 seats, all else is as it was\nboth scorers agree\n",
+    ] {
+        assert!(out.contains(row), "{row} in\n{out}");
+    }
+}
+
+#[test]
+fn suits_renamed() {
+    let hand = "666m3334566p666s+6p seat=3 ron=1 riichi indicator=2p dealer=1 wind=S";
+    for (suits, notation) in [
+        ("mps", "666m3334566p666s+6p seat=3 ron=1 riichi indicator=2p"),
+        ("msp", "666m666p3334566s+6s seat=3 ron=1 riichi indicator=2s"),
+        ("pms", "3334566m666p666s+6m seat=3 ron=1 riichi indicator=2m"),
+        ("PSM", "666m666p3334566s+6s seat=3 ron=1 riichi indicator=2s"),
+        ("smp", "3334566m666p666s+6m seat=3 ron=1 riichi indicator=2m"),
+        ("spm", "666m3334566p666s+6p seat=3 ron=1 riichi indicator=2p"),
+    ] {
+        let [one, two] = two_sides(&format!("rename {hand} suits={suits}"), &format!("renamed {}", suits.to_lowercase()));
+        assert_eq!(two[0], format!("notation {notation}"));
+        let figures = |lines: &[String]| lines[4..].to_vec();
+        assert_eq!(figures(&one), figures(&two), "{suits}");
+    }
+    let out = answer(&format!("rename {hand} suits=pms"));
+    for row in ["renamed m to p, p to m\n", "\nrefusal, h, fu, yaku and changes are as they were\n"] {
+        assert!(out.contains(row), "{row} in\n{out}");
+    }
+    for (hand, suits, promise) in [
+        ("22334466688sFF+F seat=1 ron=3", "smp", "all green before: nothing is promised"),
+        ("22334466688mFF+F seat=1 ron=3", "spm", "all green after: nothing is promised"),
+        ("22334466688sFF+F seat=1 ron=3", "pms", "all green before and after: nothing is promised"),
+    ] {
+        let out = answer(&format!("rename {hand} suits={suits}"));
+        assert!(out.contains(&format!("\n{promise}\nboth scorers agree\n")) && out.contains("34 only sou"), "{out}");
+    }
+}
+
+#[test]
+fn a_hand_that_is_not_turned() {
+    let closed = "234567m345p67s22s+8s seat=1 tsumo";
+    for (hand, refusal) in [("b8", 1), (&format!("{closed} chankan"), 5), (&format!("{closed} dealer=4"), 8)] {
+        for (command, word) in [("turn", "by=1"), ("rename", "suits=psm")] {
+            let out = answer(&format!("{command} {hand} {word}"));
+            assert!(out.contains(&format!("\nanswer     refusal {refusal}, ")), "{out}");
+            assert!(out.contains("\na hand that is refused so is not "), "{out}");
+            assert_eq!(answer(&format!("{command} {hand} {word} --plain")), answer(&format!("hand {hand} --plain")));
+        }
+    }
+}
+
 #[test]
 fn the_worked_logs() {
     let lines = "1 R 0 30000 29000 30000 30000 1\n2 D 0 29000 32000 29000 29000 1\n";
@@ -242,7 +324,7 @@ fn damage_counts_refusals() {
 #[test]
 fn help_for_the_tool_and_each_command() {
     let tool = answer("--help");
-    for command in ["hand", "readings", "log", "tally", "damage"] {
+    for command in ["hand", "readings", "turn", "rename", "log", "tally", "damage"] {
         assert!(tool.contains(&format!("\n  {command} ")));
         let help = answer(&format!("{command} --help"));
         assert!(help.starts_with(&format!("tester {command} ")) && help.contains("--plain"));

@@ -12,8 +12,8 @@ fn fails(line: &str, input: &str, message: &str) {
 
 #[test]
 fn of_the_tool() {
-    fails("", "", "no command: hand, readings, log, tally or damage; --help says more");
-    fails("hands", "", "word 1, \"hands\": no command; there are hand, readings, log, tally and damage");
+    fails("", "", "no command: hand, readings, turn, rename, log, tally or damage; --help says more");
+    fails("hands", "", "word 1, \"hands\": no command; there are hand, readings, turn, rename, log, tally and damage");
 }
 
 #[test]
@@ -36,6 +36,22 @@ fn of_a_hand() {
         ] {
             fails(&format!("{command} {words}"), "", &message);
         }
+    }
+}
+
+#[test]
+fn of_a_turn_and_a_renaming() {
+    let hand = "234567m345p67s22s+8s seat=1 ron=3";
+    fails(&format!("turn {hand}"), "", "after word 4, \"ron=3\": the number of seats is missing, such as by=1");
+    fails(&format!("rename {hand}"), "", "after word 4, \"ron=3\": what the suits become is missing, such as suits=psm");
+    fails("turn by=1", "", "after word 2, \"by=1\": no hand, such as 234567m345p67s22s+8s seat=1 ron=3");
+    for by in ["", "x", "-1", "256"] {
+        let message = format!("word 5, \"by={by}\": a number of seats, such as 1, is needed");
+        fails(&format!("turn {hand} by={by}"), "", &message);
+    }
+    for suits in ["", "m", "mpp", "psmm", "mpz"] {
+        let message = format!("word 5, \"suits={suits}\": what m, p and s become is needed, such as psm");
+        fails(&format!("rename {hand} suits={suits}"), "", &message);
     }
 }
 

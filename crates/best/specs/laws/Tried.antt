@@ -17,6 +17,11 @@ use Rattle.best.specs.declared.Best.{Best}
 use Rattle.best.specs.Best.{withYaku, withYakuman, upTo}
 use Rattle.best.specs.search.Best.{beats, counted, noneOf, taking, passing, judgeBy, bestOf}
 
+pub upTo-cong : {A : Type 0} (p q : A → Bool) (l : List A) → ((x : A) → p x ≡ q x) → upTo p l ≡ upTo q l
+unfolding upTo
+upTo-cong p q [] h = refl
+upTo-cong p q (x ∷ l) h = rw (h x, upTo-cong p q l h)
+
 counts-one : (n : ℕ) → n < 4294967295 → counted n ≡ n + 1
 unfolding counted
 counts-one n l = rw (lt-ltb n 4294967295 l)

@@ -1,7 +1,7 @@
 -- Packing and unpacking undo each other.
 use Prim.Native.Nat.{ℕ, zero, suc, _+_, _*_, _/_, _%_, _^_, _-_, _<_, _≤_}
 use mathlib.Core.Path.{_≡_, refl, sym, ap, _∙_}
-use mathlib.Core.List.{List, [], _∷_, _++_, append-assoc, append-nil}
+use mathlib.Core.List.{List, [], _∷_, _++_, map, append-assoc, append-nil}
 use native.Mathlib.Nat.{mod-lt, mod-eq-of-lt, le-of-suc-le-suc, not-suc-le-zero, mod-one, mul-one, zero-mul, div-one, pow-succ', mul-assoc, add-mul, suc-ne-zero, suc-inj, add-zero, add-suc, suc-add, mul-zero, mul-suc, add-comm, zero-add, sub-zero, zero-sub, suc-sub-suc, one-mul, div-lt-iff-lt-mul}
 use native.Mathlib.Numerals.{add-one, one-add, sub-one}
 use native.Mathlib.Omega.{arith}
@@ -74,6 +74,11 @@ below-drop b n l h k = rw getD-drop (h (n + k))
 pub below-append : (b : ℕ) (l r : List ℕ) → Below b l → Below b r → Below b (l ++ r)
 below-append b [] r h g = g
 below-append b (x ∷ l) r h g = below-cons b x (l ++ r) (h 0) (below-append b l r (tail-below b x l h) g)
+
+pub below-map : (b : ℕ) (f : ℕ → ℕ) (l : List ℕ) → 0 < b → ((k : ℕ) → k < b → f k < b) → Below b l → Below b (map f l)
+below-map b f [] p h s k = p
+below-map b f (x ∷ l) p h s zero = h x (s 0)
+below-map b f (x ∷ l) p h s (suc k) = below-map b f l p h (λ j. s (suc j)) k
 
 pub below-digits : (w v : ℕ) → Below 2 (digits w v)
 below-digits zero v = λ k. omega arith

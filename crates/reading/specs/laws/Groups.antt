@@ -12,6 +12,7 @@ use lib.ListN.{length, getD, length-set, List·getD-eq-default}
 use lib.Seq.{getD-set-same, getD-set-other}
 use Rattle.tiles.specs.Groups.{isGroup, at, uses}
 use Rattle.tiles.specs.laws.Below.{every-at, every-of, and-true}
+use Rattle.tiles.specs.laws.Tabulate.{getD-any}
 use Rattle.reading.specs.Reading.{usedBy, Ascends, holds}
 use Rattle.reading.specs.search.Readings.{isEmpty, less, fits, without, passes}
 
@@ -195,11 +196,6 @@ run-has g k h = rw (lt-ltb g 34 h) (leb-any (eqb g k) (eqb (g + 1) k) (eqb (g + 
 pub triplet-has : (g k : ℕ) → 34 ≤ g → leb 1 (uses g k) ≡ eqb (g - 34) k
 unfolding uses at
 triplet-has g k h = rw (le-ltb g 34 h) (leb-three (eqb (g - 34) k))
-
-getD-any : (l : List ℕ) (i a b : ℕ) → i < length l → getD l i a ≡ getD l i b
-getD-any [] i a b h = absurd (not-suc-le-zero h)
-getD-any (x ∷ l) zero a b h = refl
-getD-any (x ∷ l) (suc i) a b h = getD-any l i a b (omega arith)
 
 -- place 0 is the pair's, a later place its group's
 pub holds-pair : (pair : ℕ) (gs : List ℕ) (place win : ℕ) → place ≡ 0 → eqb win pair ≡ holds pair gs place win

@@ -107,13 +107,13 @@ module _ (t : List ℕ) (m win : ℕ) (r : Reading) (l : length t ≡ 34) where
       (Memᴰ·append-right (when (isSevenPairs t) (λ _. ofShape 1 ∷ [])) (mem-when (isOrphans t) _ (s .kinds) (List·Memᴰ·head (s .reading))))
 
 -- ---- the list ascends
-lex-append : (x y u v : List ℕ) → Lex x y → Lex (x ++ u) (y ++ v)
+pub lex-append : (x y u v : List ℕ) → Lex x y → Lex (x ++ u) (y ++ v)
 lex-append [] y u v h = absurd h
 lex-append (a ∷ x) [] u v h = absurd h
 lex-append (a ∷ x) (b ∷ y) u v (inl h) = inl h
 lex-append (a ∷ x) (b ∷ y) u v (inr h) = inr (h .0, lex-append x y u v (h .1))
 
-lex-after : (g x y : List ℕ) → Lex x y → Lex (g ++ x) (g ++ y)
+pub lex-after : (g x y : List ℕ) → Lex x y → Lex (g ++ x) (g ++ y)
 lex-after [] x y h = h
 lex-after (a ∷ g) x y h = inr (refl, lex-after g x y h)
 

@@ -1,11 +1,13 @@
 -- What a loop over the numbers below n needs of a test or a sum: at the start, one more, stopped early, done.
 use mathlib.Core.Path.{_≡_, refl, sym}
-use mathlib.Core.Bool.{Bool, true, false, _&&_, _||_, and-false, cond}
+use mathlib.Core.Bool.{Bool, true, false, _&&_, _||_, and-false, cond, not}
 use mathlib.Core.Logic.{⊎-elim}
 use Prim.Native.Nat.{ℕ, zero, suc, _+_, _*_, _≤_, _<_}
 use native.Mathlib.Nat.{eq-or-lt-of-le, le-of-suc-le-suc, not-suc-le-zero, le-antisymm, mul-suc}
 use native.Mathlib.Numerals.{add-one}
 use native.Mathlib.Omega.{arith}
+use borrow.Author.Tests.{ltb-true, ltb-false, lt-ltb, le-ltb, eqb-true, eqb-false, eq-eqb, ne-eqb}
+use lib.Dec.{ltb, eqb}
 use Rattle.tiles.specs.Below.{all, any, count, every, some, number, total}
 
 pub or-both : (a b : Bool) → a || b ≡ false → (a ≡ false) × (b ≡ false)
@@ -15,6 +17,20 @@ or-both false b e = (refl, e)
 pub and-true : (a b : Bool) → a && b ≡ true → (a ≡ true) × (b ≡ true)
 and-true true b e = (refl, e)
 and-true false b e = absurd (mathlib.Core.Bool.false≢true e)
+
+-- two equations that follow from each other
+pub same-test : (a b c d : ℕ) → (a ≡ b → c ≡ d) → (c ≡ d → a ≡ b) → eqb a b ≡ eqb c d
+same-test a b c d to from = go (eqb c d) refl
+  where
+    go : (x : Bool) → eqb c d ≡ x → eqb a b ≡ x
+    go true e = eq-eqb a b (from (eqb-true c d e))
+    go false e = ne-eqb a b (λ q. eqb-false c d e (to q))
+
+-- two tests that follow from each other
+pub both-ways : (a b : Bool) → (a ≡ true → b ≡ true) → (b ≡ true → a ≡ true) → a ≡ b
+both-ways true b f g = sym (f refl)
+both-ways false true f g = g refl
+both-ways false false f g = refl
 
 module _ (p : ℕ → Bool) where
   pub every-none : every 0 p ≡ true
@@ -80,6 +96,19 @@ module _ (p : ℕ → Bool) where
   some-of zero h = refl
   some-of (suc n) h = rw (some-of n (λ i l. h i (omega arith)), h n (omega arith))
 
+pub any-at : (p : ℕ → Bool) (n : ℕ) → any n p ≡ true → (i : ℕ) × (i < n) × (p i ≡ true)
+any-at p zero e = absurd (mathlib.Core.Bool.false≢true e)
+any-at p (suc n) e = go (λ q. any-at p n q) (any n p) (p n) refl refl e
+  where
+    go : (any n p ≡ true → (i : ℕ) × (i < n) × (p i ≡ true)) → (a b : Bool) → any n p ≡ a → p n ≡ b → a || b ≡ true → (i : ℕ) × (i < suc n) × (p i ≡ true)
+    go h a true q r z = (n, omega arith, r)
+    go h true false q r z = let y = h q in (y .0, omega (arith, y .1), y .2)
+    go h false false q r z = absurd (mathlib.Core.Bool.false≢true z)
+
+pub any-of : (p : ℕ → Bool) (n i : ℕ) → i < n → p i ≡ true → any n p ≡ true
+unfolding some
+any-of p n i h e = some-stop p n i h e
+
 -- the same test at each number gives the same
 pub every-cong : (p q : ℕ → Bool) (n : ℕ) → ((i : ℕ) → i < n → p i ≡ q i) → every n p ≡ every n q
 unfolding every
@@ -131,6 +160,26 @@ module _ (p : ℕ → Bool) where
       go : count n p ≤ n → (b : Bool) → count n p + cond b 1 0 ≤ suc n
       go h true = omega arith
       go h false = omega arith
+
+-- at one of them, by how many there are
+pub any-counted : (p : ℕ → Bool) (n : ℕ) → any n p ≡ ltb 0 (count n p)
+any-counted p zero = refl
+any-counted p (suc n) = go (p n) (any n p) (any-counted p n)
+  where
+    go : (b c : Bool) → c ≡ ltb 0 (count n p) → c || b ≡ ltb 0 (count n p + cond b 1 0)
+    go true true h = sym (lt-ltb 0 (count n p + 1) (omega arith))
+    go true false h = sym (lt-ltb 0 (count n p + 1) (omega arith))
+    go false true h = sym (lt-ltb 0 (count n p + 0) (omega (arith, ltb-true 0 (count n p) (sym h))))
+    go false false h = sym (le-ltb 0 (count n p + 0) (omega (arith, ltb-false 0 (count n p) (sym h))))
+
+pub all-any : (p : ℕ → Bool) (n : ℕ) → all n p ≡ not (any n (λ i. not (p i)))
+all-any p zero = refl
+all-any p (suc n) = rw (all-any p n) (go (any n (λ i. not (p i))) (p n))
+  where
+    go : (b c : Bool) → not b && c ≡ not (b || not c)
+    go true c = refl
+    go false true = refl
+    go false false = refl
 
 -- both branches under a bound
 pub cond-le : (b : Bool) (x y n : ℕ) → x ≤ n → y ≤ n → cond b x y ≤ n

@@ -1,0 +1,17 @@
+pub mod Seats
+pub mod Turned
+pub mod Kinds
+pub mod Codes
+pub mod Sorted
+pub mod Groups
+pub mod Tallies
+pub mod Alike
+pub mod Worth
+pub mod Hands
+pub mod Readings
+pub mod Images
+pub mod Four
+pub mod Tried
+pub mod Reported
+pub mod Renamed
+pub mod Examples

@@ -1,0 +1,45 @@
+-- A hand of all green scores otherwise once its suits are renamed, computed.
+use mathlib.Core.List.{List}
+use mathlib.Core.Path.{_≡_, refl, sym, ap, _∙_}
+use Prim.Native.Nat.{ℕ}
+use native.Mathlib.Omega.{arith}
+use lib.IntN.{ℤ}
+use Rattle.tiles.specs.Below.{every, some, number, total}
+use Rattle.tiles.specs.Kinds.{doraOf}
+use Rattle.tiles.specs.Groups.{isGroup, at, uses}
+use Rattle.tiles.specs.Tally.{tallyOf}
+use Rattle.hand.specs.Held.{meldHolds, inMelds, inOthers, inHeld, tileOver33, wrongHeld, descends, overFour}
+use Rattle.hand.specs.Hand.{inConcealed, inHand, concealedTally, handTally}
+use Rattle.hand.specs.Refusals.{wrongFields, inRecord, wrongSituation, refusalOf}
+use Rattle.hand_record.specs.Record.{headOf, meldsOf, tilesOf, heldIn, paddingAfter, handIn, answerBy, judged as judgedHand, readOf, widths, valuesOf, recordOf}
+use Rattle.reading.specs.Reading.{holds, isSevenPairs, isOrphans}
+use Rattle.reading.specs.search.Readings.{concatMap, isEmpty, less, fits, without, passes, step, splits, placedAt, placed, paired, shaped, readings}
+use Rattle.reading.specs.search.Judged.{judged}
+use Rattle.groups.specs.Tests.{littleDragons, valueHan, earnsWait, pinfu, twins, inThreeAt, inThreeSuits, straight, touches, outside, concealed, kans, fourWinds}
+use Rattle.yaku.specs.OfTiles.{only, halfFlush, flush, gates}
+use Rattle.yaku.specs.Yaku.{testsOf, isYakuman, listed, yakuOf, hasYaku}
+use Rattle.points.specs.Points.{plain, limit, ordinary, basic, hundreds, share, pays, gain, change, changes}
+use Rattle.value.specs.Han.{hanBy, yakuHan, hanOf}
+use Rattle.value.specs.Fu.{tripletFu, groupFu, groupItems, earned, added, rounded, itemsOf, fuOf}
+use Rattle.value.specs.Value.{valueOf}
+use Rattle.best.specs.search.Best.{beats, counted, noneOf, judgeBy, bestOf}
+use Rattle.score.specs.Named.{wonOf, groupsOf, waysOf, partsOf, worth}
+use Rattle.score.specs.search.Settled.{settledBy, keptOf, settledOf, foundBy, foundOf}
+use Rattle.score.specs.laws.Settled.{found-is-score}
+use Rattle.score.specs.declared.Scored.{Scored}
+use Rattle.score.specs.Score.{scoreOf}
+use Rattle.symmetry.specs.laws.Kinds.{renaming-of}
+use Rattle.symmetry.specs.Renamed.{renamed, renamedMeld, put, inOrder, renamedHeld, renamedRecord, greenHand, manForSou, GreenDiffers}
+
+-- the changes hold of the score where they hold of what the search finds
+told : (s : List ℕ) (changes : List ℤ) → foundOf s 0 0 .changes ≡ changes → scoreOf s 0 0 .changes ≡ changes
+told s changes e = ap (λ (x : Scored). x .changes) (sym (found-is-score s 0 0)) ∙ e
+
+pub green-differs : GreenDiffers
+unfolding renamed renamedMeld put inOrder renamedHeld renamedRecord widths valuesOf recordOf every some number total doraOf isGroup at uses tallyOf meldHolds inMelds inOthers inHeld inConcealed inHand concealedTally handTally tileOver33 wrongHeld wrongFields descends inRecord overFour wrongSituation refusalOf headOf meldsOf tilesOf heldIn paddingAfter handIn answerBy judgedHand readOf holds isSevenPairs isOrphans concatMap isEmpty less fits without passes step splits placedAt placed paired shaped readings judged littleDragons valueHan earnsWait pinfu twins inThreeAt inThreeSuits straight touches outside concealed kans fourWinds only halfFlush flush gates testsOf isYakuman listed yakuOf hasYaku plain limit ordinary basic hundreds share pays gain change changes hanBy yakuHan hanOf tripletFu groupFu groupItems earned added rounded itemsOf fuOf valueOf beats counted noneOf judgeBy bestOf wonOf groupsOf waysOf partsOf worth settledBy keptOf settledOf foundBy foundOf
+green-differs = record {
+  renaming = renaming-of 2 1 0 (omega arith) (omega arith) (omega arith) (λ e. omega arith) (λ e. omega arith) (λ e. omega arith);
+  green = refl;
+  before = told (recordOf greenHand) _ refl;
+  after = told (renamedRecord manForSou (recordOf greenHand)) _ refl;
+}

@@ -1,0 +1,290 @@
+-- A sound record with its suits renamed is sound, and it scores the same.
+use Prim.Native.Nat.{ℕ, zero, suc, _+_, _-_, _*_, _≤_, _<_}
+use mathlib.Core.Path.{_≡_, refl, sym, ap, _∙_, subst}
+use mathlib.Core.Bool.{Bool, true, false, _&&_, _||_, not}
+use mathlib.Core.List.{List, [], _∷_, map}
+use mathlib.Core.Logic.{_⊎_, inl, inr}
+use native.Mathlib.Omega.{arith}
+use native.Mathlib.Numerals.{add-one}
+use borrow.Author.Tests.{ltb-true, ltb-false, lt-ltb, le-ltb, eq-eqb, eqb-true, not-false}
+use lib.Dec.{ltb, eqb}
+use lib.ListN.{length, getD, take, replicate, length-map, List·getD-append}
+use lib.Seq.{length-take-le, getD-take}
+use Rattle.tiles.specs.Below.{sum, some, number, total}
+use Rattle.tiles.specs.Kinds.{isRunStart}
+use Rattle.tiles.specs.Groups.{at}
+use Rattle.tiles.specs.laws.Below.{or-both, some-at, some-of, number-total}
+use Rattle.bits.specs.Bits.{fill}
+use Rattle.bits.specs.laws.Pack.{length-fill, below-fill, below-take, below-map}
+use Rattle.hand.specs.declared.Held.{Held}
+use Rattle.hand.specs.declared.Hand.{Hand}
+use Rattle.hand.specs.Held.{meldKind, meldTile, someMeld, inOthers, tileOver33, chiWithoutRun, wrongHeld, descends, overFour}
+use Rattle.hand.specs.Refusals.{fieldOver33, fieldOver, wrongDiscarder, wrongFields, inRecord, wrongSituation, unwritable}
+use Rattle.hand_record.specs.Record.{handOf, readOf, IsSound, IsHand}
+use Rattle.hand_record.specs.laws.Clean.{kinds-of, Accepted, of-clean}
+use Rattle.hand_record.specs.laws.Fill.{take-fill, fill-past, unused-of}
+use Rattle.hand_record.specs.laws.Bounds.{bounds-of}
+use Rattle.score.specs.declared.Scored.{Scored}
+use Rattle.score.specs.Score.{scoreOf}
+use Rattle.score.specs.Claims.{scored}
+use Rattle.symmetry.specs.Renamed.{IsRenaming, renamed, renamedMeld, renamedFields, renamedHeld, renamedHand, renamedRecord, inOrder, isAllGreen, SameScore}
+use Rattle.symmetry.specs.laws.Kinds.{Renaming, back, renaming, there-back, lt-stays}
+use Rattle.symmetry.specs.laws.Codes.{at-kind}
+use Rattle.tiles.specs.laws.Sums.{sumOver, sum-cong, over-places, over-map, over-cong, over-length}
+use Rattle.symmetry.specs.laws.Sorted.{All, Ordered, over-inOrder, ordered, ordered-at, ordered-next}
+use Rattle.symmetry.specs.laws.Hands.{IsMeld, byte-stays, meld-stays, Renames, hand-holds, closed-stays, kan-stays}
+use Rattle.symmetry.specs.laws.Reported.{same-refused, renamed-named}
+use Rattle.hand_record.specs.laws.Sound.{read-accepted, read-is-hand, written-back, written-sound}
+use Rattle.score.specs.laws.Written.{score-of, score-eight}
+use Rattle.tiles.specs.laws.Tabulate.{getD-mapped}
+
+-- ---- lists
+
+all-map : (P : ℕ → Type 0) (f : ℕ → ℕ) (n : ℕ) (l : List ℕ) → ((i : ℕ) → i < n → P (f (getD l i 0))) → All P (map f (take n l))
+all-map P f zero l h = tt
+all-map P f (suc n) [] h = tt
+all-map P f (suc n) (x ∷ l) h = (h 0 (omega arith), all-map P f n l (λ i g. h (suc i) (omega arith)))
+
+-- how many of the first n of a list are of a kind
+first-kinds : (l : List ℕ) (k n : ℕ) → n ≤ length l → number n (λ i. eqb (getD l i 0) k) ≡ sumOver (λ x. at x 1 k) (take n l)
+unfolding total at
+first-kinds l k n h =
+    number-total (λ i. eqb (getD l i 0) k) n
+    ∙ sum-cong (λ i. at (getD l i 0) 1 k) (λ i. at (getD (take n l) i 0) 1 k) n (λ i g. ap (λ (x : ℕ). at x 1 k) (sym (getD-take n l i 0 g)))
+    ∙ ap (λ (z : ℕ). sum z (λ i. at (getD (take n l) i 0) 1 k)) (sym (length-take-le n l h))
+    ∙ over-places (λ x. at x 1 k) (take n l)
+
+-- ---- melds of a hand that is accepted
+
+module _ (x : Held) (p : ℕ → Bool) where
+  no-meld : x .m ≤ 4 → someMeld x p ≡ false → (i : ℕ) → i < x .m → p (getD (x .melds) i 0) ≡ false
+  unfolding some
+  no-meld f e i h = rw (lt-ltb i (x .m) h) at (some-at (λ i. ltb i (x .m) && p (getD (x .melds) i 0)) 4 i e (omega arith))
+
+  meld-none : ((i : ℕ) → i < x .m → p (getD (x .melds) i 0) ≡ false) → someMeld x p ≡ false
+  unfolding some
+  meld-none h = some-of (λ i. ltb i (x .m) && p (getD (x .melds) i 0)) 4 (λ i l. go i (ltb i (x .m)) refl)
+    where
+      go : (i : ℕ) (b : Bool) → ltb i (x .m) ≡ b → b && p (getD (x .melds) i 0) ≡ false
+      go i true e = h i (ltb-true i (x .m) e)
+      go i false e = refl
+
+no-chi : (b : ℕ) → (eqb (meldKind b) 0 && not (isRunStart (meldTile b))) ≡ false → meldKind b ≡ 0 → isRunStart (meldTile b) ≡ true
+no-chi b e z = not-false (isRunStart (meldTile b)) (rw (eq-eqb (meldKind b) 0 z) at e)
+
+chi-run : (b : ℕ) → IsMeld b → (eqb (meldKind b) 0 && not (isRunStart (meldTile b))) ≡ false
+chi-run b v = go (eqb (meldKind b) 0) refl
+  where
+    go : (x : Bool) → eqb (meldKind b) 0 ≡ x → x && not (isRunStart (meldTile b)) ≡ false
+    go true e = rw (v .1 (eqb-true (meldKind b) 0 e))
+    go false e = refl
+
+-- ---- the renamed hand
+
+module _ (u : Renaming) (h : Hand) (y : Accepted h) (i : IsHand h) where
+  abbrev f : ℕ → ℕ
+  f = renamed (u .to)
+
+  abbrev x₀ : Held
+  x₀ = h .held
+
+  abbrev n : ℕ
+  n = 13 - 3 * x₀ .m
+
+  abbrev melds : List ℕ
+  melds = map (renamedMeld (u .to)) (take (h .held .m) (h .held .melds))
+
+  abbrev tiles : List ℕ
+  tiles = inOrder (map f (take n (x₀ .concealed)))
+
+  abbrev k : Hand
+  k = record { fields = renamedFields (u .to) (h .fields); held = record { m = x₀ .m; melds = fill 4 melds; concealed = fill 13 tiles } }
+
+  few : x₀ .m ≤ 4
+  few = bounds-of h y .few
+
+  -- what 2 says of its parts
+  parts : (tileOver33 x₀ ≡ false) × (chiWithoutRun x₀ ≡ false) × (fieldOver (h .fields) ≡ false) × (wrongDiscarder (h .fields) ≡ false)
+  unfolding wrongFields wrongHeld
+  parts = six (tileOver33 x₀) (chiWithoutRun x₀) (ltb 0 0) (fieldOver33 (h .fields)) (fieldOver (h .fields)) (wrongDiscarder (h .fields)) (y .clean .fields)
+    where
+      six : (a b c d e f : Bool) → a || b || c || d || e || f ≡ false → (a ≡ false) × (b ≡ false) × (e ≡ false) × (f ≡ false)
+      six a b c d e f q =
+          let q4 = or-both (a || b || c || d || e) f q in
+          let q3 = or-both (a || b || c || d) e (q4 .0) in
+          let q0 = or-both a b (or-both (a || b) c (or-both (a || b || c) d (q3 .0) .0) .0) in
+          (q0 .0, q0 .1, q3 .1, q4 .1)
+
+  melds-low : someMeld x₀ (λ b. ltb 33 (meldTile b)) ≡ false
+  unfolding tileOver33
+  melds-low = or-both (someMeld x₀ (λ b. ltb 33 (meldTile b))) (some n (λ i. ltb 33 (getD (x₀ .concealed) i 0))) (parts .0) .0
+
+  good : (j : ℕ) → j < x₀ .m → IsMeld (getD (x₀ .melds) j 0)
+  good j l = (
+    omega (arith, ltb-false 33 (meldTile (getD (x₀ .melds) j 0)) (no-meld x₀ (λ b. ltb 33 (meldTile b)) few melds-low j l)),
+    no-chi (getD (x₀ .melds) j 0) (no-meld x₀ (λ b. eqb (meldKind b) 0 && not (isRunStart (meldTile b))) few (parts .1) j l),
+  )
+
+  taken : length (take (x₀ .m) (x₀ .melds)) ≡ x₀ .m
+  taken = length-take-le (x₀ .m) (x₀ .melds) (omega (arith, few, i .melds))
+
+  melds-long : length melds ≡ x₀ .m
+  melds-long = length-map (take (x₀ .m) (x₀ .melds)) (renamedMeld (u .to)) ∙ taken
+
+  tiles-long : length tiles ≡ n
+  tiles-long =
+      sym (over-length tiles)
+      ∙ over-inOrder (λ z. 1) (map f (take n (x₀ .concealed)))
+      ∙ over-length (map f (take n (x₀ .concealed)))
+      ∙ length-map (take n (x₀ .concealed)) f
+      ∙ length-take-le n (x₀ .concealed) (omega (arith, i .concealed))
+
+  meld-at : (j : ℕ) → j < x₀ .m → getD (fill 4 melds) j 0 ≡ renamedMeld (u .to) (getD (x₀ .melds) j 0)
+  meld-at j l =
+      List·getD-append melds (replicate (4 - length melds) 0) 0 j (omega (arith, melds-long))
+      ∙ getD-mapped (renamedMeld (u .to)) (take (x₀ .m) (x₀ .melds)) j (omega (arith, taken))
+      ∙ ap (renamedMeld (u .to)) (getD-take (x₀ .m) (x₀ .melds) j 0 l)
+
+  tile-at : (j : ℕ) → j < n → getD (fill 13 tiles) j 0 ≡ getD tiles j 0
+  tile-at j l = List·getD-append tiles (replicate (13 - length tiles) 0) 0 j (omega (arith, tiles-long))
+
+  counted : (j : ℕ) → inOthers (k .held) (f j) ≡ inOthers x₀ j
+  unfolding inOthers
+  counted j =
+      first-kinds (fill 13 tiles) (f j) n (omega (arith, length-fill 13 tiles (omega (arith, tiles-long))))
+      ∙ ap (sumOver (λ z. at z 1 (f j))) (take-fill 13 n tiles tiles-long)
+      ∙ over-inOrder (λ z. at z 1 (f j)) (map f (take n (x₀ .concealed)))
+      ∙ over-map (λ z. at z 1 (f j)) f (take n (x₀ .concealed))
+      ∙ over-cong (λ z. at (f z) 1 (f j)) (λ z. at z 1 j) (take n (x₀ .concealed)) (λ z. at-kind u z 1 j)
+      ∙ sym (first-kinds (x₀ .concealed) j n (omega (arith, i .concealed)))
+
+  pub renames : Renames u h k
+  renames = record {
+    fields = refl;
+    m = refl;
+    melds = meld-at;
+    tiles = counted;
+    few = few;
+    long = i .melds;
+    long′ = length-fill 4 melds (omega (arith, melds-long, few));
+    winning = omega (arith, bounds-of h y .winning);
+    indicator = omega (arith, bounds-of h y .indicator);
+    good = good;
+  }
+
+  pub renamed-is-hand : IsHand k
+  renamed-is-hand = record {
+    melds = renames .long′;
+    concealed = length-fill 13 tiles (omega (arith, tiles-long));
+    bytes =
+        below-fill 256 4 melds
+        (below-map 256 (renamedMeld (u .to)) (take (x₀ .m) (x₀ .melds)) (omega arith) (λ b l. byte-stays u b l) (below-take 256 (x₀ .m) (x₀ .melds) (i .bytes)));
+  }
+
+  -- ---- it is accepted as it was
+
+  low : (j : ℕ) → j ≤ 33 → f j ≤ 33
+  low j l = omega (arith, lt-stays u 34 j (omega arith) (omega arith))
+
+  in-order : Ordered (λ z. z ≤ 33) 0 tiles
+  in-order =
+      ordered (λ z. z ≤ 33) (map f (take n (x₀ .concealed)))
+      (all-map (λ z. z ≤ 33) f n (x₀ .concealed) (λ j l. low (getD (x₀ .concealed) j 0) (kinds-of h 0 (y .clean .fields) .tiles j l)))
+
+  record-holds : (j : ℕ) → inRecord k (f j) ≡ inRecord h j
+  unfolding inRecord
+  record-holds j = rw (hand-holds u h k renames j, at-kind u (h .fields .indicator) 1 j)
+
+  four-stays : overFour (inRecord k) ≡ false
+  unfolding overFour
+  four-stays =
+      some-of (λ j. ltb 4 (inRecord k j)) 34 (λ j l.
+      ap (λ (z : ℕ). ltb 4 (inRecord k z)) (sym (there-back (back u) j))
+      ∙ ap (ltb 4) (record-holds (renamed (u .from) j))
+      ∙ some-at (λ j. ltb 4 (inRecord h j)) 34 (renamed (u .from) j) (y .clean .four) (lt-stays (back u) 34 j (omega arith) l))
+
+  situation-stays : wrongSituation k ≡ false
+  unfolding wrongSituation
+  situation-stays = rw (closed-stays u h k renames, kan-stays u h k renames, record-holds (h .fields .winning)) (y .clean .situation)
+
+  order-stays : descends (k .held) ≡ false
+  unfolding descends
+  order-stays =
+      some-of (λ j. ltb (getD (fill 13 tiles) (j + 1) 0) (getD (fill 13 tiles) j 0)) (n - 1) (λ j l.
+      let a = ordered-next (λ z. z ≤ 33) 0 tiles j in-order (omega (arith, tiles-long)) in
+      let b : getD tiles j 0 ≤ getD tiles (j + 1) 0 = rw add-one a in
+      le-ltb (getD (fill 13 tiles) (j + 1) 0) (getD (fill 13 tiles) j 0) (omega (arith, tile-at j (omega arith), tile-at (j + 1) (omega arith))))
+
+  is-meld : (j : ℕ) → j < x₀ .m → IsMeld (getD (fill 4 melds) j 0)
+  is-meld j l = rw (meld-at j l) (meld-stays u (getD (x₀ .melds) j 0) (good j l))
+
+  low-stays : tileOver33 (k .held) ≡ false
+  unfolding tileOver33
+  low-stays =
+      rw (
+        meld-none (k .held) (λ b. ltb 33 (meldTile b)) (λ j l. le-ltb 33 (meldTile (getD (fill 4 melds) j 0)) (omega (arith, is-meld j l .0))),
+        some-of (λ j. ltb 33 (getD (fill 13 tiles) j 0)) n (λ j l. ap (ltb 33) (tile-at j l) ∙ le-ltb 33 (getD tiles j 0) (tile-low j l)),
+      )
+    where
+      tile-low : (j : ℕ) → j < n → getD tiles j 0 ≤ 33
+      tile-low j l = ordered-at (λ z. z ≤ 33) 0 tiles j in-order (omega (arith, tiles-long))
+
+  chi-stays : chiWithoutRun (k .held) ≡ false
+  chi-stays = meld-none (k .held) (λ b. eqb (meldKind b) 0 && not (isRunStart (meldTile b))) (λ j l. chi-run (getD (fill 4 melds) j 0) (is-meld j l))
+
+  fields-stay : wrongFields k 0 ≡ false
+  unfolding wrongFields wrongHeld
+  fields-stay =
+      let b = bounds-of h y in
+      let li = le-ltb 33 (f (h .fields .indicator)) (low (h .fields .indicator) (b .indicator)) in
+      let lw = le-ltb 33 (f (h .fields .winning)) (low (h .fields .winning) (b .winning)) in
+      rw (low-stays, chi-stays, li, lw, parts .2, parts .3)
+
+  pub renamed-accepted : unwritable k ≡ 0
+  unfolding unwritable
+  renamed-accepted =
+      rw (y .large, unused-of (k .held) (λ j l. fill-past 4 melds j (omega (arith, melds-long))) (λ j l. fill-past 13 tiles j (omega (arith, tiles-long))))
+      (of-clean k 0 (record { fields = fields-stay; order = order-stays; four = four-stays; situation = situation-stays }))
+
+-- ---- of a record
+
+module _ (σ : ℕ → ℕ) (r : IsRenaming σ) (s : List ℕ) (i : IsSound s) where
+  abbrev h₀ : Hand
+  h₀ = handOf (readOf s)
+
+  accepted : unwritable (renamedHand σ h₀) ≡ 0
+  unfolding renamedHeld
+  accepted = renamed-accepted (renaming σ r) h₀ (read-accepted s i) (read-is-hand s i)
+
+  is-hand : IsHand (renamedHand σ h₀)
+  unfolding renamedHeld
+  is-hand = renamed-is-hand (renaming σ r) h₀ (read-accepted s i) (read-is-hand s i)
+
+  is-renamed : Renames (renaming σ r) h₀ (renamedHand σ h₀)
+  unfolding renamedHeld
+  is-renamed = renames (renaming σ r) h₀ (read-accepted s i) (read-is-hand s i)
+
+  pub renamed-sound : IsSound (renamedRecord σ s)
+  unfolding renamedRecord
+  renamed-sound = written-sound (renamedHand σ h₀) accepted is-hand
+
+  pub renamed-hand : handOf (readOf (renamedRecord σ s)) ≡ renamedHand σ h₀
+  unfolding renamedRecord
+  renamed-hand = written-back (renamedHand σ h₀) accepted is-hand
+
+  pub renamed-score : (dealer wind : ℕ) → isAllGreen h₀ ≡ false → isAllGreen (renamedHand σ h₀) ≡ false
+      → SameScore (scoreOf s dealer wind) (scoreOf (renamedRecord σ s) dealer wind)
+  unfolding renamedRecord
+  renamed-score dealer wind e f = go (ltb 3 dealer) (ltb 1 wind) refl refl
+    where
+      eight : (3 < dealer) ⊎ (1 < wind) → SameScore (scoreOf s dealer wind) (scoreOf (renamedRecord σ s) dealer wind)
+      eight o = rw (score-eight s dealer wind o, score-eight (renamedRecord σ s) dealer wind o) (same-refused 8)
+
+      go : (a b : Bool) → ltb 3 dealer ≡ a → ltb 1 wind ≡ b → SameScore (scoreOf s dealer wind) (scoreOf (renamedRecord σ s) dealer wind)
+      go true b p q = eight (inl (ltb-true 3 dealer p))
+      go false true p q = eight (inr (ltb-true 1 wind q))
+      go false false p q =
+          let d = ltb-false 3 dealer p in
+          let w = ltb-false 1 wind q in
+          let (y, n, same) = renamed-named (renaming σ r) h₀ (renamedHand σ h₀) is-renamed (f ∙ sym e) dealer wind (scored s dealer wind d w i) in
+          subst (λ (z : Scored). SameScore (scoreOf s dealer wind) z) (sym (score-of (renamedHand σ h₀) accepted is-hand dealer wind d w n)) same
