@@ -6,7 +6,7 @@
  * The caller owes every call:
  * - a pointer with a length is valid for that length and not null, also where the length is 0;
  * - a pointer to a game is valid and not null;
- * - a game and the bytes lent with it do not overlap;
+ * - a game, and bytes that a call writes, overlap nothing else that is lent with them;
  * - one thread at a time for each game and each buffer.
  */
 #ifndef HERBASSOLH_H
@@ -42,7 +42,8 @@ enum {
     HB_REFUSAL_RIICHI = 11,     /* "riichi field non-zero and winner not declared, or the reverse" */
     HB_REFUSAL_NOT_READY = 12,  /* "a declared seat not ready" */
     HB_REFUSAL_BUFFER = 13,     /* "buffer shorter than the record" */
-    HB_REFUSAL_ENTRY = 14       /* "kind over 3, win argument not 0, m over 4, or bytes missing" */
+    HB_REFUSAL_ENTRY = 14,      /* "kind over 3, win argument not 0, m over 4, or bytes missing" */
+    HB_REFUSAL_PAGE = 16        /* "a page buffer under 150 bytes" */
 };
 
 /* Yaku by number; 26 to 36 are yakuman. */
@@ -121,6 +122,7 @@ enum { HB_LETTER_RIICHI = 'R', HB_LETTER_WIN = 'W', HB_LETTER_DRAW = 'D', HB_LET
 
 enum {
     HB_RECORD_MAX = 13,    /* a buffer of so many bytes holds every record */
+    HB_SLIP_LENGTH = 150,  /* a slip has so many bytes */
     HB_LINE_MAX = 83,      /* a buffer of so many bytes holds every line of tally */
     HB_LOG_MAX = 65536     /* tally reads so many bytes of a log */
 };
@@ -213,6 +215,12 @@ HbWritten hb_write(HbHand hand, uint8_t *buf, size_t buf_len);
 
 /* Score. The reported reading of a record, for a dealer and round wind; refusals 8, 1 to 7 in order. */
 HbScored hb_score(const uint8_t *record, size_t record_len, uint8_t dealer, uint8_t wind);
+
+/* A slip "to paste in the club book": what Score gives, six lines of 24 characters and a line feed at the start of page, no zero byte
+ * after them. "Each line has a label, left in 10 columns, and a value, right in 14. Labels are HAN, FU, SEAT 0, SEAT 1, SEAT 2, SEAT 3";
+ * "A yakuman has the value YAKUMAN on the first line and 0 on the second." Gives 0, or its refusal with page unchanged;
+ * refusals 8, 1 to 7, 16 in order. */
+uint8_t hb_slip(uint8_t *page, size_t page_len, const uint8_t *record, size_t record_len, uint8_t dealer, uint8_t wind);
 
 /* A game at its start: 30,000 each, all else 0. */
 HbGame hb_fresh(void);

@@ -6,6 +6,7 @@ It runs the program `vectors` (made by `rt check vectors floor`) on hands of cra
 three costliest blocks one by one, so a costly hand among cheap ones can be missed.
 Stack: Score's own frame is inlined into its caller. The program `floor` has it, with Win, in the frame of its main, so that frame stands
 in for it; under it five frames of the search, the judge, and the largest other frame of the scorer, called there or not.
+Slip: what hb_slip takes beyond hb_score, by a C program over the archive (`rt staticlib handset`).
 """
 import os, re, subprocess, sys, tempfile
 here = os.path.join(os.path.dirname(os.path.abspath(__file__)), "..")
@@ -20,6 +21,34 @@ def instructions(hands):
         r = subprocess.run(["valgrind", "--tool=callgrind", f"--callgrind-out-file={d}/out", program],
                            input=b"".join(hands), capture_output=True)
         return int(re.search(rb"Collected : (\d+)", r.stderr).group(1))
+
+
+SLIPS = """#include <stdlib.h>
+#include "herbassolh.h"
+int main(int argc, char **argv) {
+    uint8_t page[HB_SLIP_LENGTH], record[13];
+    for (int i = 0; i < 13; i++) { char two[3] = {argv[3][2 * i], argv[3][2 * i + 1]}; record[i] = strtol(two, 0, 16); }
+    for (int n = atoi(argv[1]); n > 0; n--)
+        if (atoi(argv[2]) ? hb_slip(page, sizeof page, record, 13, 0, 0) : hb_score(record, 13, 0, 0).refusal) return argc;
+    return 0;
+}
+"""
+
+
+def slips():
+    """What a slip takes beyond its Score, for lines 1 and 9 of the table of hands."""
+    with tempfile.TemporaryDirectory() as d:
+        archive = os.path.join(here, "target/staticlib/libhandset.a")
+        subprocess.run(["gcc", "-O2", "-x", "c", "-", "-x", "none", archive, "-I", os.path.join(here, "include"), "-o", f"{d}/slips"],
+                       input=SLIPS.encode(), check=True)
+
+        def run(times, slip, record):
+            r = subprocess.run(["valgrind", "--tool=callgrind", f"--callgrind-out-file={d}/out", f"{d}/slips", str(times), slip, record],
+                               capture_output=True, check=True)
+            return int(re.search(rb"Collected : (\d+)", r.stderr).group(1))
+        for line, record in ((1, "b81e640210620a31661a9a6bb0"), (9, "201e60000005965acb2cc30d34")):
+            each = {s: (run(1001, s, record) - run(1, s, record)) // 1000 for s in "01"}
+            print(f"slip of line {line}: {each['1'] - each['0']} instructions beyond its Score, {each['0']}")
 
 
 def one_suit(e):
@@ -74,3 +103,4 @@ if "--stack" not in sys.argv:
     print(f"costliest found of them: {worst(first, base, 50):.0f} instructions")
     suit = [e for e in entries if one_suit(e)]
     print(f"costliest found of {len(suit)} one-suit hands: {worst(suit, base, 20):.0f} instructions")
+    slips()

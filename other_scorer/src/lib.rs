@@ -8,6 +8,7 @@ pub mod reading;
 pub mod record;
 pub mod score;
 pub mod shape;
+pub mod slip;
 pub mod sound;
 pub mod tiles;
 pub mod turn;

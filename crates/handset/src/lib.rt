@@ -7,6 +7,7 @@ ghost use lib.ListN.{length, take, drop};
 ghost use Rattle.hand_record.specs.Record.{readHandOf, writtenOf, bufferOf};
 ghost use Rattle.score.specs.IsScore.{IsScore};
 ghost use Rattle.score.specs.Score.{scoreOf};
+ghost use Rattle.slip.specs.Slip.{slipRefusal, slipPage};
 ghost use Rattle.ledger.specs.Booking as Booking;
 ghost use Rattle.ledger.specs.Ledger.{fresh};
 ghost use Rattle.ledger.specs.Runs.{Booked};
@@ -55,6 +56,15 @@ pub extern "C" fn hb_score(s: &[u8], dealer: u8, wind: u8) -> Scored
     ensures { λ r. ⌜ r ≡ scoreOf (now (s .entry)) dealer wind ⌝ }
 {
     score::score(s, dealer, wind)
+}
+
+// Slip: six lines of what Score gives for a record, a dealer and a round wind, 150 bytes at the start of a page; or the refusal, and the page as it was.
+#[no_mangle]
+pub extern "C" fn hb_slip(page: &mut [u8], s: &[u8], dealer: u8, wind: u8) -> u8
+    ensures { λ r. ⌜ r ≡ slipRefusal (scoreOf (now (s .entry)) dealer wind) (now (page .entry)) ⌝ }
+    ensures { λ _. ⌜ now (page .exit) ≡ slipPage (scoreOf (now (s .entry)) dealer wind) (now (page .entry)) ⌝ }
+{
+    slip::slip(page, s, dealer, wind)
 }
 
 // A game before its first booking.

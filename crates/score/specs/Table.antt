@@ -16,7 +16,7 @@ use Rattle.score.specs.declared.Scored.{Scored}
 use Rattle.score.specs.Score.{scoreOf}
 
 -- "indicator North, no riichi, ordinary": how (0 tsumo, 1 ron), winner, discarder, winning tile, m, melds, other concealed tiles
-abbrev won : ℕ → ℕ → ℕ → ℕ → ℕ → List ℕ → List ℕ → Hand
+abbrev pub won : ℕ → ℕ → ℕ → ℕ → ℕ → List ℕ → List ℕ → Hand
 won how winner discarder winning m melds concealed =
     record {
       fields = record { how = how; winner = winner; discarder = discarder; riichi = 0; situation = 0; indicator = 30; winning = winning };

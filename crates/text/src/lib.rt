@@ -32,7 +32,7 @@ pub fn size(n: i32) -> u32
 }
 
 // Writes n, with a minus before a negative one.
-fn signed(buf: &mut [u8], at: usize, n: i32) -> usize
+pub fn signed(buf: &mut [u8], at: usize, n: i32) -> usize
     requires { ⌜ at + length (signedOf n) ≤ length (now buf) ⌝ }
     ensures { λ r. ⌜ Put (now (buf .entry)) at (signedOf n) (now (buf .exit)) r ⌝ }
 {

@@ -145,6 +145,9 @@ pub const RECORD_MAX: usize = 13;
 /// A buffer of so many bytes holds every line of tally (HB_LINE_MAX).
 pub const LINE_MAX: usize = 83;
 
+/// A slip has so many bytes (HB_SLIP_LENGTH).
+pub const SLIP_LENGTH: usize = 150;
+
 impl Hand {
     /// A hand from its 25 bytes as they lie in memory.
     pub fn of(bytes: [u8; 25]) -> Hand {
@@ -169,6 +172,7 @@ extern "C" {
     fn hb_read(record: *const u8, len: usize) -> ReadHand;
     fn hb_write(hand: Hand, buffer: *mut u8, len: usize) -> Written;
     fn hb_score(record: *const u8, len: usize, dealer: u8, wind: u8) -> Scored;
+    fn hb_slip(page: *mut u8, page_len: usize, record: *const u8, len: usize, dealer: u8, wind: u8) -> u8;
     fn hb_fresh() -> Game;
     fn hb_riichi(game: &mut Game, seat: u8) -> u8;
     fn hb_win(game: &mut Game, record: *const u8, len: usize) -> u8;
@@ -197,6 +201,11 @@ pub fn write(hand: Hand, buffer: &mut [u8]) -> Written {
 /// Score.
 pub fn score(record: &[u8], dealer: u8, wind: u8) -> Scored {
     unsafe { hb_score(record.as_ptr(), record.len(), dealer, wind) }
+}
+
+/// A slip.
+pub fn slip(page: &mut [u8], record: &[u8], dealer: u8, wind: u8) -> u8 {
+    unsafe { hb_slip(page.as_mut_ptr(), page.len(), record.as_ptr(), record.len(), dealer, wind) }
 }
 
 /// A game at its start.

@@ -1,4 +1,4 @@
-//! Random records and hands through Read, Write and Score.
+//! Random records and hands through Read, Write, Score and the slip.
 
 use archive::same;
 use other_scorer::codec::{pack, unpack};
@@ -10,6 +10,7 @@ use other_scorer::rng::Rng;
 use other_scorer::score;
 
 use crate::report::Report;
+use crate::slips;
 use crate::turns;
 
 /// The longest buffer lent to Write; a few bytes more are looked at behind it.
@@ -95,7 +96,7 @@ fn compare_write(report: &mut Report, rng: &mut Rng, hand: &archive::Hand) {
     }
 }
 
-/// Compares the three calls for one input.
+/// Compares the four calls for one input.
 fn compare(report: &mut Report, rng: &mut Rng, index: usize) {
     let (record, dealer, wind, scored) = input(rng, index);
     let read = archive::read(&record);
@@ -122,6 +123,8 @@ fn compare(report: &mut Report, rng: &mut Rng, index: usize) {
     if let 0 | 6 | 7 = got.refusal {
         turns::compare(report, &same::to_other(&read.hand), dealer, wind, &got);
     }
+
+    slips::compare(report, rng, &record, dealer, wind, &scored);
 
     let hand = hand(rng, &record);
     compare_write(report, rng, &hand);

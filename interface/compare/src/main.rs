@@ -6,6 +6,7 @@ mod hands;
 mod lines;
 mod logs;
 mod report;
+mod slips;
 mod turns;
 
 // The generators of random bookings and games that the other scorer's own tests use.

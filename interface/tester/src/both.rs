@@ -3,7 +3,7 @@
 use archive::{same, Differences, NextEntry, ReadHand, Scored, Written, RECORD_MAX};
 use other_scorer::log::tally_lines;
 use other_scorer::notation::hex::to_hex;
-use other_scorer::{score, Hand};
+use other_scorer::{score, slip, Hand};
 
 use crate::answer::Answer;
 
@@ -44,6 +44,16 @@ impl Core {
     pub fn promised(&mut self, what: &str, score: Scored, wanted: Scored, of: &Answer) -> bool {
         let input = || format!("{} dealer {} wind {}", to_hex(&of.record), of.dealer, of.wind);
         self.differences.same(what, score, wanted, input)
+    }
+
+    /// The slip of a record on a page that was blank, and its refusal.
+    pub fn slip(&mut self, record: &[u8], dealer: u8, wind: u8, length: usize) -> (u8, Vec<u8>) {
+        let (mut core, mut other) = (vec![b' '; length], vec![b' '; length]);
+        let answer = archive::slip(&mut core, record, dealer, wind);
+        let wanted = slip::write(&score(record, dealer, wind), &mut other);
+        let input = || format!("{} dealer {dealer} wind {wind}, page of {length}", to_hex(record));
+        self.differences.same("a slip", (answer, &core), (wanted, &other), input);
+        (answer, core)
     }
 
     /// Next entry.

@@ -8,6 +8,7 @@ tester COMMAND WORDS: asks the proved core, and compares every answer with the o
   readings   every reading of a hand in order, the reported one, and why the others lose
   turn       a hand keyed from another side of the table: both scores side by side
   rename     a hand with its suits renamed: both scores side by side
+  slip       the slip of a hand for the club book, six lines
   log        a text of bookings to the bytes of a log, or back
   tally      a log's bookings one after the other, and the game after each
   damage     a record or a log damaged in every way: refusals counted, both scorers compared
@@ -65,6 +66,16 @@ too, concealed tiles put back in order. Refusal, h, fu, yaku and changes stay as
 before or after; if they did not, the tool would say so loudly.
 
 For scripts: the lines of `hand` up to changes, renamed XYZ, those lines for the renamed hand, differences.
+";
+
+pub const SLIP: &str = "\
+tester slip HAND [dealer=N] [wind=E|S] [page=N] [--plain]
+
+HAND as for `tester hand`. Prints the slip that the core writes for the counter printer: six lines of 24 characters.
+
+  page=N     lends a page of N bytes instead of 150
+
+For scripts: the lines of `hand` up to why, slip with its refusal, the six lines as they are, differences.
 ";
 
 pub const LOG: &str = "\

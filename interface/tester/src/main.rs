@@ -17,6 +17,7 @@ mod readings;
 mod refusals;
 mod rename;
 mod sides;
+mod slip;
 mod tally;
 mod text;
 mod turn;
@@ -33,11 +34,12 @@ use words::{Bad, Words};
 type Command = fn(&mut Core, Words) -> Result<String, Bad>;
 
 /// The commands by name, with their help.
-const COMMANDS: [(&str, Command, &str); 7] = [
+const COMMANDS: [(&str, Command, &str); 8] = [
     ("hand", hand::run, help::HAND),
     ("readings", readings::run, help::READINGS),
     ("turn", turn::run, help::TURN),
     ("rename", rename::run, help::RENAME),
+    ("slip", slip::run, help::SLIP),
     ("log", log::run, help::LOG),
     ("tally", tally::run, help::TALLY),
     ("damage", damage::run, help::DAMAGE),
@@ -49,14 +51,14 @@ fn run(core: &mut Core, mut words: Words) -> Result<String, Bad> {
     let Some(name) = words.take_first() else {
         return match wants_help {
             true => Ok(help::TOOL.into()),
-            false => Err(Bad::new("no command: hand, readings, turn, rename, log, tally or damage; --help says more")),
+            false => Err(Bad::new("no command: hand, readings, turn, rename, slip, log, tally or damage; --help says more")),
         };
     };
     match COMMANDS.iter().find(|(command, ..)| *command == name) {
         Some((.., help)) if wants_help => Ok(help.to_string()),
         Some((_, command, _)) => command(core, words),
         None => {
-            let why = "no command; there are hand, readings, turn, rename, log, tally and damage";
+            let why = "no command; there are hand, readings, turn, rename, slip, log, tally and damage";
             Err(Bad::new(format!("word 1, \"{name}\": {why}")))
         }
     }

@@ -10,7 +10,7 @@ use other_scorer::{Booking, Game, Hand};
 
 use crate::names::count;
 
-/// The highest refusal.
+/// The highest refusal of a record or a log.
 pub const LAST: u8 = 14;
 
 /// A refusal in words (01, each at its place); docs/REFUSALS.md has the same.
@@ -31,7 +31,8 @@ pub fn refusal(number: u8) -> &'static str {
         12 => "a declared seat is not ready",
         13 => "the buffer is shorter than the record",
         14 => "the log's entry is bad or cut",
-        _ => "no refusal of document 01",
+        16 => "the page is shorter than a slip",
+        _ => "no refusal of documents 01 and 02",
     }
 }
 

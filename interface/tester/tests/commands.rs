@@ -52,6 +52,35 @@ fn a_hand_for_reading() {
 }
 
 #[test]
+fn slips() {
+    let text = "\
+HAN                    2
+FU                    30
+SEAT 0                 0
+SEAT 1              2000
+SEAT 2                 0
+SEAT 3             -2000
+";
+    for typed in ["234567m345p67s22s+8s seat=1 ron=3", LINE_1] {
+        for page in ["", "page=150", "page=65536"] {
+            let out = answer(&format!("slip {typed} {page}"));
+            assert!(out.contains(&format!("\nanswer     accepted\ntried      1 reading\n\n{text}\nboth scorers agree\n")), "{out}");
+            let out = answer(&format!("slip {typed} {page} --plain"));
+            assert!(out.ends_with(&format!("refusal 0\nslip 0\n{text}differences 0\n")), "{out}");
+        }
+    }
+    let south = answer("slip 234567m345p67s22s+8s seat=1 tsumo dealer=1 wind=S");
+    assert!(south.contains("SEAT 0             -1300\nSEAT 1              3900\n"), "{south}");
+    let short = answer("slip 234567m345p67s22s+8s seat=1 ron=3 page=149");
+    assert!(short.contains("slip       refusal 16, the page is shorter than a slip: 149 bytes\n"), "{short}");
+    assert!(!short.contains("HAN") && short.contains("answer     accepted"), "{short}");
+    for (typed, refusal) in [("456p78s234s99p+9s chi=123m seat=1 ron=3", 7), (&LINE_1[..24], 1)] {
+        let out = answer(&format!("slip {typed} page=0 --plain"));
+        assert!(out.contains(&format!("\nslip {refusal}\ndifferences 0\n")), "{out}");
+    }
+}
+
+#[test]
 fn items_of_fu_by_name() {
     for (hand, rows) in [
         (
