@@ -90,9 +90,9 @@ def frames(name):
 def stack():
     """An upper estimate of the stack that Score takes, by the frames of the compiled code."""
     f = frames("floor")
-    leaf = max(f[n] for n in f if n.split("::")[0] in ("hand", "hand_record", "groups", "yaku", "points", "value", "reading"))
-    deep = f["main"] + 5 * f["best::split"] + f["best::judge"] + leaf
-    print(f"stack: caller with Score {f['main']}, 5 times split {f['best::split']}, judge {f['best::judge']}, another {leaf}: {deep} bytes")
+    leaf = max(f[n] for n in f if n.split("::")[0] in ("hand", "hand_record", "groups", "tile_yaku", "yaku", "points", "fu_items", "value", "reading", "reading_steps"))
+    deep = f["main"] + 5 * f["search::split"] + f["best::judge"] + leaf
+    print(f"stack: caller with Score {f['main']}, 5 times split {f['search::split']}, judge {f['best::judge']}, another {leaf}: {deep} bytes")
 
 
 stack()

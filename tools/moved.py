@@ -5,6 +5,7 @@ An item is known by its kind and name (a contract by its function's crate too, a
 Changed: another text (of a theorem the statement, of a function signature and contract), whether moved or not. What stayed is counted, and
 named with --stayed. Only specs/ (laws and search apart) and public functions and structs of src/ are looked at; proofs are the files of
 specs/laws/ and proofs/, a moved one by git's measure. TO is the working tree where it is not given."""
+import re
 import subprocess
 import sys
 import tempfile
@@ -49,8 +50,10 @@ def proofs(revisions, said):
         touched += sign != "D"
         what = {"A": "new", "D": "gone", "R": "moved", "M": "changed"}[sign[0]]
         said.setdefault(("proof", what), []).append(" to ".join(paths))
-    now = subprocess.run(git + ["ls-files"] + where, capture_output=True, text=True, check=True).stdout.splitlines()
-    said[("proof", "stayed")] = ["(the others)"] * (len(now) - touched)
+    listing = ["ls-tree", "-r", "--name-only", revisions[1]] if revisions[1:] else ["ls-files"]
+    now = subprocess.run(git + listing, capture_output=True, text=True, check=True).stdout.splitlines()
+    count = sum(re.fullmatch(r"crates/[^/]+/(proofs|specs/laws)/.*\.antt", path) is not None for path in now)
+    said[("proof", "stayed")] = ["(the others)"] * (count - touched)
 
 
 def main():

@@ -11,20 +11,18 @@ use Rattle.hand_record.specs.Record.{handOf, readOf, IsSound}
 use Rattle.reading.specs.declared.Reading.{Reading}
 use Rattle.reading.specs.Order.{Before}
 use Rattle.points.specs.Points.{sumOfFour}
-use Rattle.value.specs.Fu.{fu, groupFu, added, baseAlone}
+use Rattle.fu_items.specs.Fu.{fu, groupFu, added, baseAlone}
 use Rattle.value.specs.Value.{yakuman}
 use Rattle.best.specs.Best.{withYakuman, upTo}
 use Rattle.score.specs.declared.Scored.{Scored}
 use Rattle.score.specs.Readings.{AreReadingsOf}
 use Rattle.score.specs.Named.{wonOf, groupsOf, waysOf, partsOf, worth, IsReadingOf, ReadsWithYaku, IsReported, gainIn, scoredAs, Named}
 use Rattle.score.specs.Score.{scoreOf, is-score}
-use Rattle.score.specs.Table.{Lines, Counts}
 use Rattle.score.specs.laws.Named as laws
 use Rattle.score.specs.laws.Items as items
 use Rattle.score.specs.laws.Settled as settled
 use Rattle.score.specs.laws.Tried as tries
 use Rattle.score.specs.laws.Changes as changes
-use Rattle.score.specs.laws.Table as table
 
 -- ---- of a sound hand
 
@@ -101,11 +99,3 @@ module _ (s : List ℕ) (dealer wind : ℕ) where
   -- "four changes summing to 0"
   pub zero-sum : sumOfFour (scoreOf s dealer wind .changes) ≡ pos 0
   zero-sum = changes.zero-sum s dealer wind
-
--- "lines 1 to 12 are theorems gathered in one table under one theorem"
-pub lines : Lines
-lines = table.lines
-
--- hands whose readings are counted (02, S-4)
-pub counts : Counts
-counts = table.counts

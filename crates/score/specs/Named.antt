@@ -19,7 +19,7 @@ use Rattle.yaku.specs.declared.Parts.{Parts}
 use Rattle.points.specs.declared.Seats.{Seats}
 use Rattle.points.specs.Points.{changes}
 use Rattle.value.specs.declared.Value.{Value}
-use Rattle.value.specs.Fu.{baseAlone}
+use Rattle.fu_items.specs.Fu.{baseAlone}
 use Rattle.value.specs.Value.{valueOf}
 use Rattle.best.specs.Best.{withYaku, Over, withYakuman, upTo}
 use Rattle.score.specs.declared.Scored.{Scored}

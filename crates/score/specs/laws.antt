@@ -10,4 +10,3 @@ pub mod Written
 pub mod Tried
 pub mod Z
 pub mod Changes
-pub mod Table

@@ -7,18 +7,18 @@ ghost use lib.Dec.{ltb};
 ghost use lib.ListN.{getD};
 ghost use Rattle.hand.specs.Refusals.{wrongDiscarder};
 ghost use Rattle.groups.specs.Melds.{meldCode, meldWay};
-ghost use Rattle.best.specs.search.Setting.{Ready};
+ghost use Rattle.setting.specs.search.Setting.{Ready};
 ghost use Rattle.score.specs.Named.{wonOf, refusedWith, acceptedAs, Named};
 ghost use Rattle.score.specs.search.Setting.{meldCodes, meldWays, settingOf};
 ghost use Rattle.score.specs.search.Settled.{settledOf};
 ghost use Rattle.score.specs.IsScore.{IsScore};
 ghost use Rattle.score.specs.Score.{scoreOf};
-use best::Setting;
+use fu_items::Items;
 use hand::Hand;
 use hand_record::Answer;
 use points::Seats;
+use setting::Setting;
 use units::Fu;
-use value::Items;
 use value::Value;
 use yaku::Won;
 
@@ -121,7 +121,7 @@ fn setting_of(h: Hand, dealer: u8, wind: u8) -> Setting
 {
     let won = won_of(h, dealer, wind);
     let t = won.tally;
-    let tests = yaku::tile_tests(t, won.bare);
+    let tests = tile_yaku::tile_tests(t, won.bare);
     let codes = meld_codes(h);
     let ways = meld_ways(h);
     let seats = Seats {
@@ -145,7 +145,7 @@ fn refused(n: u8) -> Scored
 {
     let none = [false; 37];
     let zero = [0i32; 4];
-    let items = value::fu_items::base_alone(Fu(0));
+    let items = fu_items::base_alone(Fu(0));
     Scored {
         refusal: n,
         h: 0,
@@ -186,7 +186,7 @@ pub fn settle(h: Hand, dealer: u8, wind: u8) -> Scored
 {
     let t = setting_of(h, dealer, wind);
     let c = hand::concealed_tally(h);
-    let b = best::best_of(t, c, h.held.m, h.fields.winning);
+    let b = search::best_of(t, c, h.held.m, h.fields.winning);
     if 0 < b.tried {
         if b.valued {
             let v = b.value;

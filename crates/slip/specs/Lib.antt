@@ -1,9 +1,7 @@
--- Words   a quoted text as bytes
--- Slip    the lines of a slip, the refusals, and what the page then holds
+-- Slip    the values of a slip, the refusals, and what the page then holds
 -- Worked  two slips byte by byte
 -- Claims  the theorems: every line has 25 bytes, each stands in its part of the page, the rest stays; the two slips
 -- laws    what they stand on
-pub mod Words
 pub mod Slip
 pub mod Worked
 pub mod laws

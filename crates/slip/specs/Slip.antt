@@ -1,25 +1,14 @@
 -- The slip of a scored hand (02, S-2), as bytes: 32 is a space, 10 a line feed.
 use mathlib.Core.Bool.{cond}
 use mathlib.Core.List.{List, [], _∷_, _++_, flatMap}
-use Prim.Native.Nat.{ℕ, _-_}
+use Prim.Native.Nat.{ℕ}
 use lib.Dec.{ltb}
-use lib.ListN.{length, getD, drop, replicate}
+use lib.ListN.{length, getD, drop}
 use Rattle.yaku.specs.Yaku.{isYakuman}
 use Rattle.score.specs.declared.Scored.{Scored}
 use Rattle.text.specs.Text.{digitsOf, scoreText}
-use Rattle.slip.specs.Words.{bytesOf}
-
--- n spaces
-abbrev pub spaces : ℕ → List ℕ
-spaces n = replicate n 32
-
--- "lines of 24 characters and a line feed"; "Each line has a label, left in 10 columns, and a value, right in 14"
-unfoldable pub slipLine : List ℕ → List ℕ → List ℕ
-slipLine label value = label ++ (spaces (10 - length label) ++ (spaces (14 - length value) ++ (value ++ (10 ∷ []))))
-
--- "Labels are HAN, FU, SEAT 0, SEAT 1, SEAT 2, SEAT 3"
-unfoldable pub labels : List (List ℕ)
-labels = bytesOf "HAN" ∷ bytesOf "FU" ∷ bytesOf "SEAT 0" ∷ bytesOf "SEAT 1" ∷ bytesOf "SEAT 2" ∷ bytesOf "SEAT 3" ∷ []
+use Rattle.slip_lines.specs.Words.{bytesOf}
+use Rattle.slip_lines.specs.Line.{slipLine, labels}
 
 -- "HAN carries h and the seats the four changes of a scored hand, with a minus where negative"; FU carries fu.
 -- "A yakuman has the value YAKUMAN on the first line and 0 on the second."

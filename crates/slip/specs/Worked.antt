@@ -1,10 +1,10 @@
--- Two slips byte by byte: lines 1 and 9 of the table of hands (01), dealer 0, East. `won` has the hand as the table does (`score/specs/Table.antt`).
+-- Two slips byte by byte: lines 1 and 9 of the table of hands (01), dealer 0, East. `won` has the hand as the table does (`table/specs/Table.antt`).
 use mathlib.Core.Path.{_≡_}
 use mathlib.Core.List.{[], _∷_, flatMap}
 use Rattle.hand_record.specs.Record.{recordOf}
 use Rattle.score.specs.Score.{scoreOf}
-use Rattle.score.specs.Table.{won}
-use Rattle.slip.specs.Words.{bytesOf}
+use Rattle.table.specs.Table.{won}
+use Rattle.slip_lines.specs.Words.{bytesOf}
 use Rattle.slip.specs.Slip.{slipText}
 
 pub record Worked : Type 0 where

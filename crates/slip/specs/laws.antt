@@ -1,5 +1,3 @@
-pub mod Line
-pub mod Lines
 pub mod Text
 pub mod Score
 pub mod Short

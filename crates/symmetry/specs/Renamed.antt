@@ -16,9 +16,9 @@ use Rattle.hand.specs.Held.{meldKind, meldTile, others}
 use Rattle.hand.specs.Hand.{handTally}
 use Rattle.hand_record.specs.Record.{handOf, readOf, recordOf}
 use Rattle.reading.specs.declared.Reading.{Reading}
-use Rattle.yaku.specs.OfTiles.{only, isGreen}
-use Rattle.value.specs.declared.Items.{Items}
-use Rattle.value.specs.Fu.{fu}
+use Rattle.tile_yaku.specs.OfTiles.{only, isGreen}
+use Rattle.fu_items.specs.declared.Items.{Items}
+use Rattle.fu_items.specs.Fu.{fu}
 use Rattle.best.specs.Best.{figures}
 use Rattle.score.specs.declared.Scored.{Scored}
 use Rattle.score.specs.Named.{worth, ReadsWithYaku, IsReported}

@@ -11,7 +11,7 @@ use Rattle.yaku.specs.declared.Won.{Won}
 use Rattle.yaku.specs.declared.Parts.{Parts}
 use Rattle.points.specs.declared.Seats.{Seats}
 use Rattle.value.specs.Han.{closedHan, openHan}
-use Rattle.value.specs.Fu.{earned, added, rounded}
+use Rattle.fu_items.specs.Fu.{earned, added, rounded}
 use Rattle.value.specs.Value.{yakuman, valueOf}
 use Rattle.value.specs.laws.Claims as laws
 

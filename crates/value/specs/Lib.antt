@@ -1,10 +1,8 @@
 -- Han     h: the han of the listed yaku and the dora
--- Fu      fu item by item, and their sum
 -- Value   what a reading is worth
 -- Claims  how open han differ from closed ones, that the items add up and what document 01 says of their sum, that dora is no yaku, that several yakuman pay as one
 -- laws    what is proved of them; a reader of the meaning needs none of it
 pub mod Han
-pub mod Fu
 pub mod Value
 pub mod laws
 pub mod Claims

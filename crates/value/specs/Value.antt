@@ -7,7 +7,7 @@ use Rattle.yaku.specs.declared.Parts.{Parts}
 use Rattle.points.specs.Points.{basic, gain}
 use Rattle.points.specs.declared.Seats.{Seats}
 use Rattle.value.specs.Han.{hanOf}
-use Rattle.value.specs.Fu.{itemsOf, fuOf}
+use Rattle.fu_items.specs.Fu.{itemsOf, fuOf}
 use Rattle.value.specs.declared.Value.{Value}
 
 -- "With a yakuman": one is among the yaku of the reading

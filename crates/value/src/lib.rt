@@ -1,32 +1,20 @@
 // What a reading is worth: its yaku, h, fu, the basic points and the winner's gain.
 ghost use mathlib.Core.Path.{_≡_};
 ghost use Prim.Native.Nat.{_<_, _≤_};
-ghost use Rattle.yaku.specs.search.TileTests.{tileTestsOf};
+ghost use Rattle.tile_yaku.specs.search.TileTests.{tileTestsOf};
 ghost use Rattle.yaku.specs.Yaku.{yakuOf};
 ghost use Rattle.value.specs.Han.{hanOf};
 ghost use Rattle.value.specs.Value.{valueOf};
+use fu_items::Items;
 use points::Seats;
+use tile_yaku::TileTests;
 use units::Fu;
 use units::Han;
 use units::Points;
 use yaku::Parts;
-use yaku::TileTests;
 use yaku::Won;
 
-pub mod fu_items;
 mod yaku_han;
-
-// What each thing earns, in fu, and what rounding adds: the groups are the reading's in its order, then the melds' in the record's.
-#[repr(C)]
-pub struct Items {
-    pub base: Fu,
-    pub ron: Fu,
-    pub pair: Fu,
-    pub group: [Fu; 4],
-    pub wait: Fu,
-    pub tsumo: Fu,
-    pub rounding: Fu,
-}
 
 // What a reading is worth: its yaku, h, the items of fu and their sum, the basic points A and the winner's gain.
 pub struct Value {

@@ -6,7 +6,7 @@ use lib.ListN.{getD}
 use lib.Dec.{eqb, leb, ltb}
 use Rattle.tiles.specs.Below.{any, tabulate, some}
 use Rattle.tiles.specs.Kinds.{isHonour, isTerminal, isYaochu, isSimple}
-use Rattle.yaku.specs.OfTiles.{only, honourPresent, halfFlush, flush, isGreen, gates}
+use Rattle.tile_yaku.specs.OfTiles.{only, honourPresent, halfFlush, flush, isGreen, gates}
 use Rattle.groups.specs.Tests.{littleDragons, valueHan, pinfu, twins, inThreeSuits, straight, outside, triplets, concealed, kans, dragons, fourWinds}
 use Rattle.yaku.specs.declared.Won.{Won}
 use Rattle.yaku.specs.declared.Parts.{Parts}

@@ -1,10 +1,9 @@
 // The 36 yaku of a reading, and which of them are listed.
 ghost use mathlib.Core.Path.{_≡_};
 ghost use Prim.Native.Nat.{_<_, _≤_};
-ghost use Rattle.yaku.specs.search.TileTests.{tileTestsOf};
+ghost use Rattle.tile_yaku.specs.search.TileTests.{tileTestsOf};
 ghost use Rattle.yaku.specs.Yaku.{testsOf, isYakuman, listed as listedOf, yakuOf, hasYaku};
-
-mod of_tiles;
+use tile_yaku::TileTests;
 
 // What is the same in every reading of a hand. The tally has all tiles, kans whole; round and own are kinds of wind;
 // bare is a hand with no meld.
@@ -31,37 +30,6 @@ pub struct Parts {
     pub place: u8,
 }
 
-// What the tiles alone say, the same in every reading of a hand.
-pub struct TileTests {
-    pub simples: bool,
-    pub yaochus: bool,
-    pub honour: bool,
-    pub half: bool,
-    pub flush: bool,
-    pub honours: bool,
-    pub terminals: bool,
-    pub greens: bool,
-    pub gates: bool,
-}
-
-// The tests of the tiles alone, to be made once for a hand.
-pub fn tile_tests(t: [u8; 34], bare: bool) -> TileTests
-    ensures { λ r. ⌜ r ≡ tileTestsOf t bare ⌝ }
-{
-    let numbers = of_tiles::only(t, of_tiles::NUMBERS);
-    TileTests {
-        simples: of_tiles::only(t, of_tiles::SIMPLES),
-        yaochus: of_tiles::only(t, of_tiles::YAOCHUS),
-        honour: !numbers,
-        half: of_tiles::half_flush(t),
-        flush: of_tiles::flush(t),
-        honours: of_tiles::only(t, of_tiles::HONOURS),
-        terminals: of_tiles::only(t, of_tiles::TERMINALS),
-        greens: of_tiles::only(t, of_tiles::GREENS),
-        gates: of_tiles::gates(t, bare),
-    }
-}
-
 // Each of the 36 yaku, whatever the others say: yaku n at place n.
 pub fn tests(w: Won, x: TileTests, p: Parts) -> [bool; 37]
     requires { ⌜ x ≡ tileTestsOf (w .tally) (w .bare) ⌝ }
@@ -81,7 +49,7 @@ pub fn tests(w: Won, x: TileTests, p: Parts) -> [bool; 37]
     let ron = w.ron;
     let closed = w.closed;
     let little = groups::little_dragons(g, pair);
-    let twin = group_yaku::twins(g);
+    let twin = run_yaku::twins(g);
     let hidden = group_yaku::concealed(g, ways);
     let kan = group_yaku::kans(ways);
     let outside = group_yaku::outside(g, pair);
@@ -99,10 +67,10 @@ pub fn tests(w: Won, x: TileTests, p: Parts) -> [bool; 37]
         closed & (riichi == 1),
         closed & (riichi == 2),
         closed & (shape == 1),
-        group_yaku::in_three_suits(0, g),
-        group_yaku::straight(g),
+        run_yaku::in_three_suits(0, g),
+        run_yaku::straight(g),
         outside & x.honour,
-        group_yaku::in_three_suits(34, g),
+        run_yaku::in_three_suits(34, g),
         group_yaku::triplets(g),
         hidden == 3,
         kan == 3,

@@ -6,9 +6,9 @@ use Prim.Native.Nat.{ℕ}
 use Rattle.reading.specs.declared.Reading.{Reading}
 use Rattle.yaku.specs.Yaku.{isYakuman, hasYaku}
 use Rattle.value.specs.declared.Value.{Value}
-use Rattle.best.specs.declared.Setting.{Setting}
+use Rattle.setting.specs.declared.Setting.{Setting}
 use Rattle.best.specs.declared.Best.{Best}
-use Rattle.best.specs.search.Setting.{worthIn}
+use Rattle.setting.specs.search.Setting.{worthIn}
 use Rattle.best.specs.search.Best.{beats, counted, judgeBy, judgeOf}
 use Rattle.best.proofs.judge.Statement.{statement}
 use Rattle.best.proofs.judge.Tie as tie

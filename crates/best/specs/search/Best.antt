@@ -11,7 +11,7 @@ use Rattle.reading.specs.Reading.{ofShape}
 use Rattle.reading.specs.search.Readings.{readings}
 use Rattle.reading.specs.search.Judged.{judged}
 use Rattle.value.specs.declared.Value.{Value}
-use Rattle.value.specs.Fu.{baseAlone}
+use Rattle.fu_items.specs.Fu.{baseAlone}
 use Rattle.best.specs.declared.Best.{Best}
 use Rattle.best.specs.Best.{withYaku, withYakuman}
 

@@ -7,8 +7,8 @@ use native.Mathlib.Omega.{arith}
 use Rattle.tiles.specs.Kinds.{doraOf}
 use Rattle.hand.specs.declared.Hand.{Hand}
 use Rattle.yaku.specs.declared.Won.{Won}
-use Rattle.yaku.specs.declared.TileTests.{TileTests}
-use Rattle.yaku.specs.search.TileTests.{tileTestsOf}
+use Rattle.tile_yaku.specs.declared.TileTests.{TileTests}
+use Rattle.tile_yaku.specs.search.TileTests.{tileTestsOf}
 use Rattle.score.specs.Named.{wonOf, seatsOf}
 use Rattle.score.specs.search.Setting.{meldCodes, meldWays, settingOf}
 use Rattle.score.proofs.setting_of.Statement.{statement}

@@ -8,10 +8,10 @@ use Rattle.tiles.specs.Kinds.{doraOf}
 use Rattle.tiles.specs.laws.Tabulate.{getD-tabulate}
 use Rattle.hand.specs.declared.Hand.{Hand}
 use Rattle.reading.specs.declared.Reading.{Reading}
-use Rattle.value.specs.Fu.{fu, groupFu, groupItems, earned, added, baseAlone, itemsOf}
+use Rattle.fu_items.specs.Fu.{fu, groupFu, groupItems, earned, added, baseAlone, itemsOf}
 use Rattle.value.specs.Value.{yakuman, valueOf}
 use Rattle.value.specs.Claims.{items-add-up}
-use Rattle.value.specs.laws.Items.{added-alone}
+use Rattle.fu_items.specs.laws.Items.{added-alone}
 use Rattle.score.specs.declared.Scored.{Scored}
 use Rattle.score.specs.Named.{wonOf, seatsOf, groupsOf, waysOf, partsOf, worth, Named, reported, six, seven}
 use Rattle.score.specs.IsScore.{IsScore, eight, unread, read}

@@ -22,9 +22,9 @@ use Rattle.groups.specs.Melds.{meldCode, meldWay}
 use Rattle.groups.specs.search.Ways.{waysAt}
 use Rattle.yaku.specs.declared.Parts.{Parts}
 use Rattle.value.specs.Value.{valueOf}
-use Rattle.best.specs.declared.Setting.{Setting}
+use Rattle.setting.specs.declared.Setting.{Setting}
 use Rattle.best.specs.declared.Best.{Best}
-use Rattle.best.specs.search.Setting.{joined, partsIn, worthIn}
+use Rattle.setting.specs.search.Setting.{joined, partsIn, worthIn}
 use Rattle.best.specs.search.Best.{noneOf, judgeOf, bestOf}
 use Rattle.best.specs.laws.First.{judged-same}
 use Rattle.score.specs.Readings.{all-kinds}

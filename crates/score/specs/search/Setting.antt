@@ -9,8 +9,8 @@ use Rattle.tiles.specs.Kinds.{doraOf}
 use Rattle.hand.specs.declared.Hand.{Hand}
 use Rattle.hand.specs.Hand.{handTally}
 use Rattle.groups.specs.Melds.{meldCode, meldWay}
-use Rattle.yaku.specs.search.TileTests.{tileTestsOf}
-use Rattle.best.specs.declared.Setting.{Setting}
+use Rattle.tile_yaku.specs.search.TileTests.{tileTestsOf}
+use Rattle.setting.specs.declared.Setting.{Setting}
 use Rattle.score.specs.Named.{wonOf, seatsOf}
 
 -- the meld at place i, behind the "4 − m groups" of a reading

@@ -13,10 +13,10 @@ use Rattle.reading.specs.declared.Reading.{Reading}
 use Rattle.yaku.specs.declared.Won.{Won}
 use Rattle.yaku.specs.declared.Parts.{Parts}
 use Rattle.yaku.specs.Yaku.{isYakuman}
-use Rattle.value.specs.Fu.{earned, added, rounded}
+use Rattle.fu_items.specs.Fu.{earned, added, rounded}
 use Rattle.value.specs.Value.{yakuman, valueOf}
 use Rattle.value.specs.Claims.{fu-rounded, yakuman-pays-as-one}
-use Rattle.value.specs.laws.Items.{rounded-up}
+use Rattle.fu_items.specs.laws.Items.{rounded-up}
 use Rattle.score.specs.declared.Scored.{Scored}
 use Rattle.score.specs.Named.{wonOf, seatsOf, partsOf, worth, Named, reported, six, seven}
 use Rattle.score.specs.IsScore.{IsScore, eight, unread, read}

@@ -25,7 +25,7 @@ use Rattle.yaku.specs.declared.Parts.{Parts}
 use Rattle.yaku.specs.Yaku.{isYakuman, yakuOf, valueHanOf}
 use Rattle.points.specs.declared.Seats.{Seats}
 use Rattle.value.specs.Han.{closedHan, openHan, hanBy, yakuHan, hanOf}
-use Rattle.value.specs.Fu.{tripletFu, groupFu, groupItems, earned, added, rounded}
+use Rattle.fu_items.specs.Fu.{tripletFu, groupFu, groupItems, earned, added, rounded}
 use Rattle.value.specs.Value.{yakuman, valueOf}
 use Rattle.value.specs.Claims.{fu-rounded}
 use Rattle.value.specs.laws.Han.{han-at}
@@ -38,8 +38,8 @@ use Rattle.score.specs.laws.Changes.{score-within}
 use Rattle.text.specs.Text.{digitsOf, signedOf}
 use Rattle.text.specs.laws.Digits.{length-below-power}
 use Rattle.slip.specs.Slip.{valuesOf, lineAt, slipText}
-use Rattle.slip.specs.laws.Line.{line-long, label-short}
-use Rattle.slip.specs.laws.Lines.{flat-long}
+use Rattle.slip_lines.specs.laws.Line.{line-long, label-short}
+use Rattle.slip_lines.specs.laws.Lines.{flat-long}
 
 -- ---- h
 

@@ -11,11 +11,12 @@ use Rattle.hand_record.specs.Record.{recordOf}
 use Rattle.yaku.specs.Yaku.{isYakuman}
 use Rattle.score.specs.declared.Scored.{Scored}
 use Rattle.score.specs.Score.{scoreOf}
-use Rattle.score.specs.Table.{Scores}
-use Rattle.score.specs.Claims.{lines}
+use Rattle.table.specs.Table.{Scores}
+use Rattle.table.specs.Claims.{lines}
 use Rattle.text.specs.Text.{lastDigits, digitsOf, signedOf, scoreText}
-use Rattle.slip.specs.Words.{bytesOf}
-use Rattle.slip.specs.Slip.{slipLine, labels, valuesOf, lineAt, slipText}
+use Rattle.slip_lines.specs.Words.{bytesOf}
+use Rattle.slip_lines.specs.Line.{slipLine, labels}
+use Rattle.slip.specs.Slip.{valuesOf, lineAt, slipText}
 use Rattle.slip.specs.Worked.{Worked}
 use Rattle.slip.specs.laws.Score.{yakuman-zero, zero-yakuman}
 

@@ -7,7 +7,7 @@ use borrow.Author.Tests.{ltb-true, ltb-false, lt-ltb, le-ltb, lt-leb, le-leb}
 use lib.Dec.{ltb, eqb}
 use Rattle.tiles.specs.Groups.{isRun, isTriplet, isGroup, at, uses}
 use Rattle.groups.specs.Tests.{earnsWait, touches}
-use Rattle.value.specs.Fu.{groupFu}
+use Rattle.fu_items.specs.Fu.{groupFu}
 use Rattle.reading.specs.laws.Groups.{run-in, run-or}
 use Rattle.symmetry.specs.Renamed.{renamed}
 use Rattle.symmetry.specs.laws.Kinds.{Renaming, number-or, renamed-other, number-stays, there-back, test-stays, next-stays, lt-stays, kind-order, isYaochu-stays, isRunStart-stays}

@@ -16,11 +16,11 @@ use Rattle.reading.specs.Reading.{holds, isSevenPairs, isOrphans}
 use Rattle.reading.specs.search.Readings.{concatMap, isEmpty, less, fits, without, passes, step, splits, placedAt, placed, paired, shaped, readings}
 use Rattle.reading.specs.search.Judged.{judged}
 use Rattle.groups.specs.Tests.{littleDragons, valueHan, earnsWait, pinfu, twins, inThreeAt, inThreeSuits, straight, touches, outside, concealed, kans, fourWinds}
-use Rattle.yaku.specs.OfTiles.{only, halfFlush, flush, gates}
+use Rattle.tile_yaku.specs.OfTiles.{only, halfFlush, flush, gates}
 use Rattle.yaku.specs.Yaku.{testsOf, isYakuman, listed, yakuOf, hasYaku}
 use Rattle.points.specs.Points.{plain, limit, ordinary, basic, hundreds, share, pays, gain, change, changes}
 use Rattle.value.specs.Han.{hanBy, yakuHan, hanOf}
-use Rattle.value.specs.Fu.{tripletFu, groupFu, groupItems, earned, added, rounded, itemsOf, fuOf}
+use Rattle.fu_items.specs.Fu.{tripletFu, groupFu, groupItems, earned, added, rounded, itemsOf, fuOf}
 use Rattle.value.specs.Value.{valueOf}
 use Rattle.best.specs.search.Best.{beats, counted, noneOf, judgeBy, bestOf}
 use Rattle.score.specs.Named.{wonOf, groupsOf, waysOf, partsOf, worth}

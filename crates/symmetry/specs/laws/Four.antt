@@ -17,7 +17,7 @@ use Rattle.reading.specs.declared.Reading.{Reading}
 use Rattle.reading.specs.Reading.{ofShape}
 use Rattle.groups.specs.Melds.{meldCode, meldWay}
 use Rattle.yaku.specs.declared.Parts.{Parts}
-use Rattle.yaku.specs.OfTiles.{only, isGreen}
+use Rattle.tile_yaku.specs.OfTiles.{only, isGreen}
 use Rattle.value.specs.declared.Value.{Value}
 use Rattle.value.specs.Value.{valueOf}
 use Rattle.score.specs.Named.{wonOf, seatsOf, groupsOf, waysOf, partsOf, worth}

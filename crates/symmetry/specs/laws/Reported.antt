@@ -7,7 +7,7 @@ use Rattle.hand.specs.declared.Hand.{Hand}
 use Rattle.hand.specs.Hand.{handTally}
 use Rattle.reading.specs.declared.Reading.{Reading}
 use Rattle.reading.specs.Order.{Lex}
-use Rattle.yaku.specs.OfTiles.{only, isGreen}
+use Rattle.tile_yaku.specs.OfTiles.{only, isGreen}
 use Rattle.yaku.specs.Yaku.{hasYaku}
 use Rattle.points.specs.Points.{changes}
 use Rattle.best.specs.Best.{withYaku, figures, Over}

@@ -10,7 +10,7 @@ use Rattle.tiles.specs.Below.{all, any, every, number, total}
 use Rattle.tiles.specs.Kinds.{isNumber, inSuit, isHonour, isYaochu}
 use Rattle.tiles.specs.laws.Below.{every-at, every-of, number-total, both-ways, any-at, any-of}
 use Rattle.reading.specs.Reading.{isSevenPairs, isOrphans}
-use Rattle.yaku.specs.OfTiles.{only, halfFlush, flush, gatesOf, gates}
+use Rattle.tile_yaku.specs.OfTiles.{only, halfFlush, flush, gatesOf, gates}
 use Rattle.symmetry.specs.Renamed.{renamed}
 use Rattle.symmetry.specs.laws.Kinds.{Renaming, back, at-suit, there-back, lt-stays, isNumber-stays, isHonour-stays, isYaochu-stays, inSuit-stays}
 use Rattle.tiles.specs.laws.Sums.{total-moved}

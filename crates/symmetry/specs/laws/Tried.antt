@@ -9,7 +9,7 @@ use Rattle.hand.specs.Hand.{handTally}
 use Rattle.reading.specs.declared.Reading.{Reading}
 use Rattle.reading.specs.Order.{Before}
 use Rattle.reading.specs.All.{Each, none, also, Pairwise, ended, first}
-use Rattle.yaku.specs.OfTiles.{only, isGreen}
+use Rattle.tile_yaku.specs.OfTiles.{only, isGreen}
 use Rattle.yaku.specs.Yaku.{isYakuman}
 use Rattle.best.specs.Best.{withYakuman, upTo}
 use Rattle.score.specs.Readings.{AreReadingsOf, readingsOf, are-readings, only-readings}

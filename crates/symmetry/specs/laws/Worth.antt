@@ -10,14 +10,14 @@ use Rattle.tiles.specs.Kinds.{isNumber, isHonour, isTerminal, isYaochu, isSimpl
 use Rattle.groups.specs.Tests.{littleDragons, valueHan, pinfu, outside}
 use Rattle.yaku.specs.declared.Won.{Won}
 use Rattle.yaku.specs.declared.Parts.{Parts}
-use Rattle.yaku.specs.OfTiles.{only, honourPresent, isGreen}
+use Rattle.tile_yaku.specs.OfTiles.{only, honourPresent, isGreen}
 use Rattle.yaku.specs.Yaku.{valueHanOf, testsOf, isYakuman, listed, yakuOf}
 use Rattle.points.specs.Points.{basic, gain}
 use Rattle.points.specs.declared.Seats.{Seats}
-use Rattle.value.specs.declared.Items.{Items}
+use Rattle.fu_items.specs.declared.Items.{Items}
 use Rattle.value.specs.declared.Value.{Value}
 use Rattle.value.specs.Han.{yakuHan, hanOf}
-use Rattle.value.specs.Fu.{fu, groupFu, groupItems, earned, added, rounded, baseAlone, itemsOf, fuOf}
+use Rattle.fu_items.specs.Fu.{fu, groupFu, groupItems, earned, added, rounded, baseAlone, itemsOf, fuOf}
 use Rattle.value.specs.Value.{yakuman, basicOf, valueOf}
 use Rattle.symmetry.specs.Renamed.{renamed, SameItems}
 use Rattle.symmetry.specs.laws.Kinds.{Renaming, isNumber-stays, isHonour-stays, isTerminal-stays, isYaochu-stays, isSimple-stays}

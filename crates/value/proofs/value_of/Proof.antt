@@ -1,7 +1,7 @@
 -- `value::value_of` meets its contract.
 use borrow.Author.Needs.{needs}
 use native.Mathlib.Omega.{arith}
-use Rattle.value.specs.Fu.{fuOf}
+use Rattle.fu_items.specs.Fu.{fuOf}
 use Rattle.value.specs.Value.{valueOf}
 use Rattle.value.proofs.value_of.Statement.{statement}
 use Rattle.value.proofs.value_of.Tie as tie

@@ -8,9 +8,9 @@ use Rattle.yaku.specs.declared.Parts.{Parts}
 use Rattle.points.specs.Points.{basic}
 use Rattle.points.specs.declared.Seats.{Seats}
 use Rattle.value.specs.Han.{hanOf}
-use Rattle.value.specs.Fu.{added, earned, rounded, itemsOf, fuOf}
+use Rattle.fu_items.specs.Fu.{added, earned, rounded, itemsOf, fuOf}
 use Rattle.value.specs.Value.{yakuman, valueOf}
-use Rattle.value.specs.laws.Items as items
+use Rattle.fu_items.specs.laws.Items as items
 
 module _ (w : Won) (p : Parts) (dora : ℕ) (s : Seats) where
   pub items-add-up : added (valueOf w p dora s .items) ≡ valueOf w p dora s .fu .0

@@ -1,9 +1,9 @@
 -- `yaku::tests` meets its contract: each place is what its test ensures.
 use mathlib.Core.Path.{refl, ap}
 use borrow.Author.Needs.{needs}
-use Rattle.yaku.specs.search.TileTests.{tileTestsOf}
+use Rattle.tile_yaku.specs.search.TileTests.{tileTestsOf}
 use Rattle.yaku.specs.Yaku.{testsOf}
-use Rattle.yaku.specs.declared.TileTests.{TileTests}
+use Rattle.tile_yaku.specs.declared.TileTests.{TileTests}
 use Rattle.yaku.specs.laws.Lists.{six}
 use Rattle.yaku.proofs.tests.Statement.{statement}
 use Rattle.yaku.proofs.tests.Tie as tie

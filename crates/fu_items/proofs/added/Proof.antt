@@ -1,0 +1,13 @@
+-- `fu_items::added` meets its contract.
+use native.Mathlib.Omega.{arith}
+use Rattle.fu_items.specs.Fu.{added}
+use Rattle.fu_items.proofs.added.Statement.{statement}
+use Rattle.fu_items.proofs.added.Tie as tie
+
+pub added-spec : {M : Type 1} → statement M
+unfolding added
+added-spec =
+    tie.close
+    (tie.spec
+    (λ c. omega arith) (λ c. omega arith) (λ c. omega arith) (λ c. omega arith) (λ c. omega arith) (λ c. omega arith) (λ c. omega arith)
+    (λ c. omega arith) (λ c. omega arith) (λ c. omega arith) (λ c. omega arith) (λ c. omega arith) (λ c. omega arith) (λ c. omega arith))

@@ -1,0 +1,50 @@
+-- `search::places` meets its contract: the places from p on give what is left, and a yakuman is what they give.
+use mathlib.Core.Bool.{false}
+use mathlib.Core.Path.{_≡_, sym, _∙_}
+use mathlib.Core.Logic.{⊎-elim}
+use Prim.Native.Nat.{_+_, _-_, _≤_}
+use native.Mathlib.Omega.{arith}
+use borrow.Author.Needs.{needs}
+use Rattle.reading.specs.search.Judged.{judged}
+use Rattle.reading.specs.search.Readings.{placedAt, placed}
+use Rattle.reading.specs.laws.Fold.{ranged, ranged-turn, ranged-done, ranged-still, placed-all, judged-with, judged-none}
+use Rattle.setting.specs.search.Setting.{worthIn}
+use Rattle.best.specs.search.Best.{judgeOf}
+use Rattle.best.specs.laws.Tried.{done-still}
+use Rattle.search.proofs.places.Statement.{statement}
+use Rattle.search.proofs.places.Tie as tie
+
+abbrev Inv-loop : tie.InvT-loop
+Inv-loop h pair groups size win b₀ p₀ b p = (p ≤ size + 1) × (b .done ≡ false) × (ranged (judgeOf (worthIn h)) (placedAt win pair groups) (size + 1) p b ≡ judged (judgeOf (worthIn h)) b₀ (placed size win pair groups))
+
+abbrev μ-loop : tie.MeasureT-loop
+μ-loop h pair groups size win b₀ p₀ b p = size + 1 - p
+
+pub places-spec : {M : Type 1} → statement M
+unfolding placedAt
+places-spec =
+    tie.close
+    (tie.spec Inv-loop μ-loop
+    (λ c. (search needs, c .pre .2, placed-all (judgeOf _) _ _ _ _ _))
+    (λ c κs. omega arith)
+    (λ c κs.
+    let on = c .before .before .before in
+    (on .before .pre .0, omega (arith, on .before .pre .1), on .loop .inv .1))
+    (λ c.
+    let on = c .before .before .before in
+    ranged-still (judgeOf _) _ _ _ _ (done-still _ _ _ (c .if2 .taken))
+    ∙ ranged-turn (judgeOf _) _ _ _ _ _ (omega arith) (judged-with (judgeOf _) _ _ _ _ (sym (on .holds .ensures) ∙ c .before .before .if1 .taken) (c .before .judge .ensures))
+    ∙ on .before .before .loop .inv .2)
+    (λ c. omega arith)
+    (λ c. omega arith)
+    (λ c. (
+      omega arith,
+      ⊎-elim (λ w. rw (w .3) (w .2 .left)) (λ w. rw (w .1) (c .before .before .before .loop .inv .1)) (c .if1 .came),
+      ranged-turn (judgeOf _) _ _ _ _ _ (omega arith)
+          (⊎-elim
+          (λ w. w .3 ∙ judged-with (judgeOf _) _ _ _ _ (sym (c .before .holds .ensures) ∙ w .0 .taken) (w .1 .ensures))
+          (λ w. w .1 ∙ judged-none (judgeOf _) _ _ _ (sym (c .before .holds .ensures) ∙ w .0 .left))
+          (c .if1 .came))
+          ∙ c .before .before .before .loop .inv .2,
+    ))
+    (λ c. ranged-done (judgeOf _) _ _ _ _ (omega arith) ∙ c .before .loop .inv .2))

@@ -1,0 +1,12 @@
+-- `setting::joined` meets its contract: each place is picked.
+use borrow.Author.Needs.{needs}
+use Rattle.setting.specs.search.Setting.{joined}
+use Rattle.setting.proofs.joined.Statement.{statement}
+use Rattle.setting.proofs.joined.Tie as tie
+
+pub joined-spec : {M : Type 1} → statement M
+unfolding joined
+joined-spec =
+    tie.close
+    (tie.spec (λ c. search needs) (λ c. search needs) (λ c κs. search needs) (λ c. search needs) (λ c. search needs) (λ c κs. search needs)
+    (λ c. search needs) (λ c. search needs) (λ c κs. search needs) (λ c. search needs) (λ c. search needs) (λ c κs. search needs) (λ c. rw (c .pick4 .ensures, c .before .pick3 .ensures, c .before .before .pick2 .ensures, c .before .before .before .pick .ensures)))

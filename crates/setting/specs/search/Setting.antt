@@ -1,0 +1,41 @@
+-- What a reading is worth as the code makes it: from what is the same in every reading of a hand, with four places in which 68 is no group.
+-- What it means is `worth` of score/specs/Named; `worth-in` of score/specs/laws/Parts proves the two equal.
+use mathlib.Core.Bool.{cond}
+use mathlib.Core.List.{List}
+use mathlib.Core.Path.{_≡_}
+use Prim.Native.Nat.{ℕ, _<_}
+use lib.Dec.{eqb}
+use lib.ListN.{getD}
+use Rattle.tiles.specs.Below.{tabulate}
+use Rattle.reading.specs.declared.Reading.{Reading}
+use Rattle.groups.specs.search.Ways.{waysAt}
+use Rattle.yaku.specs.declared.Parts.{Parts}
+use Rattle.tile_yaku.specs.search.TileTests.{tileTestsOf}
+use Rattle.value.specs.declared.Value.{Value}
+use Rattle.value.specs.Value.{valueOf}
+use Rattle.setting.specs.declared.Setting.{Setting}
+
+-- the groups of the reading and, where it has none (68), those of the melds
+unfoldable pub joined : List ℕ → List ℕ → List ℕ
+joined groups codes = tabulate 4 0 (λ i. cond (eqb (getD groups i 0) 68) (getD codes i 0) (getD groups i 0))
+
+-- the reading with the melds
+unfoldable pub partsIn : Setting → Reading → Parts
+partsIn t r = record {
+  shape = r .shape;
+  pair = r .pair;
+  groups = joined (r .groups) (t .codes);
+  ways = waysAt (t .ways) (t .won .ron) (r .place);
+  place = r .place;
+}
+
+-- what it is worth
+unfoldable pub worthIn : Setting → Reading → Value
+worthIn t r = valueOf (t .won) (partsIn t r) (t .dora) (t .seats)
+
+-- what a setting has that was made for a hand: the tests are those of its tiles, winds and dora are kinds
+pub record Ready (t : Setting) : Type 0 where
+  pub tests : t .tests ≡ tileTestsOf (t .won .tally) (t .won .bare)
+  pub round : t .won .round < 34
+  pub own : t .won .own < 34
+  pub dora : t .dora < 34
