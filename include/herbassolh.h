@@ -23,7 +23,8 @@ extern "C" {
 /* Refusals (docs/REFUSALS.md); where several are met, the first that the call lists is given. */
 enum {
     HB_ACCEPTED = 0,
-    HB_REFUSAL_LENGTH = 1,      /* "under 4 bytes, m over 4, or a length not m's" */
+    HB_REFUSAL_LENGTH = 1,      /* "under 4 bytes, m over 4, or a length not m's"; of an unfinished hand "an empty input, m over 4
+                                   or a length not m's" */
     HB_REFUSAL_FIELD = 2,       /* "a tile over 33, riichi 3, situation over 4, a chi with no run from that tile, a padding
                                    bit set, tsumo with discarder not 0, ron with discarder equal to winner"; in Write
                                    "also m over 4, a field too large for its bits, or an unused place not zero" */
@@ -43,6 +44,7 @@ enum {
     HB_REFUSAL_NOT_READY = 12,  /* "a declared seat not ready" */
     HB_REFUSAL_BUFFER = 13,     /* "buffer shorter than the record" */
     HB_REFUSAL_ENTRY = 14,      /* "kind over 3, win argument not 0, m over 4, or bytes missing" */
+    HB_REFUSAL_DISCARD = 15,    /* "a discard over 33" */
     HB_REFUSAL_PAGE = 16        /* "a page buffer under 150 bytes" */
 };
 
@@ -120,6 +122,9 @@ enum { HB_LETTER_RIICHI = 'R', HB_LETTER_WIN = 'W', HB_LETTER_DRAW = 'D', HB_LET
 /* The length in bytes of a record with m melds, m at most 4: 13, 12, 11, 10, 8. */
 #define HB_RECORD_LENGTH(m) ((103 - 10 * (m) + 7) / 8)
 
+/* The length in bytes of an unfinished hand with m melds, m at most 4: 11, 9, 8, 7, 6. */
+#define HB_UNFINISHED_LENGTH(m) ((81 - 10 * (m) + 7) / 8)
+
 enum {
     HB_RECORD_MAX = 13,    /* a buffer of so many bytes holds every record */
     HB_SLIP_LENGTH = 150,  /* a slip has so many bytes */
@@ -176,6 +181,13 @@ typedef struct {
     int32_t changes[4];  /* points of seats 0 to 3, summing to 0; sticks left out */
 } HbScored;
 
+/* What Waits gives: a refusal with all else zero, or 0, the waits and furiten. */
+typedef struct {
+    uint8_t refusal;
+    bool waits[34];  /* kind k at index k: "the set of kinds that give a reading when added, yaku or not" */
+    bool furiten;    /* "a discarded kind is a wait" */
+} HbWaits;
+
 /* The game, lent to each booking. Any bytes are a game; an accepted booking sets declared and over to 0 or 1. */
 typedef struct {
     int32_t scores[4];
@@ -221,6 +233,11 @@ HbScored hb_score(const uint8_t *record, size_t record_len, uint8_t dealer, uint
  * "A yakuman has the value YAKUMAN on the first line and 0 on the second." Gives 0, or its refusal with page unchanged;
  * refusals 8, 1 to 7, 16 in order. */
 uint8_t hb_slip(uint8_t *page, size_t page_len, const uint8_t *record, size_t record_len, uint8_t dealer, uint8_t wind);
+
+/* Waits. What an unfinished hand waits for: "meld count 3 bits, melds, 13 - 3m tiles, zero bits to the byte", each meld and tile as in
+ * a record, with "the player's own discards", one kind a byte. "A kind already held four times is never among them"; discards do not count
+ * towards the four. Refusals 1 to 4, 15 in order. */
+HbWaits hb_waits(const uint8_t *hand, size_t hand_len, const uint8_t *discards, size_t discards_len);
 
 /* A game at its start: 30,000 each, all else 0. */
 HbGame hb_fresh(void);

@@ -28,6 +28,8 @@ static void sizes(void)
     CHECK(sizeof(bool) == 1 && sizeof(size_t) == 8);
     CHECK(HB_RECORD_LENGTH(0) == 13 && HB_RECORD_LENGTH(1) == 12 && HB_RECORD_LENGTH(2) == 11);
     CHECK(HB_RECORD_LENGTH(3) == 10 && HB_RECORD_LENGTH(4) == 8);
+    CHECK(HB_UNFINISHED_LENGTH(0) == 11 && HB_UNFINISHED_LENGTH(1) == 9 && HB_UNFINISHED_LENGTH(2) == 8);
+    CHECK(HB_UNFINISHED_LENGTH(3) == 7 && HB_UNFINISHED_LENGTH(4) == 6 && sizeof(HbWaits) == 36);
     CHECK(sizeof(HbItems) == 10 && sizeof(HbScored) == 72);
     CHECK(sizeof(HbGame) == 28 && sizeof(HbWalk) == 48 && sizeof(HbPrinted) == 56);
 }
@@ -353,6 +355,98 @@ static void slips_of_hands(void)
             CHECK_CASE(n, slipped(record, record_len, 4, 0, length, HB_REFUSAL_ARGUMENT, ""));
             free(record);
         }
+    }
+}
+
+/* Unfinished hands, and the kinds that they wait for. */
+static const struct {
+    uint8_t length, hand[11], count, waits[13];
+} unfinished[] = {
+    {9, {0x20, 0x22, 0x0a, 0x31, 0x45, 0x18, 0x69, 0xcb, 0xb0}, 2, {22, 25}},                          /* chi 234m, 567m 22456p 67s */
+    {11, {0x00, 0x00, 0x00, 0x21, 0x06, 0x20, 0xa3, 0x0e, 0x41, 0x04, 0x00}, 9, {0, 1, 2, 3, 4, 5, 6, 7, 8}}, /* 1112345678999m */
+    {11, {0x00, 0x10, 0x4a, 0x29, 0x34, 0xdb, 0x8e, 0xbc, 0xfc, 0x10, 0x80},
+     13, {0, 8, 9, 17, 18, 26, 27, 28, 29, 30, 31, 32, 33}},                                           /* 19m 19p 19s ESWNPFC */
+    {11, {0x00, 0x00, 0x10, 0x42, 0x08, 0x30, 0xc4, 0x10, 0x51, 0x4a, 0x80}, 1, {21}},                 /* 1133557799m 22p 4s */
+    {11, {0x00, 0x00, 0x00, 0x02, 0x0a, 0x31, 0x45, 0x98, 0x71, 0xe8, 0x00}, 0, {0}},                  /* 1111567m 234678p: a fifth 1m */
+    {9, {0x3a, 0xc0, 0x02, 0x10, 0x62, 0x0a, 0x8a, 0x2a, 0xae}, 0, {0}},      /* closed kan 5555s, 123456m 99p 46s: the middle is in the kan */
+    {8, {0x48, 0x00, 0x25, 0x14, 0x61, 0xab, 0xb0, 0xc8}, 2, {11, 14}},       /* pon 111m, chi 234m, 2245p 678s */
+    {7, {0x6b, 0x71, 0x40, 0xca, 0x2a, 0xb2, 0xe0}, 2, {20, 23}},             /* pon EEE, kan 2222p, chi 789m, 3456s */
+    {6, {0x9a, 0xc8, 0x08, 0x28, 0x4d, 0x80}, 1, {27}},                       /* closed kan 5555s, pon 111m, 222m, 333m, E */
+};
+
+/* The first of them, damaged. */
+static const struct {
+    uint8_t refusal, hand[9];
+} unfit[] = {
+    {HB_REFUSAL_LENGTH, {0xa0, 0x22, 0x0a, 0x31, 0x45, 0x18, 0x69, 0xcb, 0xb0}},      /* m 5 */
+    {HB_REFUSAL_LENGTH, {0xe0, 0x22, 0x0a, 0x31, 0x45, 0x18, 0x69, 0xcb, 0xb0}},      /* m 7 */
+    {HB_REFUSAL_LENGTH, {0x40, 0x22, 0x0a, 0x31, 0x45, 0x18, 0x69, 0xcb, 0xb0}},      /* m 2 */
+    {HB_REFUSAL_FIELD, {0x20, 0x22, 0x0a, 0x31, 0x45, 0x18, 0x69, 0xcb, 0xc4}},       /* a concealed tile 34 */
+    {HB_REFUSAL_FIELD, {0x2c, 0x42, 0x0a, 0x31, 0x45, 0x18, 0x69, 0xcb, 0xb0}},       /* a pon of 34 */
+    {HB_REFUSAL_FIELD, {0x20, 0xe2, 0x0a, 0x31, 0x45, 0x18, 0x69, 0xcb, 0xb0}},       /* a chi from 8m */
+    {HB_REFUSAL_FIELD, {0x23, 0x62, 0x0a, 0x31, 0x45, 0x18, 0x69, 0xcb, 0xb0}},       /* a chi from East */
+    {HB_REFUSAL_FIELD, {0x20, 0x22, 0x0a, 0x31, 0x45, 0x18, 0x69, 0xcb, 0xb1}},       /* a padding bit */
+    {HB_REFUSAL_FIELD, {0x20, 0x31, 0x08, 0x31, 0x45, 0x18, 0x69, 0xcb, 0xb0}},       /* 34 before a lower tile: 2 comes before 3 */
+    {HB_REFUSAL_DESCENDING, {0x20, 0x22, 0x88, 0x31, 0x45, 0x18, 0x69, 0xcb, 0xb0}},  /* 657m */
+    {HB_REFUSAL_DESCENDING, {0x29, 0x42, 0x88, 0x31, 0x45, 0x18, 0x69, 0xcb, 0xb0}},  /* and five 2p: 3 comes before 4 */
+    {HB_REFUSAL_OVER_FOUR, {0x29, 0x42, 0x0a, 0x31, 0x45, 0x18, 0x69, 0xcb, 0xb0}},   /* pon 222p and 22p */
+    {HB_REFUSAL_OVER_FOUR, {0x31, 0x42, 0x0a, 0x31, 0x45, 0x98, 0x69, 0xcb, 0xb0}},   /* kan 2222p and 2p */
+};
+
+/* The answer for a hand and discards, each in memory of just its length. */
+static HbWaits waits_of(const uint8_t *hand, size_t hand_len, const uint8_t *discards, size_t discards_len)
+{
+    uint8_t *hand_copy = exact(hand, hand_len), *discards_copy = exact(discards, discards_len);
+    HbWaits waits = hb_waits(hand_copy, hand_len, discards_copy, discards_len);
+    CHECK(memcmp(hand_copy, hand, hand_len) == 0 && memcmp(discards_copy, discards, discards_len) == 0);
+    free(discards_copy);
+    free(hand_copy);
+    return waits;
+}
+
+/* Whether it is a refusal with no wait and no furiten. */
+static int no_waits(HbWaits waits, uint8_t refusal)
+{
+    HbWaits wanted = {0};
+    wanted.refusal = refusal;
+    return memcmp(&waits, &wanted, sizeof wanted) == 0;
+}
+
+/* Waits; furiten by each kind at the start, the end and the middle of the discards; refusals 1 to 4 and 15 in order. */
+static void waits_of_hands(void)
+{
+    static const uint8_t over[3] = {0, 34, 0};
+    for (size_t n = 0; n < COUNT_OF(unfinished); n++) {
+        HbWaits wanted = {0};
+        for (size_t i = 0; i < unfinished[n].count; i++)
+            wanted.waits[unfinished[n].waits[i]] = true;
+        HbWaits waits = waits_of(unfinished[n].hand, unfinished[n].length, over, 0);
+        CHECK_CASE(n, memcmp(&waits, &wanted, sizeof wanted) == 0);
+        for (size_t length = 0; length <= 14; length++) {
+            uint8_t longer[14] = {0};
+            memcpy(longer, unfinished[n].hand, 11);
+            CHECK_CASE(n, length == unfinished[n].length || no_waits(waits_of(longer, length, over, 3), HB_REFUSAL_LENGTH));
+        }
+        uint8_t other = 0, discards[30]; /* other: a kind that is no wait */
+        while (wanted.waits[other])
+            other++;
+        for (int kind = 0; kind < 256; kind++) {
+            for (size_t at = 0; at < 30; at += at == 15 ? 14 : 15) {
+                memset(discards, other, sizeof discards);
+                discards[at] = (uint8_t)kind;
+                waits = waits_of(unfinished[n].hand, unfinished[n].length, discards, 30);
+                if (kind > 33) {
+                    CHECK_CASE(kind, no_waits(waits, HB_REFUSAL_DISCARD));
+                    continue;
+                }
+                wanted.furiten = wanted.waits[kind];
+                CHECK_CASE(kind, memcmp(&waits, &wanted, sizeof wanted) == 0);
+            }
+        }
+    }
+    for (size_t n = 0; n < COUNT_OF(unfit); n++) {
+        CHECK_CASE(n, no_waits(waits_of(unfit[n].hand, 9, over, 0), unfit[n].refusal));
+        CHECK_CASE(n, no_waits(waits_of(unfit[n].hand, 9, over, 3), unfit[n].refusal));
     }
 }
 
@@ -870,6 +964,7 @@ static void empty_slices(void)
     CHECK(is_refused(&scored, HB_REFUSAL_LENGTH));
     CHECK(written.refusal == HB_REFUSAL_BUFFER && written.len == 0);
     CHECK(hb_slip(&byte, 0, &byte, 0, 0, 0) == HB_REFUSAL_LENGTH && hb_slip(&byte, 0, table[0].record, 13, 0, 0) == HB_REFUSAL_PAGE);
+    CHECK(no_waits(hb_waits(&byte, 0, &byte, 0), HB_REFUSAL_LENGTH));
     CHECK(hb_win(&game, &byte, 0) == HB_REFUSAL_LENGTH && memcmp(&game, &fresh, sizeof game) == 0);
     CHECK(no_entry(hb_next(&byte, 0, 0), 0));
     CHECK(hb_book(&game, &byte, 0) == HB_REFUSAL_ENTRY && memcmp(&game, &fresh, sizeof game) == 0);
@@ -890,6 +985,7 @@ int main(void)
     refused_records();
     writing();
     slips_of_hands();
+    waits_of_hands();
     bookings();
     refused_bookings();
     marks();

@@ -1,14 +1,16 @@
 #!/usr/bin/env python3
-"""cost.py: what one Score costs, in instructions (valgrind --tool=callgrind) and in bytes of stack (frames of the compiled program).
+"""cost.py [--stack | --waits]: what one Score costs, in instructions (valgrind --tool=callgrind) and in bytes of stack (frames of the compiled program).
 
 It runs the program `vectors` (made by `rt check vectors floor`) on hands of crates/vectors/stdin. A figure is that of one entry: reading
 54 bytes, Score, and comparing. Mean: over the first 10,000 entries. Costliest found: the hands are measured in blocks, and those of the
 three costliest blocks one by one, so a costly hand among cheap ones can be missed.
 Stack: Score's own frame is inlined into its caller. The program `floor` has it, with Win, in the frame of its main, so that frame stands
 in for it; under it five frames of the search, the judge, and the largest other frame of the scorer, called there or not.
-Slip: what hb_slip takes beyond hb_score, by a C program over the archive (`rt staticlib handset`).
+Slip: what hb_slip takes beyond hb_score, by a C program over the archive (`rt staticlib handset`). Waits: what hb_waits takes, by
+another, over hands drawn from a wall, hands of one suit and hands one tile short of groups, 1,000 each from a fixed seed, and over
+hands of 3 to 5 neighbouring numbers, the widest searches that a climb over hands found.
 """
-import os, re, subprocess, sys, tempfile
+import os, random, re, subprocess, sys, tempfile
 here = os.path.join(os.path.dirname(os.path.abspath(__file__)), "..")
 program = os.path.join(here, "target/bin/vectors")
 data = open(os.path.join(here, "crates/vectors/stdin"), "rb").read()
@@ -49,6 +51,67 @@ def slips():
         for line, record in ((1, "b81e640210620a31661a9a6bb0"), (9, "201e60000005965acb2cc30d34")):
             each = {s: (run(1001, s, record) - run(1, s, record)) // 1000 for s in "01"}
             print(f"slip of line {line}: {each['1'] - each['0']} instructions beyond its Score, {each['0']}")
+
+
+WAITS = """#include "herbassolh.h"
+#include <stdio.h>
+int main(void) {
+    uint8_t hand[12];
+    while (fread(hand, 1, 12, stdin) == 12)
+        if (hb_waits(hand + 1, hand[0], hand, 0).refusal) return 1;
+    return 0;
+}
+"""
+
+
+def unfinished(tiles):
+    """An unfinished hand without melds: its length and its bytes."""
+    bits = "000" + "".join(f"{tile:06b}" for tile in sorted(tiles)) + "0000000"
+    return bytes([11]) + bytes(int(bits[i:i + 8], 2) for i in range(0, 88, 8))
+
+
+def drawn(kinds, first):
+    """13 tiles from a wall of so many kinds."""
+    return [first + tile // 4 for tile in random.sample(range(4 * kinds), 13)]
+
+
+def short():
+    """A pair and four groups, a tile short."""
+    while True:
+        tiles = [random.randrange(34)] * 2
+        for _ in range(4):
+            low = 9 * random.randrange(3) + random.randrange(7)
+            tiles += [low, low + 1, low + 2] if random.randrange(5) < 3 else [random.randrange(34)] * 3
+        if max(map(tiles.count, tiles)) <= 4:
+            tiles.pop(random.randrange(14))
+            return tiles
+
+
+def waits():
+    """What Waits takes: means, and the costliest found."""
+    random.seed(1)
+    sets = {"drawn from a wall": [drawn(34, 0) for _ in range(1000)], "of one suit": [drawn(9, 9 * (n % 3)) for n in range(1000)],
+            "a tile short of groups": [short() for _ in range(1000)]}
+    wide = [[low + tile for tile in shape] for low in range(27) for shape in
+            ([0] * 3 + [1] * 4 + [2] * 4 + [3] * 2, [0] * 3 + [1] * 3 + [2] * 3 + [3] * 3 + [4], [0] * 3 + [1] * 4 + [2] * 3 + [3] * 2 + [4])
+            if low % 9 + shape[-1] < 9]
+    with tempfile.TemporaryDirectory() as d:
+        archive = os.path.join(here, "target/staticlib/libhandset.a")
+        subprocess.run(["gcc", "-O2", "-x", "c", "-", "-x", "none", archive, "-I", os.path.join(here, "include"), "-o", f"{d}/waits"],
+                       input=WAITS.encode(), check=True)
+
+        def run(hands):
+            r = subprocess.run(["valgrind", "--tool=callgrind", f"--callgrind-out-file={d}/out", f"{d}/waits"],
+                               input=b"".join(map(unfinished, hands)), capture_output=True, check=True)
+            return int(re.search(rb"Collected : (\d+)", r.stderr).group(1))
+        base = run([])
+        most = max(run([hand]) - base for hand in wide)
+        for name, hands in sets.items():
+            blocks = [hands[i:i + 20] for i in range(0, 1000, 20)]
+            cost = sorted((run(block) - base, k) for k, block in enumerate(blocks))
+            most = max([most] + [run([hand]) - base for _, k in cost[-2:] for hand in blocks[k]])
+            print(f"waits of 1,000 hands {name}: mean {sum(c for c, _ in cost) // 1000} instructions")
+        print(f"costliest waits found: {most} instructions")
 
 
 def one_suit(e):
@@ -96,7 +159,9 @@ def stack():
 
 
 stack()
-if "--stack" not in sys.argv:
+if "--waits" in sys.argv:
+    waits()
+elif "--stack" not in sys.argv:
     base = instructions([])
     first = entries[:10000]
     print(f"mean over 10,000 mixed entries: {(instructions(first) - base) // 10000} instructions")
@@ -104,3 +169,4 @@ if "--stack" not in sys.argv:
     suit = [e for e in entries if one_suit(e)]
     print(f"costliest found of {len(suit)} one-suit hands: {worst(suit, base, 20):.0f} instructions")
     slips()
+    waits()

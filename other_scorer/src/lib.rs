@@ -12,6 +12,8 @@ pub mod slip;
 pub mod sound;
 pub mod tiles;
 pub mod turn;
+pub mod unfinished;
+pub mod waits;
 pub mod win;
 pub mod yaku;
 pub mod yakuman;

@@ -8,6 +8,8 @@ ghost use Rattle.hand_record.specs.Record.{readHandOf, writtenOf, bufferOf};
 ghost use Rattle.score.specs.IsScore.{IsScore};
 ghost use Rattle.score.specs.Score.{scoreOf};
 ghost use Rattle.slip.specs.Slip.{slipRefusal, slipPage};
+ghost use Rattle.waits.specs.Waits.{IsWaits};
+ghost use Rattle.waits.specs.Answer.{waitsOf};
 ghost use Rattle.ledger.specs.Booking as Booking;
 ghost use Rattle.ledger.specs.Ledger.{fresh};
 ghost use Rattle.ledger.specs.Runs.{Booked};
@@ -20,6 +22,7 @@ use ledger::Game;
 use play::Printed;
 use play::Walk;
 use score::Scored;
+use waits::Waits;
 
 // What Next entry gives: an entry with its letter in `tally` and its length, header included; the log's end; or refusal 14. Else all zero.
 #[repr(C)]
@@ -65,6 +68,15 @@ pub extern "C" fn hb_slip(page: &mut [u8], s: &[u8], dealer: u8, wind: u8) -> u8
     ensures { λ _. ⌜ now (page .exit) ≡ slipPage (scoreOf (now (s .entry)) dealer wind) (now (page .entry)) ⌝ }
 {
     slip::slip(page, s, dealer, wind)
+}
+
+// Waits: the kinds that an unfinished hand waits for, and whether it is in furiten by a list of discards; or the refusal.
+#[no_mangle]
+pub extern "C" fn hb_waits(s: &[u8], discards: &[u8]) -> Waits
+    ensures { λ r. ⌜ IsWaits (now (s .entry)) (now (discards .entry)) r ⌝ }
+    ensures { λ r. ⌜ r ≡ waitsOf (now (s .entry)) (now (discards .entry)) ⌝ }
+{
+    waits::find(s, discards)
 }
 
 // A game before its first booking.

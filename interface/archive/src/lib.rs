@@ -101,6 +101,32 @@ pub struct Scored {
     pub changes: [i32; 4],
 }
 
+/// Kind k at index k; shown as those that are waits.
+#[repr(transparent)]
+#[derive(Clone, Copy, PartialEq, Eq)]
+pub struct Kinds(pub [u8; 34]);
+
+impl Kinds {
+    /// The kinds that are waits.
+    pub fn list(&self) -> Vec<u8> {
+        (0..34).filter(|&kind| self.0[kind as usize] != 0).collect()
+    }
+}
+
+impl fmt::Debug for Kinds {
+    fn fmt(&self, f: &mut fmt::Formatter) -> fmt::Result {
+        f.debug_map().entries(self.list().iter().map(|&kind| (kind, self.0[kind as usize]))).finish()
+    }
+}
+
+#[repr(C)]
+#[derive(Clone, Copy, Debug, PartialEq, Eq)]
+pub struct Waits {
+    pub refusal: u8,
+    pub waits: Kinds,
+    pub furiten: u8,
+}
+
 #[repr(C)]
 #[derive(Clone, Copy, Debug, PartialEq, Eq)]
 pub struct Game {
@@ -173,6 +199,7 @@ extern "C" {
     fn hb_write(hand: Hand, buffer: *mut u8, len: usize) -> Written;
     fn hb_score(record: *const u8, len: usize, dealer: u8, wind: u8) -> Scored;
     fn hb_slip(page: *mut u8, page_len: usize, record: *const u8, len: usize, dealer: u8, wind: u8) -> u8;
+    fn hb_waits(hand: *const u8, len: usize, discards: *const u8, discards_len: usize) -> Waits;
     fn hb_fresh() -> Game;
     fn hb_riichi(game: &mut Game, seat: u8) -> u8;
     fn hb_win(game: &mut Game, record: *const u8, len: usize) -> u8;
@@ -206,6 +233,11 @@ pub fn score(record: &[u8], dealer: u8, wind: u8) -> Scored {
 /// A slip.
 pub fn slip(page: &mut [u8], record: &[u8], dealer: u8, wind: u8) -> u8 {
     unsafe { hb_slip(page.as_mut_ptr(), page.len(), record.as_ptr(), record.len(), dealer, wind) }
+}
+
+/// Waits.
+pub fn waits(hand: &[u8], discards: &[u8]) -> Waits {
+    unsafe { hb_waits(hand.as_ptr(), hand.len(), discards.as_ptr(), discards.len()) }
 }
 
 /// A game at its start.

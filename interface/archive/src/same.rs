@@ -92,6 +92,14 @@ pub fn kept(scored: &archive::Scored, m: u8) -> archive::Scored {
     kept
 }
 
+/// What Waits should give (02, S-1).
+pub fn waits(bytes: &[u8], discards: &[u8]) -> archive::Waits {
+    let found = other_scorer::waits::find(bytes, discards);
+    let mut waits = [0; 34];
+    found.waits.iter().for_each(|&kind| waits[kind as usize] = 1);
+    archive::Waits { refusal: found.refusal, waits: archive::Kinds(waits), furiten: found.furiten as u8 }
+}
+
 /// A game in the archive's form.
 pub fn game(game: &other_scorer::Game) -> archive::Game {
     archive::Game {

@@ -1,4 +1,4 @@
-//! Random records and hands through Read, Write, Score and the slip.
+//! Random records and hands through Read, Write, Score, the slip and Waits.
 
 use archive::same;
 use other_scorer::codec::{pack, unpack};
@@ -12,6 +12,7 @@ use other_scorer::score;
 use crate::report::Report;
 use crate::slips;
 use crate::turns;
+use crate::waits;
 
 /// The longest buffer lent to Write; a few bytes more are looked at behind it.
 const BUFFER: usize = 16;
@@ -96,7 +97,7 @@ fn compare_write(report: &mut Report, rng: &mut Rng, hand: &archive::Hand) {
     }
 }
 
-/// Compares the four calls for one input.
+/// Compares the five calls for one input.
 fn compare(report: &mut Report, rng: &mut Rng, index: usize) {
     let (record, dealer, wind, scored) = input(rng, index);
     let read = archive::read(&record);
@@ -128,6 +129,8 @@ fn compare(report: &mut Report, rng: &mut Rng, index: usize) {
 
     let hand = hand(rng, &record);
     compare_write(report, rng, &hand);
+
+    waits::compare(report, rng);
 }
 
 /// Compares so many random inputs.

@@ -8,6 +8,7 @@ mod logs;
 mod report;
 mod slips;
 mod turns;
+mod waits;
 
 // The generators of random bookings and games that the other scorer's own tests use.
 #[path = "../../../other_scorer/tests/chance/mod.rs"]

@@ -1,6 +1,6 @@
 //! The proved core, each answer compared with the other scorer's.
 
-use archive::{same, Differences, NextEntry, ReadHand, Scored, Written, RECORD_MAX};
+use archive::{same, Differences, NextEntry, ReadHand, Scored, Waits, Written, RECORD_MAX};
 use other_scorer::log::tally_lines;
 use other_scorer::notation::hex::to_hex;
 use other_scorer::{score, slip, Hand};
@@ -54,6 +54,14 @@ impl Core {
         let input = || format!("{} dealer {dealer} wind {wind}, page of {length}", to_hex(record));
         self.differences.same("a slip", (answer, &core), (wanted, &other), input);
         (answer, core)
+    }
+
+    /// Waits.
+    pub fn waits(&mut self, bytes: &[u8], discards: &[u8]) -> Waits {
+        let answer = archive::waits(bytes, discards);
+        let input = || format!("{} discards {}", to_hex(bytes), to_hex(discards));
+        self.differences.same("Waits", answer, same::waits(bytes, discards), input);
+        answer
     }
 
     /// Next entry.

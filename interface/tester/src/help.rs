@@ -9,6 +9,7 @@ tester COMMAND WORDS: asks the proved core, and compares every answer with the o
   turn       a hand keyed from another side of the table: both scores side by side
   rename     a hand with its suits renamed: both scores side by side
   slip       the slip of a hand for the club book, six lines
+  waits      what an unfinished hand waits for, and furiten
   log        a text of bookings to the bytes of a log, or back
   tally      a log's bookings one after the other, and the game after each
   damage     a record or a log damaged in every way: refusals counted, both scorers compared
@@ -76,6 +77,21 @@ HAND as for `tester hand`. Prints the slip that the core writes for the counter 
   page=N     lends a page of N bytes instead of 150
 
 For scripts: the lines of `hand` up to why, slip with its refusal, the six lines as they are, differences.
+";
+
+pub const WAITS: &str = "\
+tester waits TILES [MELDS] [discards=TILES] [--plain]
+tester waits HEX [discards=TILES] [--plain]
+
+  TILES           13 concealed tiles, three fewer for each meld, as for `tester hand`: 567m22456p67s
+  chi=234m pon=555p kan=EEEE ankan=9999s     melds; ankan is a closed kan
+  discards=TILES  the player's own discards, such as discards=N8s4m
+  kinds=HEX       the discards as bytes instead, one kind a byte, to see one over 33 refused
+  HEX             the hand's bytes instead, in one word or more
+
+Prints the kinds that the hand waits for, yaku or not, and whether it is in furiten, with the discards that are waits.
+
+For scripts: notation, bytes, discards (hexadecimal), refusal, why, waits, furiten (1 or 0), differences.
 ";
 
 pub const LOG: &str = "\

@@ -6,7 +6,7 @@ use other_scorer::log::{size, ENTRY_FAULTS};
 use other_scorer::notation::text;
 use other_scorer::score::valued;
 use other_scorer::sound::{field_faults, situation_faults, FIELD_FAULTS, SITUATION_FAULTS};
-use other_scorer::{Booking, Game, Hand};
+use other_scorer::{unfinished, Booking, Game};
 
 use crate::names::count;
 
@@ -31,6 +31,7 @@ pub fn refusal(number: u8) -> &'static str {
         12 => "a declared seat is not ready",
         13 => "the buffer is shorter than the record",
         14 => "the log's entry is bad or cut",
+        15 => "a discard is no kind",
         16 => "the page is shorter than a slip",
         _ => "no refusal of documents 01 and 02",
     }
@@ -50,15 +51,14 @@ fn holding(words: &[&str], holds: &[bool]) -> Vec<String> {
     words.iter().zip(holds).filter(|(_, holds)| **holds).map(|(word, _)| word.to_string()).collect()
 }
 
-/// Where the concealed tiles descend.
-fn descents(hand: &Hand) -> Vec<String> {
-    let two = hand.concealed().windows(2).filter(|two| two[0] > two[1]);
+/// Where concealed tiles descend.
+fn descents(concealed: &[u8]) -> Vec<String> {
+    let two = concealed.windows(2).filter(|two| two[0] > two[1]);
     two.map(|two| format!("{} after {}", text(&two[1..]), text(&two[..1]))).collect()
 }
 
 /// The kinds seen over four times.
-fn over_four(hand: &Hand) -> Vec<String> {
-    let seen = hand.seen();
+fn over_four(seen: &[u8]) -> Vec<String> {
     let times = |kind: u8| seen.iter().filter(|&&tile| tile == kind).count();
     (0..34).filter(|&kind| times(kind) > 4).map(|kind| format!("{} of {}", times(kind), text(&[kind]))).collect()
 }
@@ -81,11 +81,32 @@ pub fn of_record(refusal: u8, record: &[u8], dealer: u8, wind: u8) -> Vec<String
     };
     match refusal {
         2 => holding(&FIELD_FAULTS, &[&field_faults(&hand)[..], &[padding]].concat()),
-        3 => descents(&hand),
-        4 => over_four(&hand),
+        3 => descents(hand.concealed()),
+        4 => over_four(&hand.seen()),
         5 => holding(&SITUATION_FAULTS, &situation_faults(&hand)),
         6 => vec!["neither a pair and groups, nor seven pairs, nor thirteen orphans".into()],
         7 => vec![count(valued(&hand, dealer, wind).len(), "reading")],
+        _ => Vec::new(),
+    }
+}
+
+/// The conditions met by the refusal of an unfinished hand with discards (02, S-1).
+pub fn of_unfinished(refusal: u8, bytes: &[u8], discards: &[u8]) -> Vec<String> {
+    let Ok((hand, padding)) = unfinished::unpack(bytes) else {
+        return match unfinished::length_fault(bytes) {
+            Some(2) => {
+                let m = bytes[0] >> 5;
+                let (melds, needed) = (count(m as usize, "meld"), unfinished::length(m));
+                vec![format!("{}: {} bytes, with {melds} {needed} are needed", unfinished::LENGTH_FAULTS[2], bytes.len())]
+            }
+            fault => fault.map(|fault| unfinished::LENGTH_FAULTS[fault].to_string()).into_iter().collect(),
+        };
+    };
+    match refusal {
+        2 => holding(&unfinished::FIELD_FAULTS, &[&unfinished::field_faults(&hand)[..], &[padding]].concat()),
+        3 => descents(hand.concealed()),
+        4 => over_four(&hand.held()),
+        15 => discards.iter().filter(|&&kind| kind > 33).map(|kind| format!("{kind} over 33")).collect(),
         _ => Vec::new(),
     }
 }

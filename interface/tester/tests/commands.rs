@@ -81,6 +81,38 @@ SEAT 3             -2000
 }
 
 #[test]
+fn waits_of_unfinished_hands() {
+    for typed in ["67s567m22456p chi=234m", "20220a31451869cbb0", "20 22 0a31451869cbb0"] {
+        let out = answer(&format!("waits {typed} discards=N8s4m8s"));
+        let wanted = "\
+hand       567m22456p67s chi=234m
+discards   N8s4m8s
+bytes      20220a31451869cbb0, 9 bytes
+answer     accepted
+waits      58s
+furiten    yes, by 8s
+
+both scorers agree
+";
+        assert_eq!(out, wanted);
+    }
+    for (typed, lines) in [
+        ("1112345678999m", "discards\nrefusal 0\nwaits 123456789m\nfuriten 0\n"),
+        ("19m19p19sESWNPFC kinds=0c", "discards 0c\nrefusal 0\nwaits 19m19p19sESWNPFC\nfuriten 0\n"),
+        ("1111567m234678p discards=1m", "discards 00\nrefusal 0\nwaits\nfuriten 0\n"),
+        ("E ankan=5555s pon=111m pon=222m pon=333m discards=E", "discards 1b\nrefusal 0\nwaits E\nfuriten 1\n"),
+        ("5555m5m1234p1234s kinds=ff", "discards ff\nrefusal 4\nwhy 5 of 5m\nwaits\nfuriten 0\n"),
+        ("1112345678999m kinds=0022", "discards 0022\nrefusal 15\nwhy 34 over 33\nwaits\nfuriten 0\n"),
+        ("20220a31451869cbb1", "discards\nrefusal 2\nwhy a padding bit set\nwaits\nfuriten 0\n"),
+        ("20228831451869cbb0", "discards\nrefusal 3\nwhy 5m after 6m\nwaits\nfuriten 0\n"),
+        ("a0", "discards\nrefusal 1\nwhy m over 4\nwaits\nfuriten 0\n"),
+    ] {
+        let out = answer(&format!("waits {typed} --plain"));
+        assert!(out.ends_with(&format!("{lines}differences 0\n")), "{out}");
+    }
+}
+
+#[test]
 fn items_of_fu_by_name() {
     for (hand, rows) in [
         (
@@ -353,7 +385,7 @@ fn damage_counts_refusals() {
 #[test]
 fn help_for_the_tool_and_each_command() {
     let tool = answer("--help");
-    for command in ["hand", "readings", "turn", "rename", "log", "tally", "damage"] {
+    for command in ["hand", "readings", "turn", "rename", "waits", "log", "tally", "damage"] {
         assert!(tool.contains(&format!("\n  {command} ")));
         let help = answer(&format!("{command} --help"));
         assert!(help.starts_with(&format!("tester {command} ")) && help.contains("--plain"));

@@ -12,8 +12,8 @@ fn fails(line: &str, input: &str, message: &str) {
 
 #[test]
 fn of_the_tool() {
-    fails("", "", "no command: hand, readings, turn, rename, slip, log, tally or damage; --help says more");
-    fails("hands", "", "word 1, \"hands\": no command; there are hand, readings, turn, rename, slip, log, tally and damage");
+    fails("", "", "no command: hand, readings, turn, rename, slip, waits, log, tally or damage; --help says more");
+    fails("hands", "", "word 1, \"hands\": no command; there are hand, readings, turn, rename, slip, waits, log, tally and damage");
 }
 
 #[test]
@@ -52,6 +52,25 @@ fn of_a_turn_and_a_renaming() {
     for suits in ["", "m", "mpp", "psmm", "mpz"] {
         let message = format!("word 5, \"suits={suits}\": what m, p and s become is needed, such as psm");
         fails(&format!("rename {hand} suits={suits}"), "", &message);
+    }
+}
+
+#[test]
+fn of_an_unfinished_hand() {
+    let tiles = "567m22456p67s";
+    for (words, message) in [
+        ("", "after word 1, \"waits\": no hand, such as 567m22456p67s chi=234m".to_string()),
+        ("202", "word 2, \"202\": two hexadecimal digits make a byte, one is left over".into()),
+        (tiles, format!("after word 2, \"{tiles}\": 10 tiles, with 0 melds 13 are needed")),
+        (&format!("{tiles} chi=234m pon=EEE"), "after word 4, \"pon=EEE\": 10 tiles, with 2 melds 7 are needed".into()),
+        (&format!("{tiles} chi=89m1p"), "word 3, \"chi=89m1p\": three neighbours of one suit, such as 234m, are needed".into()),
+        (&format!("{tiles} chi=234m seat=1"), "word 4, \"seat=1\": seat= is no option here".into()),
+        (&format!("{tiles} chi=234m discards=8"), "word 4, \"discards=8\": the last digits of \"8\" have no suit m, p, s or z".into()),
+        (&format!("{tiles} chi=234m kinds=1"), "word 4, \"kinds=1\": 1: two hexadecimal digits are needed for each byte".into()),
+        (&format!("{tiles} chi=234m kinds=19 discards=8s"), "discards= and kinds= say the same, one of them is enough".into()),
+        (&format!("{tiles} chi=234m --plian"), "word 4, \"--plian\": no option here; --help lists them".into()),
+    ] {
+        fails(&format!("waits {words}"), "", &message);
     }
 }
 

@@ -4,6 +4,7 @@ pub mod hex;
 pub mod parse;
 pub mod print;
 pub mod tiles;
+pub mod unfinished;
 
 pub use parse::{parse, Fault};
 pub use print::print;

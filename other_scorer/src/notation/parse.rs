@@ -55,8 +55,19 @@ fn one(text: &str) -> Result<u8, String> {
     }
 }
 
+/// The kind of a meld by its word.
+pub(super) fn meld_kind(key: &str) -> Result<u8, String> {
+    match key.to_ascii_lowercase().as_str() {
+        "chi" => Ok(CHI),
+        "pon" => Ok(PON),
+        "kan" => Ok(OPEN_KAN),
+        "ankan" => Ok(CLOSED_KAN),
+        _ => Err(format!("{key}= is no option here")),
+    }
+}
+
 /// A meld of a kind from its tiles in any order.
-fn meld(kind: u8, text: &str) -> Result<Meld, String> {
+pub(super) fn meld(kind: u8, text: &str) -> Result<Meld, String> {
     let mut list = tiles(text)?;
     list.sort();
     let tile = list.first().copied().unwrap_or(0);
@@ -87,12 +98,8 @@ impl Draft {
             "seat" => return set(&mut self.seat, at, seat(value)?),
             "ron" => return set(&mut self.win, at, (RON, seat(value)?)),
             "indicator" => return set(&mut self.indicator, at, one(value)?),
-            "chi" => CHI,
-            "pon" => PON,
-            "kan" => OPEN_KAN,
-            "ankan" => CLOSED_KAN,
             "dora" => return Err("the tile turned up is indicator=, dora is the next one".into()),
-            _ => return Err(format!("{key}= is no option here")),
+            _ => meld_kind(key)?,
         };
         if self.melds.len() == 4 {
             return Err("a fifth meld, at most 4 fit".into());

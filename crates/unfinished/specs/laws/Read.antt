@@ -1,0 +1,99 @@
+-- What `readOf` comes to, case by case.
+use Prim.Native.Nat.{ℕ, zero, suc, _+_, _*_, _-_, _≤_, _<_}
+use mathlib.Core.Path.{_≡_, refl, ap}
+use mathlib.Core.Bool.{false, _||_, cond, not}
+use mathlib.Core.List.{List, [], _∷_}
+use native.Mathlib.Omega.{arith}
+use borrow.Author.Tests.{ltb-false, le-ltb, eqb-true, eqb-false, eq-eqb, ne-eqb, not-false}
+use lib.Dec.{ltb, eqb}
+use lib.ListN.{length, getD, take}
+use Rattle.tiles.specs.laws.Below.{or-both}
+use Rattle.bits.specs.Bits.{eights, bitsOf, val, fill}
+use Rattle.bits.specs.laws.Pack.{length-bitsOf, part-fill, sum-replicate}
+use Rattle.hand.specs.declared.Held.{Held}
+use Rattle.hand_record.specs.Record.{sixes, meldsOf, tilesOf, heldIn, paddingAfter, noneHeld}
+use Rattle.hand_record.specs.laws.Read.{bool-true}
+use Rattle.unfinished.specs.declared.Unfinished.{Unfinished}
+use Rattle.unfinished.specs.Unfinished.{lengthOf, padOf, countIn, heldOf, paddingOf, wrongLength, heldRefusal, refusalOf, readOf}
+
+-- a refused input
+abbrev pub refusedWith : ℕ → Unfinished
+refusedWith n = record { refusal = n; held = noneHeld }
+
+-- the tiles held, or why they are refused
+unfoldable pub givenBy : Held → ℕ → Unfinished
+givenBy x padding = cond (ltb 0 (heldRefusal x padding)) (refusedWith (heldRefusal x padding)) (record { refusal = 0; held = x })
+
+-- the widths fill the bytes
+pub whole : (m : ℕ) → m ≤ 4
+    → (3 + 8 * m + 6 * (13 - 3 * m) + padOf m ≡ 8 * lengthOf m) × (81 - 10 * m + padOf m ≡ 8 * lengthOf m) × (padOf m < 8) × (lengthOf m ≤ 13) × (0 < lengthOf m)
+whole zero h = (refl, refl, omega arith, omega arith, omega arith)
+whole (suc zero) h = (refl, refl, omega arith, omega arith, omega arith)
+whole (suc (suc zero)) h = (refl, refl, omega arith, omega arith, omega arith)
+whole (suc (suc (suc zero))) h = (refl, refl, omega arith, omega arith, omega arith)
+whole (suc (suc (suc (suc zero)))) h = (refl, refl, omega arith, omega arith, omega arith)
+whole (suc (suc (suc (suc (suc m))))) h = absurd (omega arith)
+
+-- a length of n bytes is right for m melds
+pub record RightLength (n m : ℕ) : Type 0 where
+  pub some : 0 < n
+  pub few : m ≤ 4
+  pub right : n ≡ lengthOf m
+
+pub length-of : (n m : ℕ) → wrongLength n m ≡ false → RightLength n m
+length-of n m e =
+    let p = or-both (eqb n 0 || ltb 4 m) (not (eqb n (lengthOf m))) e in
+    let q = or-both (eqb n 0) (ltb 4 m) (p .0) in
+    let z : n ≡ 0 → ⊥ = eqb-false n 0 (q .0) in
+    record { some = omega arith; few = ltb-false 4 m (q .1); right = eqb-true n (lengthOf m) (not-false (eqb n (lengthOf m)) (p .1)) }
+
+pub length-right : (n m : ℕ) → RightLength n m → wrongLength n m ≡ false
+length-right n m f =
+    let z : n ≡ 0 → ⊥ = λ q. omega (arith, f .some) in
+    rw (ne-eqb n 0 z, le-ltb 4 m (f .few), eq-eqb n (lengthOf m) (f .right))
+
+-- refusal 1
+pub read-not : (s : List ℕ) → (RightLength (length s) (countIn s) → ⊥) → refusedWith 1 ≡ readOf s
+unfolding readOf refusalOf
+read-not s h = rw (bool-true (wrongLength (length s) (countIn s)) (λ e. h (length-of _ _ e)))
+
+-- an input of the right length
+by-bits : (s : List ℕ) → RightLength (length s) (countIn s) → givenBy (heldOf s) (paddingOf s) ≡ readOf s
+unfolding readOf refusalOf givenBy
+by-bits s f = rw (length-right (length s) (countIn s) f)
+
+-- from its bits with zeros after them
+module _ (s b : List ℕ) (e : b ≡ fill 104 (bitsOf s)) where
+  pub count-fill : 0 < length s → val 0 (take 3 b) ≡ countIn s
+  unfolding countIn
+  count-fill h = rw e (ap (λ (l : List ℕ). getD l 0 0) (part-fill 104 0 (3 ∷ []) (bitsOf s) (omega (arith, length-bitsOf s))))
+
+  module _ (m : ℕ) (f : RightLength (length s) m) where
+    melds-fill : meldsOf 3 m b ≡ meldsOf 3 m (bitsOf s)
+    unfolding meldsOf
+    melds-fill = rw e (part-fill 104 3 (eights m) (bitsOf s) (omega (arith, sum-replicate m 8, whole m (f .few), length-bitsOf s, f .right)))
+
+    tiles-fill : tilesOf 3 m b ≡ tilesOf 3 m (bitsOf s)
+    unfolding tilesOf
+    tiles-fill =
+        rw e
+        (part-fill 104 (3 + 8 * m) (sixes (13 - 3 * m)) (bitsOf s)
+        (omega (arith, sum-replicate (13 - 3 * m) 6, whole m (f .few), length-bitsOf s, f .right)))
+
+    held-fill : heldIn 3 m b ≡ heldIn 3 m (bitsOf s)
+    unfolding heldIn
+    held-fill = rw (melds-fill, tiles-fill)
+
+    padding-fill : paddingAfter 3 m (padOf m) b ≡ paddingAfter 3 m (padOf m) (bitsOf s)
+    unfolding paddingAfter
+    padding-fill =
+        rw e
+        (ap (λ (l : List ℕ). getD l 0 0)
+        (part-fill 104 (3 + 8 * m + 6 * (13 - 3 * m)) (padOf m ∷ []) (bitsOf s) (omega (arith, whole m (f .few), length-bitsOf s, f .right))))
+
+    -- over what the reader's calls gave
+    pub read-by : m ≡ countIn s → givenBy (heldIn 3 m b) (paddingAfter 3 m (padOf m) b) ≡ readOf s
+    read-by em = rw (held-fill, padding-fill) (whole-read em)
+      where
+        whole-read : m ≡ countIn s → givenBy (heldIn 3 m (bitsOf s)) (paddingAfter 3 m (padOf m) (bitsOf s)) ≡ readOf s
+        whole-read em = rw em (by-bits s (rw em at f))

@@ -1,0 +1,4 @@
+pub mod Found
+pub mod Exact
+pub mod Claims
+pub mod Examples

@@ -1,0 +1,28 @@
+-- Unfinished hands with their waits.
+use mathlib.Core.Path.{_≡_, refl, sym, _∙_}
+use mathlib.Core.Bool.{true, _||_}
+use mathlib.Core.List.{[], _∷_}
+use lib.Dec.{eqb}
+use Rattle.tiles.specs.Below.{every, some, number, tabulate}
+use Rattle.tiles.specs.Groups.{at, isGroup}
+use Rattle.tiles.specs.Tally.{tallyOf}
+use Rattle.hand.specs.Held.{meldHolds, inMelds, inOthers, inHeld, tileOver33, wrongHeld, descends, overFour}
+use Rattle.hand_record.specs.Record.{meldsOf, tilesOf, heldIn, paddingAfter}
+use Rattle.reading.specs.Reading.{isSevenPairs, isOrphans}
+use Rattle.reading.specs.search.Readings.{isEmpty, less, fits, without}
+use Rattle.splits.specs.search.Parts.{lowest, partAt, isParts}
+use Rattle.unfinished.specs.Unfinished.{countIn, heldRefusal, refusalOf}
+use Rattle.waits.specs.Waits.{withOne}
+use Rattle.waits.specs.Answer.{waitsOf, one-answer}
+use Rattle.waits.specs.search.Found.{reads, isWait, waitSet, foundOf}
+use Rattle.waits.specs.laws.Exact.{found}
+
+-- chi 234m, 567m 22456p 67s (docs/RECORDS.md) waits for 5s and 8s, 22 and 25; 8s was discarded
+two-sided : foundOf (32 ∷ 34 ∷ 10 ∷ 49 ∷ 69 ∷ 24 ∷ 105 ∷ 203 ∷ 176 ∷ []) (30 ∷ 25 ∷ 3 ∷ [])
+    ≡ record { refusal = 0; waits = tabulate 34 0 (λ k. eqb k 22 || eqb k 25); furiten = true }
+unfolding every some number at isGroup tallyOf meldHolds inMelds inOthers inHeld tileOver33 wrongHeld descends overFour meldsOf tilesOf heldIn paddingAfter countIn heldRefusal refusalOf isSevenPairs isOrphans isEmpty less fits without lowest partAt isParts withOne reads isWait waitSet foundOf
+two-sided = refl
+
+pub worked : waitsOf (32 ∷ 34 ∷ 10 ∷ 49 ∷ 69 ∷ 24 ∷ 105 ∷ 203 ∷ 176 ∷ []) (30 ∷ 25 ∷ 3 ∷ [])
+    ≡ record { refusal = 0; waits = tabulate 34 0 (λ k. eqb k 22 || eqb k 25); furiten = true }
+worked = sym (one-answer _ _ (foundOf _ _) (found _ _)) ∙ two-sided

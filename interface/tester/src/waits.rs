@@ -1,0 +1,91 @@
+//! `waits`: what an unfinished hand waits for, and whether it is in furiten.
+
+use other_scorer::notation::hex::{from_hex, to_hex};
+use other_scorer::notation::{text, tiles, unfinished};
+use other_scorer::unfinished::{pack, unpack, Unfinished};
+
+use crate::both::Core;
+use crate::input;
+use crate::names::count;
+use crate::page::Page;
+use crate::refusals::{of_unfinished, sentence};
+use crate::words::{Bad, Words};
+
+/// The bytes of notation or of hexadecimal digits.
+fn bytes(words: &Words) -> Result<Vec<u8>, Bad> {
+    words.no_options()?;
+    if let Some(bytes) = input::bytes(words) {
+        return bytes;
+    }
+    let texts = words.texts();
+    if texts.is_empty() {
+        return Err(words.bad(0, "no hand, such as 567m22456p67s chi=234m"));
+    }
+    let hand = unfinished::parse(&texts).map_err(|fault| words.bad(fault.word, fault.why))?;
+    Ok(pack(&hand))
+}
+
+/// The discards of a word discards=TILES or kinds=HEX.
+fn discards(words: &mut Words) -> Result<Vec<u8>, Bad> {
+    let by_tiles = words.take("discards", tiles)?;
+    let by_bytes = words.take("kinds", from_hex)?;
+    match (by_tiles, by_bytes) {
+        (Some(_), Some(_)) => Err(Bad::new("discards= and kinds= say the same, one of them is enough")),
+        (by_tiles, by_bytes) => Ok(by_tiles.or(by_bytes).unwrap_or_default()),
+    }
+}
+
+/// Kinds as tiles, or as numbers where one is no kind.
+fn kinds(list: &[u8]) -> String {
+    match list.iter().all(|&kind| kind < 34) {
+        _ if list.is_empty() => "none".into(),
+        true => text(list),
+        false => list.iter().map(u8::to_string).collect::<Vec<_>>().join(" "),
+    }
+}
+
+/// The fields of a hand that has no notation.
+fn fields(hand: &Unfinished) -> String {
+    let melds: Vec<String> = hand.melds().iter().map(|meld| format!(", meld {} {}", meld.kind, meld.tile)).collect();
+    let tiles: Vec<String> = hand.concealed().iter().map(u8::to_string).collect();
+    format!("m {}{}, concealed {}", hand.m, melds.concat(), tiles.join(" "))
+}
+
+/// The waits and furiten, or why there is no answer.
+pub fn run(core: &mut Core, mut words: Words) -> Result<String, Bad> {
+    let plain = words.take_flag("--plain");
+    let discards = discards(&mut words)?;
+    let bytes = bytes(&words)?;
+    let answer = core.waits(&bytes, &discards);
+    let met = of_unfinished(answer.refusal, &bytes, &discards);
+    let hand = unpack(&bytes).ok().map(|(hand, _)| hand);
+    let waits = answer.waits.list();
+
+    let mut page = Page::default();
+    if plain {
+        let padding = unpack(&bytes).is_ok_and(|(_, padding)| padding);
+        page.plain("notation", hand.as_ref().filter(|_| !padding).and_then(unfinished::print));
+        page.plain("bytes", [to_hex(&bytes)]);
+        page.plain("discards", [to_hex(&discards)]);
+        page.plain("refusal", [answer.refusal]);
+        met.iter().for_each(|why| page.plain("why", [why]));
+        page.plain("waits", (!waits.is_empty()).then(|| text(&waits)));
+        page.plain("furiten", [answer.furiten]);
+        page.plain("differences", [core.differences.count]);
+        return Ok(page.finish());
+    }
+    page.row("hand", hand.map_or("none".into(), |hand| unfinished::print(&hand).unwrap_or_else(|| fields(&hand))));
+    page.row("discards", kinds(&discards));
+    page.row("bytes", format!("{}, {}", to_hex(&bytes), count(bytes.len(), "byte")));
+    page.row("answer", sentence(answer.refusal, &met));
+    if answer.refusal == 0 {
+        let mut by: Vec<u8> = discards.into_iter().filter(|kind| waits.contains(kind)).collect();
+        by.sort();
+        by.dedup();
+        page.row("waits", kinds(&waits));
+        page.row("furiten", if answer.furiten == 0 { "no".into() } else { format!("yes, by {}", text(&by)) });
+    }
+    page.line("");
+    page.line(core.verdict());
+    Ok(page.finish())
+}
