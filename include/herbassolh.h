@@ -188,6 +188,13 @@ typedef struct {
     bool furiten;    /* "a discarded kind is a wait" */
 } HbWaits;
 
+/* What Ready gives: a refusal with all else zero, or 0, the swaps and a ready hand. */
+typedef struct {
+    uint8_t refusal;
+    uint8_t swaps;     /* "the fewest tiles that must be swapped for others"; "0 means ready" */
+    uint8_t hand[13];  /* "any one such hand that many swaps away": 13 - 3m kinds ascending beside the melds given, the rest 0 */
+} HbReady;
+
 /* The game, lent to each booking. Any bytes are a game; an accepted booking sets declared and over to 0 or 1. */
 typedef struct {
     int32_t scores[4];
@@ -238,6 +245,10 @@ uint8_t hb_slip(uint8_t *page, size_t page_len, const uint8_t *record, size_t re
  * a record, with "the player's own discards", one kind a byte. "A kind already held four times is never among them"; discards do not count
  * towards the four. Refusals 1 to 4, 15 in order. */
 HbWaits hb_waits(const uint8_t *hand, size_t hand_len, const uint8_t *discards, size_t discards_len);
+
+/* Ready. How many tiles of an unfinished hand, as Waits takes it, have to change until it waits for a kind, "melds kept and no kind over
+ * four held", with one such hand. Refusals 1 to 4 in order. */
+HbReady hb_ready(const uint8_t *hand, size_t hand_len);
 
 /* A game at its start: 30,000 each, all else 0. */
 HbGame hb_fresh(void);

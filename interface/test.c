@@ -29,7 +29,7 @@ static void sizes(void)
     CHECK(HB_RECORD_LENGTH(0) == 13 && HB_RECORD_LENGTH(1) == 12 && HB_RECORD_LENGTH(2) == 11);
     CHECK(HB_RECORD_LENGTH(3) == 10 && HB_RECORD_LENGTH(4) == 8);
     CHECK(HB_UNFINISHED_LENGTH(0) == 11 && HB_UNFINISHED_LENGTH(1) == 9 && HB_UNFINISHED_LENGTH(2) == 8);
-    CHECK(HB_UNFINISHED_LENGTH(3) == 7 && HB_UNFINISHED_LENGTH(4) == 6 && sizeof(HbWaits) == 36);
+    CHECK(HB_UNFINISHED_LENGTH(3) == 7 && HB_UNFINISHED_LENGTH(4) == 6 && sizeof(HbWaits) == 36 && sizeof(HbReady) == 15);
     CHECK(sizeof(HbItems) == 10 && sizeof(HbScored) == 72);
     CHECK(sizeof(HbGame) == 28 && sizeof(HbWalk) == 48 && sizeof(HbPrinted) == 56);
 }
@@ -448,6 +448,87 @@ static void waits_of_hands(void)
         CHECK_CASE(n, no_waits(waits_of(unfit[n].hand, 9, over, 0), unfit[n].refusal));
         CHECK_CASE(n, no_waits(waits_of(unfit[n].hand, 9, over, 3), unfit[n].refusal));
     }
+}
+
+/* Unfinished hands that are not ready, and how many swaps they need. */
+static const struct {
+    uint8_t length, hand[11], swaps;
+} unready[] = {
+    {11, {0x00, 0x00, 0x00, 0x01, 0x86, 0x30, 0xc5, 0x14, 0x69, 0xa8, 0x00}, 2}, /* 1111m 44m 77m 22p 55p 8p: 1m is no two pairs */
+    {6, {0x88, 0x89, 0x29, 0x49, 0x62, 0x00}, 1},                                /* pon 555m, 111p, 222p, 333p, 5m: a fifth 5m */
+    {11, {0x00, 0x06, 0x31, 0x46, 0xa0, 0xa2, 0xed, 0x36, 0xe3, 0xaf, 0x00}, 6}, /* 147m 258p 369s ESWN */
+    {11, {0x00, 0x00, 0x00, 0x02, 0x0a, 0x31, 0x45, 0x98, 0x71, 0xe8, 0x00}, 1}, /* 1111567m 234678p: a fifth 1m */
+    {9, {0x3a, 0xc0, 0x02, 0x10, 0x62, 0x0a, 0x8a, 0x2a, 0xae}, 1},              /* closed kan 5555s, 123456m 99p 46s */
+};
+
+/* The melds of an unfinished hand, and a concealed tile of it. */
+static size_t melds_of(const uint8_t *hand) { return hand[0] >> 5; }
+
+static uint8_t tile_of(const uint8_t *hand, size_t i)
+{
+    uint8_t tile = 0;
+    for (size_t bit = 3 + 8 * melds_of(hand) + 6 * i, end = bit + 6; bit < end; bit++)
+        tile = (uint8_t)(tile << 1 | (hand[bit / 8] >> (7 - bit % 8) & 1));
+    return tile;
+}
+
+/* The answer for a hand in memory of just its length. */
+static HbReady ready_of(const uint8_t *hand, size_t length)
+{
+    uint8_t *copy = exact(hand, length);
+    HbReady ready = hb_ready(copy, length);
+    CHECK(memcmp(copy, hand, length) == 0);
+    free(copy);
+    return ready;
+}
+
+/* Whether it is a refusal with no swap and no tile. */
+static int no_ready(HbReady ready, uint8_t refusal)
+{
+    HbReady wanted = {0};
+    wanted.refusal = refusal;
+    return memcmp(&ready, &wanted, sizeof wanted) == 0;
+}
+
+/* Whether the hand given needs so many swaps by the answer, and the answer's hand is sound, waits for a kind, and lacks so many of its tiles. */
+static int is_ready_after(const uint8_t *hand, size_t length, uint8_t swaps)
+{
+    HbReady ready = ready_of(hand, length);
+    size_t tiles = 13 - 3 * melds_of(hand), some = 0, lacking = 0;
+    int more[64] = {0};
+    uint8_t near[11];
+    memcpy(near, hand, length);
+    for (size_t i = 0; i < tiles; i++) {
+        more[tile_of(hand, i)]++, more[ready.hand[i] % 64]--;
+        for (size_t at = 0, bit = 3 + 8 * melds_of(hand) + 6 * i; at < 6; at++, bit++) {
+            near[bit / 8] &= (uint8_t)~(0x80 >> bit % 8);
+            near[bit / 8] |= (uint8_t)((ready.hand[i] >> (5 - at) & 1) << (7 - bit % 8));
+        }
+    }
+    for (size_t i = tiles; i < 13; i++)
+        if (ready.hand[i] != 0)
+            return 0;
+    HbWaits waits = hb_waits(near, length, near, 0);
+    for (size_t kind = 0; kind < 34; kind++)
+        some += waits.waits[kind], lacking += more[kind] > 0 ? (size_t)more[kind] : 0;
+    return ready.refusal == 0 && ready.swaps == swaps && lacking == swaps && waits.refusal == 0 && some > 0;
+}
+
+/* Ready: swaps and a hand that near; refusals 1 to 4 in order. */
+static void ready_hands(void)
+{
+    for (size_t n = 0; n < COUNT_OF(unready); n++)
+        CHECK_CASE(n, is_ready_after(unready[n].hand, unready[n].length, unready[n].swaps));
+    for (size_t n = 0; n < COUNT_OF(unfinished); n++) {
+        CHECK_CASE(n, unfinished[n].count == 0 || is_ready_after(unfinished[n].hand, unfinished[n].length, 0));
+        for (size_t length = 0; length <= 14; length++) {
+            uint8_t longer[14] = {0};
+            memcpy(longer, unfinished[n].hand, 11);
+            CHECK_CASE(n, length == unfinished[n].length || no_ready(ready_of(longer, length), HB_REFUSAL_LENGTH));
+        }
+    }
+    for (size_t n = 0; n < COUNT_OF(unfit); n++)
+        CHECK_CASE(n, no_ready(ready_of(unfit[n].hand, 9), unfit[n].refusal));
 }
 
 /* Whether a game has these figures. */
@@ -965,6 +1046,7 @@ static void empty_slices(void)
     CHECK(written.refusal == HB_REFUSAL_BUFFER && written.len == 0);
     CHECK(hb_slip(&byte, 0, &byte, 0, 0, 0) == HB_REFUSAL_LENGTH && hb_slip(&byte, 0, table[0].record, 13, 0, 0) == HB_REFUSAL_PAGE);
     CHECK(no_waits(hb_waits(&byte, 0, &byte, 0), HB_REFUSAL_LENGTH));
+    CHECK(no_ready(hb_ready(&byte, 0), HB_REFUSAL_LENGTH));
     CHECK(hb_win(&game, &byte, 0) == HB_REFUSAL_LENGTH && memcmp(&game, &fresh, sizeof game) == 0);
     CHECK(no_entry(hb_next(&byte, 0, 0), 0));
     CHECK(hb_book(&game, &byte, 0) == HB_REFUSAL_ENTRY && memcmp(&game, &fresh, sizeof game) == 0);
@@ -986,6 +1068,7 @@ int main(void)
     writing();
     slips_of_hands();
     waits_of_hands();
+    ready_hands();
     bookings();
     refused_bookings();
     marks();

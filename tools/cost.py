@@ -1,5 +1,5 @@
 #!/usr/bin/env python3
-"""cost.py [--stack | --waits]: what one Score costs, in instructions (valgrind --tool=callgrind) and in bytes of stack (frames of the compiled program).
+"""cost.py [--stack | --waits | --ready]: what one Score costs, in instructions (valgrind --tool=callgrind) and in bytes of stack (frames of the compiled program).
 
 It runs the program `vectors` (made by `rt check vectors floor`) on hands of crates/vectors/stdin. A figure is that of one entry: reading
 54 bytes, Score, and comparing. Mean: over the first 10,000 entries. Costliest found: the hands are measured in blocks, and those of the
@@ -8,7 +8,8 @@ Stack: Score's own frame is inlined into its caller. The program `floor` has it,
 in for it; under it five frames of the search, the judge, and the largest other frame of the scorer, called there or not.
 Slip: what hb_slip takes beyond hb_score, by a C program over the archive (`rt staticlib handset`). Waits: what hb_waits takes, by
 another, over hands drawn from a wall, hands of one suit and hands one tile short of groups, 1,000 each from a fixed seed, and over
-hands of 3 to 5 neighbouring numbers, the widest searches that a climb over hands found.
+hands of 3 to 5 neighbouring numbers, the widest searches that a climb over hands found. Ready: what hb_ready takes, over 100 of each of
+those sets, and the frame of hb_ready in that program, with the one under it; what the C library takes is left out.
 """
 import os, random, re, subprocess, sys, tempfile
 here = os.path.join(os.path.dirname(os.path.abspath(__file__)), "..")
@@ -114,6 +115,28 @@ def waits():
         print(f"costliest waits found: {most} instructions")
 
 
+def ready():
+    """What Ready takes: means, the costliest found, and its frames."""
+    random.seed(1)
+    sets = {"drawn from a wall": [drawn(34, 0) for _ in range(100)], "of one suit": [drawn(9, 9 * (n % 3)) for n in range(100)],
+            "a tile short of groups": [short() for _ in range(100)]}
+    with tempfile.TemporaryDirectory() as d:
+        archive = os.path.join(here, "target/staticlib/libhandset.a")
+        program = WAITS.replace("hb_waits(hand + 1, hand[0], hand, 0)", "hb_ready(hand + 1, hand[0])")
+        subprocess.run(["gcc", "-O2", "-x", "c", "-", "-x", "none", archive, "-I", os.path.join(here, "include"), "-o", f"{d}/ready"],
+                       input=program.encode(), check=True)
+
+        def run(hands):
+            r = subprocess.run(["valgrind", "--tool=callgrind", f"--callgrind-out-file={d}/out", f"{d}/ready"],
+                               input=b"".join(map(unfinished, hands)), capture_output=True, check=True)
+            return int(re.search(rb"Collected : (\d+)", r.stderr).group(1))
+        base = run([])
+        for name, hands in sets.items():
+            print(f"ready of 100 hands {name}: mean {(run(hands) - base) // 100} instructions")
+        f = frames(f"{d}/ready")
+        print(f"stack: ready {f['hb_ready']}, choose under it {f.get('nearest::choose', 0)} bytes")
+
+
 def one_suit(e):
     """All tiles of a sound, accepted record with no meld are of one suit."""
     n = e[0]
@@ -161,6 +184,8 @@ def stack():
 stack()
 if "--waits" in sys.argv:
     waits()
+elif "--ready" in sys.argv:
+    ready()
 elif "--stack" not in sys.argv:
     base = instructions([])
     first = entries[:10000]
@@ -170,3 +195,4 @@ elif "--stack" not in sys.argv:
     print(f"costliest found of {len(suit)} one-suit hands: {worst(suit, base, 20):.0f} instructions")
     slips()
     waits()
+    ready()

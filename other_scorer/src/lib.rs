@@ -5,6 +5,7 @@ pub mod codec;
 pub mod fu;
 pub mod points;
 pub mod reading;
+pub mod ready;
 pub mod record;
 pub mod score;
 pub mod shape;

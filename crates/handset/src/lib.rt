@@ -10,6 +10,7 @@ ghost use Rattle.score.specs.Score.{scoreOf};
 ghost use Rattle.slip.specs.Slip.{slipRefusal, slipPage};
 ghost use Rattle.waits.specs.Waits.{IsWaits};
 ghost use Rattle.waits.specs.Answer.{waitsOf};
+ghost use Rattle.ready.specs.Ready.{IsAnswer};
 ghost use Rattle.ledger.specs.Booking as Booking;
 ghost use Rattle.ledger.specs.Ledger.{fresh};
 ghost use Rattle.ledger.specs.Runs.{Booked};
@@ -21,6 +22,7 @@ use hand_record::Written;
 use ledger::Game;
 use play::Printed;
 use play::Walk;
+use ready::Ready;
 use score::Scored;
 use waits::Waits;
 
@@ -77,6 +79,14 @@ pub extern "C" fn hb_waits(s: &[u8], discards: &[u8]) -> Waits
     ensures { λ r. ⌜ r ≡ waitsOf (now (s .entry)) (now (discards .entry)) ⌝ }
 {
     waits::find(s, discards)
+}
+
+// Ready: the fewest tiles of an unfinished hand to swap until it is ready, and a ready hand that many swaps away; or the refusal.
+#[no_mangle]
+pub extern "C" fn hb_ready(s: &[u8]) -> Ready
+    ensures { λ r. ⌜ IsAnswer (now (s .entry)) r ⌝ }
+{
+    ready::find(s)
 }
 
 // A game before its first booking.

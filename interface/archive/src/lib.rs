@@ -128,6 +128,14 @@ pub struct Waits {
 }
 
 #[repr(C)]
+#[derive(Clone, Copy, Debug, Default, PartialEq, Eq)]
+pub struct Ready {
+    pub refusal: u8,
+    pub swaps: u8,
+    pub hand: [u8; 13],
+}
+
+#[repr(C)]
 #[derive(Clone, Copy, Debug, PartialEq, Eq)]
 pub struct Game {
     pub scores: [i32; 4],
@@ -200,6 +208,7 @@ extern "C" {
     fn hb_score(record: *const u8, len: usize, dealer: u8, wind: u8) -> Scored;
     fn hb_slip(page: *mut u8, page_len: usize, record: *const u8, len: usize, dealer: u8, wind: u8) -> u8;
     fn hb_waits(hand: *const u8, len: usize, discards: *const u8, discards_len: usize) -> Waits;
+    fn hb_ready(hand: *const u8, len: usize) -> Ready;
     fn hb_fresh() -> Game;
     fn hb_riichi(game: &mut Game, seat: u8) -> u8;
     fn hb_win(game: &mut Game, record: *const u8, len: usize) -> u8;
@@ -238,6 +247,11 @@ pub fn slip(page: &mut [u8], record: &[u8], dealer: u8, wind: u8) -> u8 {
 /// Waits.
 pub fn waits(hand: &[u8], discards: &[u8]) -> Waits {
     unsafe { hb_waits(hand.as_ptr(), hand.len(), discards.as_ptr(), discards.len()) }
+}
+
+/// Ready.
+pub fn ready(hand: &[u8]) -> Ready {
+    unsafe { hb_ready(hand.as_ptr(), hand.len()) }
 }
 
 /// A game at its start.

@@ -100,6 +100,18 @@ pub fn waits(bytes: &[u8], discards: &[u8]) -> archive::Waits {
     archive::Waits { refusal: found.refusal, waits: archive::Kinds(waits), furiten: found.furiten as u8 }
 }
 
+/// What Ready should give (02, S-14): the refusal or the number, with the hand given where it is one that may come with it, else none.
+pub fn ready(bytes: &[u8], given: &archive::Ready) -> archive::Ready {
+    match other_scorer::unfinished::read(bytes) {
+        Err(refusal) => archive::Ready { refusal, ..Default::default() },
+        Ok(hand) => {
+            let swaps = other_scorer::ready::swaps(&hand);
+            let such = other_scorer::ready::is_such(&hand, given.hand, swaps);
+            archive::Ready { refusal: 0, swaps, hand: if such { given.hand } else { [255; 13] } }
+        }
+    }
+}
+
 /// A game in the archive's form.
 pub fn game(game: &other_scorer::Game) -> archive::Game {
     archive::Game {

@@ -1,4 +1,4 @@
-//! Random records and hands through Read, Write, Score, the slip and Waits.
+//! Random records and hands through Read, Write, Score, the slip, Waits and Ready.
 
 use archive::same;
 use other_scorer::codec::{pack, unpack};
@@ -9,10 +9,14 @@ use other_scorer::notation::hex::to_hex as hex;
 use other_scorer::rng::Rng;
 use other_scorer::score;
 
+use crate::ready;
 use crate::report::Report;
 use crate::slips;
 use crate::turns;
 use crate::waits;
+
+/// Ready is compared for one of so many inputs: the other scorer tries every whole suit.
+const READY: usize = 50;
 
 /// The longest buffer lent to Write; a few bytes more are looked at behind it.
 const BUFFER: usize = 16;
@@ -97,7 +101,7 @@ fn compare_write(report: &mut Report, rng: &mut Rng, hand: &archive::Hand) {
     }
 }
 
-/// Compares the five calls for one input.
+/// Compares the six calls for one input.
 fn compare(report: &mut Report, rng: &mut Rng, index: usize) {
     let (record, dealer, wind, scored) = input(rng, index);
     let read = archive::read(&record);
@@ -131,6 +135,9 @@ fn compare(report: &mut Report, rng: &mut Rng, index: usize) {
     compare_write(report, rng, &hand);
 
     waits::compare(report, rng);
+    if index % READY == 0 {
+        ready::compare(report, rng);
+    }
 }
 
 /// Compares so many random inputs.

@@ -5,6 +5,7 @@ mod buffers;
 mod hands;
 mod lines;
 mod logs;
+mod ready;
 mod report;
 mod slips;
 mod turns;

@@ -23,7 +23,7 @@ fn sound(rng: &mut Rng) -> Vec<u8> {
 }
 
 /// The bytes of a hand: mostly sound, else a place altered, a bit flipped, cut, extended, any bytes, or of four kinds.
-fn bytes(rng: &mut Rng) -> Vec<u8> {
+pub fn bytes(rng: &mut Rng) -> Vec<u8> {
     let mut bytes = sound(rng);
     match rng.below(20) {
         0 => {

@@ -1,6 +1,6 @@
 //! The proved core, each answer compared with the other scorer's.
 
-use archive::{same, Differences, NextEntry, ReadHand, Scored, Waits, Written, RECORD_MAX};
+use archive::{same, Differences, NextEntry, ReadHand, Ready, Scored, Waits, Written, RECORD_MAX};
 use other_scorer::log::tally_lines;
 use other_scorer::notation::hex::to_hex;
 use other_scorer::{score, slip, Hand};
@@ -61,6 +61,13 @@ impl Core {
         let answer = archive::waits(bytes, discards);
         let input = || format!("{} discards {}", to_hex(bytes), to_hex(discards));
         self.differences.same("Waits", answer, same::waits(bytes, discards), input);
+        answer
+    }
+
+    /// Ready.
+    pub fn ready(&mut self, bytes: &[u8]) -> Ready {
+        let answer = archive::ready(bytes);
+        self.differences.same("Ready", answer, same::ready(bytes, &answer), || to_hex(bytes));
         answer
     }
 

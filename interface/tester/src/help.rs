@@ -10,6 +10,7 @@ tester COMMAND WORDS: asks the proved core, and compares every answer with the o
   rename     a hand with its suits renamed: both scores side by side
   slip       the slip of a hand for the club book, six lines
   waits      what an unfinished hand waits for, and furiten
+  ready      how many tiles of an unfinished hand must be swapped until it is ready, and a hand that near
   log        a text of bookings to the bytes of a log, or back
   tally      a log's bookings one after the other, and the game after each
   damage     a record or a log damaged in every way: refusals counted, both scorers compared
@@ -92,6 +93,16 @@ tester waits HEX [discards=TILES] [--plain]
 Prints the kinds that the hand waits for, yaku or not, and whether it is in furiten, with the discards that are waits.
 
 For scripts: notation, bytes, discards (hexadecimal), refusal, why, waits, furiten (1 or 0), differences.
+";
+
+pub const READY: &str = "\
+tester ready TILES [MELDS] [--plain]
+tester ready HEX [--plain]
+
+The hand as for `tester waits`. Prints the fewest tiles to swap until the hand waits for a kind, and a ready hand that many swaps away:
+its tiles, those swapped out and in, and its waits. Several hands may be as near; the core gives one of them.
+
+For scripts: notation, bytes, refusal, why, swaps, ready (the tiles), waits (of that hand), differences.
 ";
 
 pub const LOG: &str = "\

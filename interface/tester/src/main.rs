@@ -1,4 +1,4 @@
-//! `tester COMMAND WORDS`: hands, readings, turned tables, waits, logs, games and damaged bytes, answered by the proved core and compared
+//! `tester COMMAND WORDS`: hands, readings, turned tables, waits, hands that are not ready, logs, games and damaged bytes, answered by the proved core and compared
 //! with the other scorer. Exit status 0: answered, refusals too; 1: the two differ; 2: bad input, told in one line.
 
 mod answer;
@@ -14,6 +14,7 @@ mod names;
 mod page;
 mod payments;
 mod readings;
+mod ready;
 mod refusals;
 mod rename;
 mod sides;
@@ -35,13 +36,14 @@ use words::{Bad, Words};
 type Command = fn(&mut Core, Words) -> Result<String, Bad>;
 
 /// The commands by name, with their help.
-const COMMANDS: [(&str, Command, &str); 9] = [
+const COMMANDS: [(&str, Command, &str); 10] = [
     ("hand", hand::run, help::HAND),
     ("readings", readings::run, help::READINGS),
     ("turn", turn::run, help::TURN),
     ("rename", rename::run, help::RENAME),
     ("slip", slip::run, help::SLIP),
     ("waits", waits::run, help::WAITS),
+    ("ready", ready::run, help::READY),
     ("log", log::run, help::LOG),
     ("tally", tally::run, help::TALLY),
     ("damage", damage::run, help::DAMAGE),
@@ -53,14 +55,14 @@ fn run(core: &mut Core, mut words: Words) -> Result<String, Bad> {
     let Some(name) = words.take_first() else {
         return match wants_help {
             true => Ok(help::TOOL.into()),
-            false => Err(Bad::new("no command: hand, readings, turn, rename, slip, waits, log, tally or damage; --help says more")),
+            false => Err(Bad::new("no command: hand, readings, turn, rename, slip, waits, ready, log, tally or damage; --help says more")),
         };
     };
     match COMMANDS.iter().find(|(command, ..)| *command == name) {
         Some((.., help)) if wants_help => Ok(help.to_string()),
         Some((_, command, _)) => command(core, words),
         None => {
-            let why = "no command; there are hand, readings, turn, rename, slip, waits, log, tally and damage";
+            let why = "no command; there are hand, readings, turn, rename, slip, waits, ready, log, tally and damage";
             Err(Bad::new(format!("word 1, \"{name}\": {why}")))
         }
     }

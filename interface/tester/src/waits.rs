@@ -12,7 +12,7 @@ use crate::refusals::{of_unfinished, sentence};
 use crate::words::{Bad, Words};
 
 /// The bytes of notation or of hexadecimal digits.
-fn bytes(words: &Words) -> Result<Vec<u8>, Bad> {
+pub fn bytes(words: &Words) -> Result<Vec<u8>, Bad> {
     words.no_options()?;
     if let Some(bytes) = input::bytes(words) {
         return bytes;
@@ -36,7 +36,7 @@ fn discards(words: &mut Words) -> Result<Vec<u8>, Bad> {
 }
 
 /// Kinds as tiles, or as numbers where one is no kind.
-fn kinds(list: &[u8]) -> String {
+pub fn kinds(list: &[u8]) -> String {
     match list.iter().all(|&kind| kind < 34) {
         _ if list.is_empty() => "none".into(),
         true => text(list),
@@ -45,7 +45,7 @@ fn kinds(list: &[u8]) -> String {
 }
 
 /// The fields of a hand that has no notation.
-fn fields(hand: &Unfinished) -> String {
+pub fn fields(hand: &Unfinished) -> String {
     let melds: Vec<String> = hand.melds().iter().map(|meld| format!(", meld {} {}", meld.kind, meld.tile)).collect();
     let tiles: Vec<String> = hand.concealed().iter().map(u8::to_string).collect();
     format!("m {}{}, concealed {}", hand.m, melds.concat(), tiles.join(" "))

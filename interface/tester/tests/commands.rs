@@ -113,6 +113,25 @@ both scorers agree
 }
 
 #[test]
+fn how_far_from_ready() {
+    let out = answer("ready 1111m44m77m22p55p8p");
+    let (first, last) = ("hand       11114477m22558p\nbytes      000000018630c51469a800, 11 bytes\nanswer     accepted\nready      after 2 swaps: ", "\nboth scorers agree\n");
+    assert!(out.starts_with(first) && out.ends_with(last) && out.contains("\nwaits then "), "{out}");
+    for (typed, lines) in [
+        ("1112345678999m", "refusal 0\nswaps 0\nready 1112345678999m\nwaits 123456789m\n"),
+        ("6m pon=555m pon=111p pon=222p pon=333p", "refusal 0\nswaps 0\nready 6m\nwaits 6m\n"),
+        ("5555m5m1234p1234s", "refusal 4\nwhy 5 of 5m\nswaps 0\nready\nwaits\n"),
+        ("20220a31451869cbb1", "refusal 2\nwhy a padding bit set\nswaps 0\nready\nwaits\n"),
+        ("20228831451869cbb0", "refusal 3\nwhy 5m after 6m\nswaps 0\nready\nwaits\n"),
+        ("a0", "refusal 1\nwhy m over 4\nswaps 0\nready\nwaits\n"),
+    ] {
+        let out = answer(&format!("ready {typed} --plain"));
+        assert!(out.ends_with(&format!("{lines}differences 0\n")), "{out}");
+    }
+    assert!(answer("ready 5m pon=555m pon=111p pon=222p pon=333p --plain").contains("\nswaps 1\n"));
+}
+
+#[test]
 fn items_of_fu_by_name() {
     for (hand, rows) in [
         (
@@ -385,7 +404,7 @@ fn damage_counts_refusals() {
 #[test]
 fn help_for_the_tool_and_each_command() {
     let tool = answer("--help");
-    for command in ["hand", "readings", "turn", "rename", "waits", "log", "tally", "damage"] {
+    for command in ["hand", "readings", "turn", "rename", "waits", "ready", "log", "tally", "damage"] {
         assert!(tool.contains(&format!("\n  {command} ")));
         let help = answer(&format!("{command} --help"));
         assert!(help.starts_with(&format!("tester {command} ")) && help.contains("--plain"));

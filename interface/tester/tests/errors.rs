@@ -12,8 +12,8 @@ fn fails(line: &str, input: &str, message: &str) {
 
 #[test]
 fn of_the_tool() {
-    fails("", "", "no command: hand, readings, turn, rename, slip, waits, log, tally or damage; --help says more");
-    fails("hands", "", "word 1, \"hands\": no command; there are hand, readings, turn, rename, slip, waits, log, tally and damage");
+    fails("", "", "no command: hand, readings, turn, rename, slip, waits, ready, log, tally or damage; --help says more");
+    fails("hands", "", "word 1, \"hands\": no command; there are hand, readings, turn, rename, slip, waits, ready, log, tally and damage");
 }
 
 #[test]

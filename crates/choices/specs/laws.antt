@@ -1,0 +1,11 @@
+pub mod Sums
+pub mod Most
+pub mod Reach
+pub mod State
+pub mod Regular
+pub mod Built
+pub mod Whole
+pub mod Special
+pub mod Near
+pub mod Exists
+pub mod Makes

@@ -1,0 +1,4 @@
+pub mod Chosen
+pub mod Table
+pub mod Answer
+pub mod Attained

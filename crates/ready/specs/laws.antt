@@ -1,0 +1,5 @@
+pub mod Written
+pub mod Tallies
+pub mod Nearest
+pub mod Answer
+pub mod Claims
