@@ -45,7 +45,8 @@ enum {
     HB_REFUSAL_BUFFER = 13,     /* "buffer shorter than the record" */
     HB_REFUSAL_ENTRY = 14,      /* "kind over 3, win argument not 0, m over 4, or bytes missing" */
     HB_REFUSAL_DISCARD = 15,    /* "a discard over 33" */
-    HB_REFUSAL_PAGE = 16        /* "a page buffer under 150 bytes" */
+    HB_REFUSAL_PAGE = 16,       /* "a page buffer under 150 bytes" */
+    HB_REFUSAL_CARDS = 19       /* "a suit over 2, another size, or a buffer shorter than the whole list" */
 };
 
 /* Yaku by number; 26 to 36 are yakuman. */
@@ -128,6 +129,7 @@ enum { HB_LETTER_RIICHI = 'R', HB_LETTER_WIN = 'W', HB_LETTER_DRAW = 'D', HB_LET
 enum {
     HB_RECORD_MAX = 13,    /* a buffer of so many bytes holds every record */
     HB_SLIP_LENGTH = 150,  /* a slip has so many bytes */
+    HB_CARDS_MAX = 7968,   /* a buffer of so many bytes holds every list of practice cards: 18 of 2 tiles, 675 of 5, 7968 of 8 */
     HB_LINE_MAX = 83,      /* a buffer of so many bytes holds every line of tally */
     HB_LOG_MAX = 65536     /* tally reads so many bytes of a log */
 };
@@ -195,6 +197,12 @@ typedef struct {
     uint8_t hand[13];  /* "any one such hand that many swaps away": 13 - 3m kinds ascending beside the melds given, the rest 0 */
 } HbReady;
 
+/* What Cards gives: a refusal and 0, or 0 and the number of sets. */
+typedef struct {
+    uint8_t refusal;
+    uint16_t count;
+} HbCards;
+
 /* The game, lent to each booking. Any bytes are a game; an accepted booking sets declared and over to 0 or 1. */
 typedef struct {
     int32_t scores[4];
@@ -249,6 +257,11 @@ HbWaits hb_waits(const uint8_t *hand, size_t hand_len, const uint8_t *discards, 
 /* Ready. How many tiles of an unfinished hand, as Waits takes it, have to change until it waits for a kind, "melds kept and no kind over
  * four held", with one such hand. Refusals 1 to 4 in order. */
 HbReady hb_ready(const uint8_t *hand, size_t hand_len);
+
+/* Practice cards: "every set of 2, 5 or 8 tiles of one suit, at most four of a kind, that splits into one pair and runs or triplets.
+ * Tiles stand ascending, one byte each, the sets in ascending order of their tile lists", at the start of buf: 9, 135 or 996 sets.
+ * suit: 0 man, 1 pin, 2 sou; size: 2, 5 or 8. Refusal 19, with buf unchanged. */
+HbCards hb_cards(uint8_t suit, uint8_t size, uint8_t *buf, size_t buf_len);
 
 /* A game at its start: 30,000 each, all else 0. */
 HbGame hb_fresh(void);

@@ -10,6 +10,7 @@ Slip: what hb_slip takes beyond hb_score, by a C program over the archive (`rt s
 another, over hands drawn from a wall, hands of one suit and hands one tile short of groups, 1,000 each from a fixed seed, and over
 hands of 3 to 5 neighbouring numbers, the widest searches that a climb over hands found. Ready: what hb_ready takes, over 100 of each of
 those sets, and the frame of hb_ready in that program, with the one under it; what the C library takes is left out.
+Cards: what hb_cards takes, by another; its stack is read off a stack that was painted before the call, the caller's frame included.
 """
 import os, random, re, subprocess, sys, tempfile
 here = os.path.join(os.path.dirname(os.path.abspath(__file__)), "..")
@@ -38,19 +39,55 @@ int main(int argc, char **argv) {
 """
 
 
+CARDS = """#include <alloca.h>
+#include <stdio.h>
+#include <stdlib.h>
+#include "herbassolh.h"
+static uint8_t buf[HB_CARDS_MAX];
+static volatile uint8_t *low;
+__attribute__((noinline)) static void paint(void) { low = alloca(65536); for (int i = 0; i < 65536; i++) low[i] = 0xa7; }
+__attribute__((noinline)) static int call(uint8_t suit, uint8_t size) { return hb_cards(suit, size, buf, sizeof buf).refusal; }
+int main(int argc, char **argv) {
+    volatile uint8_t here = 0;
+    int times = atoi(argv[1]), suit = atoi(argv[2]), size = atoi(argv[3]);
+    paint();
+    for (int n = 0; n < times; n++)
+        if (call(suit, size)) return argc;
+    while (*low == 0xa7) low++;
+    printf("%d\\n", (int)(&here - low));
+    return here;
+}
+"""
+
+
+def compiled(d, source):
+    """A C program over the archive; gives what runs it under callgrind: its instructions and its output."""
+    archive = os.path.join(here, "target/staticlib/libhandset.a")
+    subprocess.run(["gcc", "-O2", "-static", "-x", "c", "-", "-x", "none", archive, "-I", os.path.join(here, "include"), "-o", f"{d}/program"],
+                   input=source.encode(), check=True)
+
+    def run(*words):
+        r = subprocess.run(["valgrind", "--tool=callgrind", f"--callgrind-out-file={d}/out", f"{d}/program", *map(str, words)],
+                           capture_output=True, check=True)
+        return int(re.search(rb"Collected : (\d+)", r.stderr).group(1)), r.stdout
+    return run
+
+
+def cards():
+    """What the practice cards of a suit and a size take."""
+    with tempfile.TemporaryDirectory() as d:
+        run = compiled(d, CARDS)
+        for suit, size in ((0, 2), (0, 5), (0, 8), (1, 8), (2, 8)):
+            (one, stack), (two, _) = run(1, suit, size), run(2, suit, size)
+            print(f"cards of suit {suit}, {size} tiles: {two - one} instructions, {int(stack)} bytes of stack")
+
+
 def slips():
     """What a slip takes beyond its Score, for lines 1 and 9 of the table of hands."""
     with tempfile.TemporaryDirectory() as d:
-        archive = os.path.join(here, "target/staticlib/libhandset.a")
-        subprocess.run(["gcc", "-O2", "-x", "c", "-", "-x", "none", archive, "-I", os.path.join(here, "include"), "-o", f"{d}/slips"],
-                       input=SLIPS.encode(), check=True)
-
-        def run(times, slip, record):
-            r = subprocess.run(["valgrind", "--tool=callgrind", f"--callgrind-out-file={d}/out", f"{d}/slips", str(times), slip, record],
-                               capture_output=True, check=True)
-            return int(re.search(rb"Collected : (\d+)", r.stderr).group(1))
+        run = compiled(d, SLIPS)
         for line, record in ((1, "b81e640210620a31661a9a6bb0"), (9, "201e60000005965acb2cc30d34")):
-            each = {s: (run(1001, s, record) - run(1, s, record)) // 1000 for s in "01"}
+            each = {s: (run(1001, s, record)[0] - run(1, s, record)[0]) // 1000 for s in "01"}
             print(f"slip of line {line}: {each['1'] - each['0']} instructions beyond its Score, {each['0']}")
 
 
@@ -196,3 +233,4 @@ elif "--stack" not in sys.argv:
     slips()
     waits()
     ready()
+    cards()

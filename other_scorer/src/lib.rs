@@ -1,6 +1,7 @@
 //! A second scorer, game and log for the table handset, written from documents 01 and 02 alone.
 //! Readings are found by always placing the lowest tile left, then sorted into document 01's order.
 
+pub mod cards;
 pub mod codec;
 pub mod fu;
 pub mod points;

@@ -11,11 +11,13 @@ ghost use Rattle.slip.specs.Slip.{slipRefusal, slipPage};
 ghost use Rattle.waits.specs.Waits.{IsWaits};
 ghost use Rattle.waits.specs.Answer.{waitsOf};
 ghost use Rattle.ready.specs.Ready.{IsAnswer};
+ghost use Rattle.card_writer.specs.Call.{answerOf, cardBuffer};
 ghost use Rattle.ledger.specs.Booking as Booking;
 ghost use Rattle.ledger.specs.Ledger.{fresh};
 ghost use Rattle.ledger.specs.Runs.{Booked};
 ghost use Rattle.play.specs.Play.{BookedPart, started, textLeft, linesOf};
 ghost use Rattle.handset.specs.Interface.{nextEntryOf, Lined};
+use card_writer::Cards;
 use hand::Hand;
 use hand_record::ReadHand;
 use hand_record::Written;
@@ -87,6 +89,15 @@ pub extern "C" fn hb_ready(s: &[u8]) -> Ready
     ensures { λ r. ⌜ IsAnswer (now (s .entry)) r ⌝ }
 {
     ready::find(s)
+}
+
+// Cards: every practice card of a suit and a size, one byte a tile, at the start of a buffer, and how many they are; or refusal 19, and the buffer as it was.
+#[no_mangle]
+pub extern "C" fn hb_cards(suit: u8, size: u8, buf: &mut [u8]) -> Cards
+    ensures { λ r. ⌜ r ≡ answerOf suit size (length (now (buf .entry))) ⌝ }
+    ensures { λ _. ⌜ now (buf .exit) ≡ cardBuffer suit size (now (buf .entry)) ⌝ }
+{
+    card_writer::write(suit, size, buf)
 }
 
 // A game before its first booking.

@@ -137,6 +137,13 @@ pub struct Ready {
 
 #[repr(C)]
 #[derive(Clone, Copy, Debug, PartialEq, Eq)]
+pub struct Cards {
+    pub refusal: u8,
+    pub count: u16,
+}
+
+#[repr(C)]
+#[derive(Clone, Copy, Debug, PartialEq, Eq)]
 pub struct Game {
     pub scores: [i32; 4],
     pub sticks: u32,
@@ -182,6 +189,9 @@ pub const LINE_MAX: usize = 83;
 /// A slip has so many bytes (HB_SLIP_LENGTH).
 pub const SLIP_LENGTH: usize = 150;
 
+/// A buffer of so many bytes holds every list of practice cards (HB_CARDS_MAX).
+pub const CARDS_MAX: usize = 7968;
+
 impl Hand {
     /// A hand from its 25 bytes as they lie in memory.
     pub fn of(bytes: [u8; 25]) -> Hand {
@@ -209,6 +219,7 @@ extern "C" {
     fn hb_slip(page: *mut u8, page_len: usize, record: *const u8, len: usize, dealer: u8, wind: u8) -> u8;
     fn hb_waits(hand: *const u8, len: usize, discards: *const u8, discards_len: usize) -> Waits;
     fn hb_ready(hand: *const u8, len: usize) -> Ready;
+    fn hb_cards(suit: u8, size: u8, buffer: *mut u8, len: usize) -> Cards;
     fn hb_fresh() -> Game;
     fn hb_riichi(game: &mut Game, seat: u8) -> u8;
     fn hb_win(game: &mut Game, record: *const u8, len: usize) -> u8;
@@ -252,6 +263,11 @@ pub fn waits(hand: &[u8], discards: &[u8]) -> Waits {
 /// Ready.
 pub fn ready(hand: &[u8]) -> Ready {
     unsafe { hb_ready(hand.as_ptr(), hand.len()) }
+}
+
+/// Practice cards.
+pub fn cards(suit: u8, size: u8, buffer: &mut [u8]) -> Cards {
+    unsafe { hb_cards(suit, size, buffer.as_mut_ptr(), buffer.len()) }
 }
 
 /// A game at its start.

@@ -112,6 +112,14 @@ pub fn ready(bytes: &[u8], given: &archive::Ready) -> archive::Ready {
     }
 }
 
+/// What Cards should give, with the buffer then (02, S-9).
+pub fn cards(suit: u8, size: u8, buffer: &mut [u8]) -> archive::Cards {
+    match other_scorer::cards::write(suit, size, buffer) {
+        Ok(count) => archive::Cards { refusal: 0, count },
+        Err(refusal) => archive::Cards { refusal, count: 0 },
+    }
+}
+
 /// A game in the archive's form.
 pub fn game(game: &other_scorer::Game) -> archive::Game {
     archive::Game {

@@ -2,6 +2,7 @@
 //! COUNT hands, LOGS logs (a thousandth of COUNT, at least 64, where not given). Exit 1 if anything differs.
 
 mod buffers;
+mod cards;
 mod hands;
 mod lines;
 mod logs;
@@ -29,6 +30,7 @@ fn run(count: usize, seed: u64, logs: usize) -> bool {
     let start = Instant::now();
     hands::run(&mut report, &mut rng, count);
     let after_hands = start.elapsed();
+    cards::run(&mut report, &mut rng);
     lines::run(&mut report, &mut rng, count / 10);
     logs::run(&mut report, &mut rng, logs);
     let (hands, all) = (after_hands.as_secs(), start.elapsed().as_secs());

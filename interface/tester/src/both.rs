@@ -1,6 +1,6 @@
 //! The proved core, each answer compared with the other scorer's.
 
-use archive::{same, Differences, NextEntry, ReadHand, Ready, Scored, Waits, Written, RECORD_MAX};
+use archive::{same, Cards, Differences, NextEntry, ReadHand, Ready, Scored, Waits, Written, RECORD_MAX};
 use other_scorer::log::tally_lines;
 use other_scorer::notation::hex::to_hex;
 use other_scorer::{score, slip, Hand};
@@ -69,6 +69,16 @@ impl Core {
         let answer = archive::ready(bytes);
         self.differences.same("Ready", answer, same::ready(bytes, &answer), || to_hex(bytes));
         answer
+    }
+
+    /// Practice cards in a buffer of a length.
+    pub fn cards(&mut self, suit: u8, size: u8, length: usize) -> (Cards, Vec<u8>) {
+        let (mut core, mut other) = (vec![0; length], vec![0; length]);
+        let answer = archive::cards(suit, size, &mut core);
+        let wanted = same::cards(suit, size, &mut other);
+        let input = || format!("suit {suit}, size {size}, buffer of {length}");
+        self.differences.same("cards", (answer, &core), (wanted, &other), input);
+        (answer, core)
     }
 
     /// Next entry.

@@ -11,6 +11,7 @@ tester COMMAND WORDS: asks the proved core, and compares every answer with the o
   slip       the slip of a hand for the club book, six lines
   waits      what an unfinished hand waits for, and furiten
   ready      how many tiles of an unfinished hand must be swapped until it is ready, and a hand that near
+  cards      the practice cards of a suit and a size
   log        a text of bookings to the bytes of a log, or back
   tally      a log's bookings one after the other, and the game after each
   damage     a record or a log damaged in every way: refusals counted, both scorers compared
@@ -103,6 +104,18 @@ The hand as for `tester waits`. Prints the fewest tiles to swap until the hand w
 its tiles, those swapped out and in, and its waits. Several hands may be as near; the core gives one of them.
 
 For scripts: notation, bytes, refusal, why, swaps, ready (the tiles), waits (of that hand), differences.
+";
+
+pub const CARDS: &str = "\
+tester cards SUIT SIZE [buffer=N] [--plain]
+
+Prints the sets of SIZE tiles of a suit that the core lists for practice cards, in its order.
+
+  SUIT       m, p, s, or a number 0 to 255
+  SIZE       2, 5 or 8 tiles; another number is refused
+  buffer=N   lends a buffer of N bytes instead of 7968, which holds every list
+
+For scripts: suit, size, refusal, count, card with its tiles for each set, differences.
 ";
 
 pub const LOG: &str = "\

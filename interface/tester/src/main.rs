@@ -3,6 +3,7 @@
 
 mod answer;
 mod both;
+mod cards;
 mod changes;
 mod damage;
 mod fu;
@@ -36,7 +37,7 @@ use words::{Bad, Words};
 type Command = fn(&mut Core, Words) -> Result<String, Bad>;
 
 /// The commands by name, with their help.
-const COMMANDS: [(&str, Command, &str); 10] = [
+const COMMANDS: [(&str, Command, &str); 11] = [
     ("hand", hand::run, help::HAND),
     ("readings", readings::run, help::READINGS),
     ("turn", turn::run, help::TURN),
@@ -44,6 +45,7 @@ const COMMANDS: [(&str, Command, &str); 10] = [
     ("slip", slip::run, help::SLIP),
     ("waits", waits::run, help::WAITS),
     ("ready", ready::run, help::READY),
+    ("cards", cards::run, help::CARDS),
     ("log", log::run, help::LOG),
     ("tally", tally::run, help::TALLY),
     ("damage", damage::run, help::DAMAGE),
@@ -55,14 +57,14 @@ fn run(core: &mut Core, mut words: Words) -> Result<String, Bad> {
     let Some(name) = words.take_first() else {
         return match wants_help {
             true => Ok(help::TOOL.into()),
-            false => Err(Bad::new("no command: hand, readings, turn, rename, slip, waits, ready, log, tally or damage; --help says more")),
+            false => Err(Bad::new("no command: hand, readings, turn, rename, slip, waits, ready, cards, log, tally or damage; --help says more")),
         };
     };
     match COMMANDS.iter().find(|(command, ..)| *command == name) {
         Some((.., help)) if wants_help => Ok(help.to_string()),
         Some((_, command, _)) => command(core, words),
         None => {
-            let why = "no command; there are hand, readings, turn, rename, slip, waits, ready, log, tally and damage";
+            let why = "no command; there are hand, readings, turn, rename, slip, waits, ready, cards, log, tally and damage";
             Err(Bad::new(format!("word 1, \"{name}\": {why}")))
         }
     }

@@ -33,6 +33,7 @@ pub fn refusal(number: u8) -> &'static str {
         14 => "the log's entry is bad or cut",
         15 => "a discard is no kind",
         16 => "the page is shorter than a slip",
+        19 => "no such suit or size, or the buffer is shorter than the list",
         _ => "no refusal of documents 01 and 02",
     }
 }

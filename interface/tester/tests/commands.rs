@@ -132,6 +132,28 @@ fn how_far_from_ready() {
 }
 
 #[test]
+fn cards() {
+    let two = "11m 22m 33m 44m 55m 66m 77m 88m 99m";
+    let out = answer("cards m 2 buffer=18");
+    assert_eq!(out, format!("cards      suit 0, 2 tiles, a buffer of 18 bytes\nanswer     accepted\ncount      9 sets, 18 bytes\n\n{two}\n\nboth scorers agree\n"));
+    for (suit, letter) in ["m", "p", "s"].iter().enumerate() {
+        let out = answer(&format!("cards {letter} 2 --plain"));
+        let list: String = two.replace('m', letter).split(' ').map(|card| format!("card {card}\n")).collect();
+        assert_eq!(out, format!("suit {suit}\nsize 2\nrefusal 0\ncount 9\n{list}differences 0\n"));
+        for (size, count, bytes) in [(5, 135, 675), (8, 996, 7968)] {
+            let out = answer(&format!("cards {suit} {size} buffer={bytes}"));
+            assert!(out.contains(&format!("count      {count} sets, {bytes} bytes\n")), "{out}");
+            let out = answer(&format!("cards {suit} {size} --plain"));
+            assert_eq!(out.matches("card ").count(), count, "{out}");
+        }
+    }
+    for words in ["3 2", "255 8", "m 3", "m 0", "p 11", "s 2 buffer=17", "s 5 buffer=674", "s 8 buffer=7967"] {
+        let out = answer(&format!("cards {words}"));
+        assert!(out.contains("answer     refusal 19, no such suit or size, or the buffer is shorter than the list\n\nboth"), "{out}");
+    }
+}
+
+#[test]
 fn items_of_fu_by_name() {
     for (hand, rows) in [
         (

@@ -12,8 +12,23 @@ fn fails(line: &str, input: &str, message: &str) {
 
 #[test]
 fn of_the_tool() {
-    fails("", "", "no command: hand, readings, turn, rename, slip, waits, ready, log, tally or damage; --help says more");
-    fails("hands", "", "word 1, \"hands\": no command; there are hand, readings, turn, rename, slip, waits, ready, log, tally and damage");
+    fails("", "", "no command: hand, readings, turn, rename, slip, waits, ready, cards, log, tally or damage; --help says more");
+    fails("hands", "", "word 1, \"hands\": no command; there are hand, readings, turn, rename, slip, waits, ready, cards, log, tally and damage");
+}
+
+#[test]
+fn of_cards() {
+    for (words, message) in [
+        ("", "after word 1, \"cards\": no suit, such as m"),
+        ("m", "after word 2, \"m\": no number of tiles: 2, 5 or 8"),
+        ("z 2", "word 2, \"z\": a suit m, p, s or a number 0 to 255 is needed"),
+        ("m 256", "word 3, \"256\": a number of tiles 0 to 255 is needed"),
+        ("m 2 3", "word 4, \"3\": one word too many"),
+        ("m 2 buffer=65537", "word 4, \"buffer=65537\": a number 0 to 65536 is needed"),
+        ("m 2 --loud", "word 4, \"--loud\": no option here; --help lists them"),
+    ] {
+        fails(&format!("cards {words}"), "", message);
+    }
 }
 
 #[test]

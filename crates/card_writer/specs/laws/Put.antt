@@ -1,0 +1,134 @@
+-- The bytes of cards put into a buffer one after the other.
+use mathlib.Core.Path.{_≡_, refl, sym, ap, _∙_}
+use mathlib.Core.Bool.{true, false}
+use mathlib.Core.List.{List, [], _∷_, _++_, map, append-assoc, append-nil}
+use Prim.Native.Nat.{ℕ, zero, suc, _+_, _-_, _≤_, _<_}
+use native.Mathlib.Nat.{le-antisymm}
+use native.Mathlib.Numerals.{add-one}
+use native.Mathlib.Omega.{arith}
+use borrow.Author.Tests.{lt-ltb, le-ltb}
+use lib.ListN.{length, getD, set, take, length-append}
+use lib.Seq.{sets, take-suc-set, length-sets, slice, slice-cons, slice-empty, length-take-le}
+use Rattle.tiles.specs.laws.Tally.{more}
+use Rattle.bits.specs.laws.Pack.{sets-append}
+use Rattle.text.specs.laws.Put.{Put, put-none}
+use Rattle.reading.specs.search.Readings.{concatMap}
+use Rattle.reading.specs.laws.Lists.{concat-append}
+use Rattle.splits.specs.search.Parts.{isParts}
+use Rattle.cards.specs.search.Draws.{draw, draws}
+
+-- what is left to put gives the whole
+pub record Left (old : List ℕ) (at : ℕ) (whole now : List ℕ) (next : ℕ) (rest : List ℕ) : Type 0 where
+  pub place : next + length rest ≡ at + length whole
+  pub bytes : sets now next rest ≡ sets old at whole
+  pub long : length now ≡ length old
+
+pub left-all : (b : List ℕ) (at : ℕ) (whole : List ℕ) → Left b at whole b at whole
+left-all b at whole = record { place = refl; bytes = refl; long = refl }
+
+pub left-same : {b m w r q : List ℕ} {at e : ℕ} → r ≡ q → Left b at w m e r → Left b at w m e q
+left-same h l = rw (← h) l
+
+pub left-put : {b m n w r x q : List ℕ} {at e f : ℕ} → r ≡ x ++ q → Left b at w m e r → Put m e x n f → Left b at w n f q
+left-put {b} {m} {n} {w} {r} {x} {q} {at} {e} {f} h l p =
+    let z : length r ≡ length x + length q = ap length h ∙ length-append x q in
+    record {
+      place = omega (arith, p .place, l .place);
+      bytes = rw (p .bytes, p .place) (sym (sets-append m e x q) ∙ ap (sets m e) (sym h) ∙ l .bytes);
+      long = ap length (p .bytes) ∙ length-sets m e x ∙ l .long;
+    }
+
+pub put-done : {b m w r : List ℕ} {at e : ℕ} → r ≡ [] → Left b at w m e r → Put b at w m e
+put-done {b} {m} {w} {r} {at} {e} h l =
+    let z : length r ≡ 0 = ap length h in
+    record { place = omega (arith, l .place); bytes = ap (sets m e) (sym h) ∙ l .bytes }
+
+-- the tiles so far before each of the lists, one after the other
+unfoldable pub bytesOf : List ℕ → List (List ℕ) → List ℕ
+bytesOf so ls = concatMap (λ (l : List ℕ). so ++ l) ls
+
+-- what is written behind the tiles so far
+unfoldable pub written : List ℕ → ℕ → ℕ → ℕ → ℕ → List ℕ → List ℕ
+written so n left end low t = bytesOf so (draws n left (end - low) low t)
+
+bytes-taken : (so : List ℕ) (a : ℕ) (x : List (List ℕ)) → bytesOf so (map (λ (l : List ℕ). a ∷ l) x) ≡ bytesOf (so ++ (a ∷ [])) x
+unfolding bytesOf concatMap
+bytes-taken so a [] = refl
+bytes-taken so a (l ∷ x) = rw (bytes-taken so a x, append-assoc so (a ∷ []) l)
+
+bytes-append : (so : List ℕ) (x y : List (List ℕ)) → bytesOf so (x ++ y) ≡ bytesOf so x ++ bytesOf so y
+unfolding bytesOf
+bytes-append so x y = concat-append (λ (l : List ℕ). so ++ l) x y
+
+module _ (so : List ℕ) (n left end a : ℕ) (t : List ℕ) where
+  pub written-leaf : left ≡ 0 → isParts (suc n) true t ≡ true → written so n left end a t ≡ so
+  unfolding written bytesOf draws concatMap
+  written-leaf z e = rw (z, e, append-nil, append-nil)
+
+  pub written-over : left ≡ 0 → isParts (suc n) true t ≡ false → written so n left end a t ≡ []
+  unfolding written bytesOf draws concatMap
+  written-over z e = rw (z, e)
+
+module _ (so : List ℕ) (n end a : ℕ) (t : List ℕ) where
+  pub written-end : (left : ℕ) → (left ≡ 0 → ⊥) → end ≤ a → written so n left end a t ≡ []
+  unfolding written bytesOf draws draw concatMap
+  written-end zero h l = absurd (h refl)
+  written-end (suc m) h l = let s : end - a ≡ 0 = omega arith in rw s
+
+  pub written-skip : (left : ℕ) → (left ≡ 0 → ⊥) → a < end → 4 ≤ getD t a 0 → written so n left end a t ≡ written so n left end (a + 1) t
+  unfolding written bytesOf draws draw concatMap
+  written-skip zero h l f = absurd (h refl)
+  written-skip (suc m) h l f =
+      let s : end - a ≡ suc (end - (a + 1)) = omega arith in
+      rw (s, le-ltb (getD t a 0) 4 f)
+
+  pub written-with : (left : ℕ) → (left ≡ 0 → ⊥) → a < end → getD t a 0 < 4 → written so n left end a t ≡ written (so ++ (a ∷ [])) n (left - 1) end a (more t a 1) ++ written so n left end (a + 1) t
+  unfolding written draws draw
+  written-with zero h l f = absurd (h refl)
+  written-with (suc m) h l f =
+      let s : end - a ≡ suc (end - (a + 1)) = omega arith in
+      let z : suc m - 1 ≡ m = omega arith in
+      let x = draws n m (suc (end - (a + 1))) a (more t a 1) in
+      let y = draw (draws n m) (end - (a + 1)) (a + 1) t in
+      rw (s, z, lt-ltb (getD t a 0) 4 f) (bytes-append so (map (λ (l : List ℕ). a ∷ l) x) y ∙ ap (λ (b : List ℕ). b ++ bytesOf so y) (bytes-taken so a x))
+
+-- the tiles so far, with one more
+pub so-more : (so : List ℕ) (size left a : ℕ) → (left ≡ 0 → ⊥) → left ≤ size → size ≤ length so → take (size - (left - 1)) (set so (size - left) a) ≡ take (size - left) so ++ (a ∷ [])
+so-more so size left a h l r =
+    let s : size - (left - 1) ≡ suc (size - left) = omega arith in
+    rw s (take-suc-set so (size - left) a (omega arith))
+
+-- one tile of a card
+pub slice-turn : (b so : List ℕ) (at i size : ℕ) → i < size → size ≤ length so → sets (set b (at + i) (getD so i 0)) (at + (i + 1)) (slice (i + 1) size so) ≡ sets b (at + i) (slice i size so)
+slice-turn b so at i size h l = let e : at + (i + 1) ≡ suc (at + i) = omega arith in rw (slice-cons i size so 0 h l, e, add-one)
+
+pub put-through : (b so m : List ℕ) (at i size : ℕ) → size ≤ length so → i ≤ size → size ≤ i → sets m (at + i) (slice i size so) ≡ sets b at (take size so) → Put b at (take size so) m (at + size)
+put-through b so m at i size l g h e =
+    let q : size ≡ i = le-antisymm h g in
+    let z : slice i size so ≡ [] = rw (← q) (slice-empty size so) in
+    record { place = rw (length-take-le size so l); bytes = ap (sets m (at + i)) (sym z) ∙ e }
+
+-- ---- a turn of the draw: the tiles so far are the first size - left of so
+pub turn-with : (so t u : List ℕ) (size left n end a : ℕ) → (left ≡ 0 → ⊥) → left ≤ size → size ≤ length so → a < end → getD t a 0 < 4 → u ≡ more t a 1
+    → written (take (size - left) so) n left end a t ≡ written (take (size - (left - 1)) (set so (size - left) a)) n (left - 1) end a u ++ written (take (size - left) so) n left end (a + 1) t
+turn-with so t u size left n end a h g l q f e = rw (so-more so size left a h g l, e) (written-with (take (size - left) so) n end a t left h q f)
+
+-- there is room for the next part of what is left
+pub left-room : {b m w r : List ℕ} {at e : ℕ} (x q : List ℕ) → r ≡ x ++ q → Left b at w m e r → at + length w ≤ length b → e + length x ≤ length m
+left-room {b} {m} {w} {r} {at} {e} x q h l g =
+    let z : length r ≡ length x + length q = ap length h ∙ length-append x q in
+    omega (arith, l .place, l .long)
+
+-- ---- all tiles are drawn: the card is written, or nothing is
+module _ (so t : List ℕ) (size left n end low : ℕ) (z : left ≡ 0) where
+  leaf : isParts (suc n) true t ≡ true → written (take (size - left) so) n left end low t ≡ take size so
+  leaf e = let q : size - left ≡ size = omega arith in written-leaf (take (size - left) so) n left end low t z e ∙ ap (λ (i : ℕ). take i so) q
+
+  pub leaf-room : (at room : ℕ) → isParts (suc n) true t ≡ true → size ≤ length so → at + length (written (take (size - left) so) n left end low t) ≤ room → at + size ≤ room
+  leaf-room at room e l h = omega (arith, ap length (leaf e), length-take-le size so l)
+
+  pub put-leaf : {b m : List ℕ} {at r : ℕ} → isParts (suc n) true t ≡ true → Put b at (take size so) m r → Put b at (written (take (size - left) so) n left end low t) m r
+  put-leaf e p = rw (leaf e) p
+
+  pub put-over : (b : List ℕ) (at : ℕ) → isParts (suc n) true t ≡ false → Put b at (written (take (size - left) so) n left end low t) b at
+  put-over b at e = rw (written-over (take (size - left) so) n left end low t z e) (put-none b at)

@@ -1,0 +1,12 @@
+-- `practice::put` is safe and ends.
+use borrow.Author.Needs.{needs}
+use mathlib.Core.Path.{sym}
+use lib.Seq.{length-take-le}
+use Rattle.practice.proofs.put.Statement.{statement}
+use Rattle.practice.proofs.put.Tie as tie
+
+pub put-spec : {M : Type 1} → statement M
+put-spec =
+    tie.close
+    (tie.spec (λ c. sym (length-take-le (c .before .before .before .args .n) (c .before .before .before .args .line .now) (c .before .if1 .taken)))
+    (λ c κs. search needs) (λ c. search needs) (λ c. search needs))
