@@ -46,7 +46,9 @@ enum {
     HB_REFUSAL_ENTRY = 14,      /* "kind over 3, win argument not 0, m over 4, or bytes missing" */
     HB_REFUSAL_DISCARD = 15,    /* "a discard over 33" */
     HB_REFUSAL_PAGE = 16,       /* "a page buffer under 150 bytes" */
-    HB_REFUSAL_CARDS = 19       /* "a suit over 2, another size, or a buffer shorter than the whole list" */
+    HB_REFUSAL_CARDS = 19,      /* "a suit over 2, another size, or a buffer shorter than the whole list" */
+    HB_REFUSAL_CLAIM = 22       /* "a claim of another length or with shape 3, a pair over 33, a group code that names no group,
+                                   descending codes, a place over 4 - m or a padding bit set" */
 };
 
 /* Yaku by number; 26 to 36 are yakuman. */
@@ -130,6 +132,7 @@ enum {
     HB_RECORD_MAX = 13,    /* a buffer of so many bytes holds every record */
     HB_SLIP_LENGTH = 150,  /* a slip has so many bytes */
     HB_CARDS_MAX = 7968,   /* a buffer of so many bytes holds every list of practice cards: 18 of 2 tiles, 675 of 5, 7968 of 8 */
+    HB_CLAIM_MAX = 7,      /* no claim has more bytes: 7, 7, 6, 5, 4 for m = 0 to 4 melds, 3 for shapes 1 and 2 */
     HB_LINE_MAX = 83,      /* a buffer of so many bytes holds every line of tally */
     HB_LOG_MAX = 65536     /* tally reads so many bytes of a log */
 };
@@ -203,6 +206,21 @@ typedef struct {
     uint16_t count;
 } HbCards;
 
+/* What Judge gives: a refusal with verdict 0, or 0 and the verdict. */
+typedef struct {
+    uint8_t refusal;
+    uint8_t verdict;
+} HbJudged;
+
+/* Verdicts: accepted, or the first of the four that is false. */
+enum {
+    HB_VERDICT_ACCEPTED = 0,
+    HB_VERDICT_READING = 1,  /* "its reading is one of those tiles" */
+    HB_VERDICT_YAKU = 2,     /* it "has a yaku" */
+    HB_VERDICT_GAIN = 3,     /* it "pays that gain" */
+    HB_VERDICT_MORE = 4      /* "no other reading of them with a yaku pays more" */
+};
+
 /* The game, lent to each booking. Any bytes are a game; an accepted booking sets declared and over to 0 or 1. */
 typedef struct {
     int32_t scores[4];
@@ -262,6 +280,13 @@ HbReady hb_ready(const uint8_t *hand, size_t hand_len);
  * Tiles stand ascending, one byte each, the sets in ascending order of their tile lists", at the start of buf: 9, 135 or 996 sets.
  * suit: 0 man, 1 pin, 2 sou; size: 2, 5 or 8. Refusal 19, with buf unchanged. */
 HbCards hb_cards(uint8_t suit, uint8_t size, uint8_t *buf, size_t buf_len);
+
+/* Judge. "A claim is accepted exactly when its reading is one of those tiles, has a yaku, pays that gain, and no other reading of
+ * them with a yaku pays more. Otherwise it names the first of these four that is false." A claim's bits (docs/RECORDS.md): "shape
+ * 2 bits (0 regular, 1 seven pairs, 2 orphans); for regular the pair 6 bits, 4 - m group codes of 7 bits ascending, place 3 bits
+ * (0 pair, then groups from 1), then for every shape the winner's gain 17 bits, and zero bits to the byte"; a run's code is its
+ * lowest kind, a triplet's 34 + kind. Refusals 8, 1 to 5, 22 in order, with verdict 0. */
+HbJudged hb_judge(const uint8_t *record, size_t record_len, const uint8_t *claim, size_t claim_len, uint8_t dealer, uint8_t wind);
 
 /* A game at its start: 30,000 each, all else 0. */
 HbGame hb_fresh(void);

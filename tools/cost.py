@@ -11,6 +11,7 @@ another, over hands drawn from a wall, hands of one suit and hands one tile shor
 hands of 3 to 5 neighbouring numbers, the widest searches that a climb over hands found. Ready: what hb_ready takes, over 100 of each of
 those sets, and the frame of hb_ready in that program, with the one under it; what the C library takes is left out.
 Cards: what hb_cards takes, by another; its stack is read off a stack that was painted before the call, the caller's frame included.
+Judge: hb_judge on claims of the reported readings of those of the first 10,000 hands that score, made by the other scorer (`claims`).
 """
 import os, random, re, subprocess, sys, tempfile
 here = os.path.join(os.path.dirname(os.path.abspath(__file__)), "..")
@@ -174,6 +175,33 @@ def ready():
         print(f"stack: ready {f['hb_ready']}, choose under it {f.get('nearest::choose', 0)} bytes")
 
 
+JUDGES = """#include <stdio.h>
+#include "herbassolh.h"
+int main(int argc, char **argv) {
+    uint8_t e[24];
+    FILE *claims = fopen(argv[1], "rb");
+    while (fread(e, 24, 1, claims) == 1)
+        if (argc < 3) { HbJudged j = hb_judge(e + 1, e[0], e + 17, e[16], e[14], e[15]); if (j.refusal | j.verdict) return 1; }
+    return 0;
+}
+"""
+
+
+def judges():
+    """The mean of Judge over accepted claims."""
+    with tempfile.TemporaryDirectory() as d:
+        subprocess.run(["cargo", "run", "--release", "--quiet", "--bin", "claims", "--", "../crates/vectors/stdin", "10000", f"{d}/claims"],
+                       cwd=os.path.join(here, "other_scorer"), check=True)
+        archive = os.path.join(here, "target/staticlib/libhandset.a")
+        subprocess.run(["gcc", "-O2", "-x", "c", "-", "-x", "none", archive, "-I", os.path.join(here, "include"), "-o", f"{d}/judges"],
+                       input=JUDGES.encode(), check=True)
+        count = os.path.getsize(f"{d}/claims") // 24
+        each = [int(re.search(rb"Collected : (\d+)", subprocess.run(
+            ["valgrind", "--tool=callgrind", f"--callgrind-out-file={d}/out", f"{d}/judges", f"{d}/claims"] + skip,
+            capture_output=True, check=True).stderr).group(1)) for skip in ([], ["skip"])]
+        print(f"Judge: mean over {count} accepted claims {(each[0] - each[1]) // count} instructions")
+
+
 def one_suit(e):
     """All tiles of a sound, accepted record with no meld are of one suit."""
     n = e[0]
@@ -234,3 +262,4 @@ elif "--stack" not in sys.argv:
     waits()
     ready()
     cards()
+    judges()

@@ -2,6 +2,7 @@
 //! Readings are found by always placing the lowest tile left, then sorted into document 01's order.
 
 pub mod cards;
+pub mod claim;
 pub mod codec;
 pub mod fu;
 pub mod points;

@@ -7,6 +7,8 @@ ghost use lib.ListN.{length, take, drop};
 ghost use Rattle.hand_record.specs.Record.{readHandOf, writtenOf, bufferOf};
 ghost use Rattle.score.specs.IsScore.{IsScore};
 ghost use Rattle.score.specs.Score.{scoreOf};
+ghost use Rattle.claim.specs.IsJudged.{IsJudged};
+ghost use Rattle.claim.specs.Judge.{judgedOf};
 ghost use Rattle.slip.specs.Slip.{slipRefusal, slipPage};
 ghost use Rattle.waits.specs.Waits.{IsWaits};
 ghost use Rattle.waits.specs.Answer.{waitsOf};
@@ -18,6 +20,7 @@ ghost use Rattle.ledger.specs.Runs.{Booked};
 ghost use Rattle.play.specs.Play.{BookedPart, started, textLeft, linesOf};
 ghost use Rattle.handset.specs.Interface.{nextEntryOf, Lined};
 use card_writer::Cards;
+use claim::Judged;
 use hand::Hand;
 use hand_record::ReadHand;
 use hand_record::Written;
@@ -98,6 +101,16 @@ pub extern "C" fn hb_cards(suit: u8, size: u8, buf: &mut [u8]) -> Cards
     ensures { λ _. ⌜ now (buf .exit) ≡ cardBuffer suit size (now (buf .entry)) ⌝ }
 {
     card_writer::write(suit, size, buf)
+}
+
+// Judge: whether a claim of a reading and the winner's gain for a record, a dealer and a round wind is accepted, or the first of the four conditions that
+// is false; or the refusal.
+#[no_mangle]
+pub extern "C" fn hb_judge(s: &[u8], claim: &[u8], dealer: u8, wind: u8) -> Judged
+    ensures { λ r. ⌜ IsJudged (now (s .entry)) (now (claim .entry)) dealer wind r ⌝ }
+    ensures { λ r. ⌜ r ≡ judgedOf (now (s .entry)) (now (claim .entry)) dealer wind ⌝ }
+{
+    claim::judge(s, claim, dealer, wind)
 }
 
 // A game before its first booking.

@@ -20,7 +20,8 @@ pub fn is_empty(t: [u8; 34]) -> bool
     true
 }
 
-fn is_group(code: u8) -> bool
+// The code is a group's: a run from its lowest kind, or a triplet.
+pub fn is_group(code: u8) -> bool
     ensures { λ r. ⌜ r ≡ isGroup code ⌝ }
 {
     if code < 34 {

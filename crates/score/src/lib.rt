@@ -115,7 +115,7 @@ fn meld_ways(h: Hand) -> [u8; 4]
 }
 
 // What is the same in every reading of the hand.
-fn setting_of(h: Hand, dealer: u8, wind: u8) -> Setting
+pub fn setting_of(h: Hand, dealer: u8, wind: u8) -> Setting
     requires { ⌜ (h .held .m ≤ 4) × (h .fields .winner ≤ 3) × (dealer ≤ 3) × (wind ≤ 1) ⌝ }
     ensures { λ r. ⌜ (r ≡ settingOf h dealer wind) × Ready r ⌝ }
 {

@@ -144,6 +144,13 @@ pub struct Cards {
 
 #[repr(C)]
 #[derive(Clone, Copy, Debug, PartialEq, Eq)]
+pub struct Judged {
+    pub refusal: u8,
+    pub verdict: u8,
+}
+
+#[repr(C)]
+#[derive(Clone, Copy, Debug, PartialEq, Eq)]
 pub struct Game {
     pub scores: [i32; 4],
     pub sticks: u32,
@@ -220,6 +227,7 @@ extern "C" {
     fn hb_waits(hand: *const u8, len: usize, discards: *const u8, discards_len: usize) -> Waits;
     fn hb_ready(hand: *const u8, len: usize) -> Ready;
     fn hb_cards(suit: u8, size: u8, buffer: *mut u8, len: usize) -> Cards;
+    fn hb_judge(record: *const u8, len: usize, claim: *const u8, claim_len: usize, dealer: u8, wind: u8) -> Judged;
     fn hb_fresh() -> Game;
     fn hb_riichi(game: &mut Game, seat: u8) -> u8;
     fn hb_win(game: &mut Game, record: *const u8, len: usize) -> u8;
@@ -268,6 +276,11 @@ pub fn ready(hand: &[u8]) -> Ready {
 /// Practice cards.
 pub fn cards(suit: u8, size: u8, buffer: &mut [u8]) -> Cards {
     unsafe { hb_cards(suit, size, buffer.as_mut_ptr(), buffer.len()) }
+}
+
+/// Judge.
+pub fn judge(record: &[u8], claim: &[u8], dealer: u8, wind: u8) -> Judged {
+    unsafe { hb_judge(record.as_ptr(), record.len(), claim.as_ptr(), claim.len(), dealer, wind) }
 }
 
 /// A game at its start.

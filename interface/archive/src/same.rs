@@ -79,6 +79,12 @@ pub fn scored(scored: &other_scorer::Scored) -> archive::Scored {
     }
 }
 
+/// What Judge should give (02, S-13).
+pub fn judge(record: &[u8], claim: &[u8], dealer: u8, wind: u8) -> archive::Judged {
+    let other_scorer::claim::Judged { refusal, verdict } = other_scorer::claim::judge(record, claim, dealer, wind);
+    archive::Judged { refusal, verdict }
+}
+
 /// What Score should give once the table is turned by so many seats: the changes moved on, nothing else altered (02, S-12).
 pub fn turned(scored: &archive::Scored, by: u8) -> archive::Scored {
     archive::Scored { changes: moved_changes(scored.changes, by), ..*scored }

@@ -1,4 +1,4 @@
-//! Random records and hands through Read, Write, Score, the slip, Waits and Ready.
+//! Random records and hands through Read, Write, Score, the slip, Waits, Ready and Judge.
 
 use archive::same;
 use other_scorer::codec::{pack, unpack};
@@ -9,6 +9,7 @@ use other_scorer::notation::hex::to_hex as hex;
 use other_scorer::rng::Rng;
 use other_scorer::score;
 
+use crate::claims;
 use crate::ready;
 use crate::report::Report;
 use crate::slips;
@@ -101,7 +102,7 @@ fn compare_write(report: &mut Report, rng: &mut Rng, hand: &archive::Hand) {
     }
 }
 
-/// Compares the six calls for one input.
+/// Compares the seven calls for one input.
 fn compare(report: &mut Report, rng: &mut Rng, index: usize) {
     let (record, dealer, wind, scored) = input(rng, index);
     let read = archive::read(&record);
@@ -130,6 +131,7 @@ fn compare(report: &mut Report, rng: &mut Rng, index: usize) {
     }
 
     slips::compare(report, rng, &record, dealer, wind, &scored);
+    claims::compare(report, rng, &record, dealer, wind);
 
     let hand = hand(rng, &record);
     compare_write(report, rng, &hand);

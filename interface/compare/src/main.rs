@@ -3,6 +3,7 @@
 
 mod buffers;
 mod cards;
+mod claims;
 mod hands;
 mod lines;
 mod logs;

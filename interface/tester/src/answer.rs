@@ -150,3 +150,18 @@ pub fn shape(reading: &Reading) -> &'static str {
         Reading::ThirteenOrphans => "thirteen orphans",
     }
 }
+
+/// A text for scripts, - where there is none.
+pub fn or_none(text: String) -> String {
+    if text.is_empty() { "-".into() } else { text }
+}
+
+/// A reading for scripts: shape, pair, groups, place.
+pub fn columns(reading: &Reading) -> [String; 4] {
+    let (pair, groups) = parts(reading);
+    let place = match reading {
+        Reading::Regular { place, .. } => place.to_string(),
+        _ => String::new(),
+    };
+    [shape(reading).replace(' ', "-"), or_none(pair), or_none(groups.join(",")), or_none(place)]
+}

@@ -1,6 +1,6 @@
 //! The proved core, each answer compared with the other scorer's.
 
-use archive::{same, Cards, Differences, NextEntry, ReadHand, Ready, Scored, Waits, Written, RECORD_MAX};
+use archive::{same, Cards, Differences, Judged, NextEntry, ReadHand, Ready, Scored, Waits, Written, RECORD_MAX};
 use other_scorer::log::tally_lines;
 use other_scorer::notation::hex::to_hex;
 use other_scorer::{score, slip, Hand};
@@ -79,6 +79,14 @@ impl Core {
         let input = || format!("suit {suit}, size {size}, buffer of {length}");
         self.differences.same("cards", (answer, &core), (wanted, &other), input);
         (answer, core)
+    }
+
+    /// Judge.
+    pub fn judge(&mut self, record: &[u8], claim: &[u8], dealer: u8, wind: u8) -> Judged {
+        let answer = archive::judge(record, claim, dealer, wind);
+        let input = || format!("{} claim {} dealer {dealer} wind {wind}", to_hex(record), to_hex(claim));
+        self.differences.same("Judge", answer, same::judge(record, claim, dealer, wind), input);
+        answer
     }
 
     /// Next entry.

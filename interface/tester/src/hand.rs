@@ -43,7 +43,7 @@ pub fn run(core: &mut Core, mut words: Words) -> Result<String, Bad> {
 }
 
 /// A reading with its melds, the part that the winning tile completes in brackets.
-fn in_words(hand: &Hand, reading: &Reading) -> String {
+pub fn in_words(hand: &Hand, reading: &Reading) -> String {
     let (pair, groups) = parts(reading);
     let Reading::Regular { place, .. } = reading else { return shape(reading).into() };
     let own = [vec![pair], groups].concat();

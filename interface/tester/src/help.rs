@@ -12,6 +12,7 @@ tester COMMAND WORDS: asks the proved core, and compares every answer with the o
   waits      what an unfinished hand waits for, and furiten
   ready      how many tiles of an unfinished hand must be swapped until it is ready, and a hand that near
   cards      the practice cards of a suit and a size
+  judge      another scorer's claim for a hand: accepted, or what is false in it
   log        a text of bookings to the bytes of a log, or back
   tally      a log's bookings one after the other, and the game after each
   damage     a record or a log damaged in every way: refusals counted, both scorers compared
@@ -116,6 +117,17 @@ Prints the sets of SIZE tiles of a suit that the core lists for practice cards, 
   buffer=N   lends a buffer of N bytes instead of 7968, which holds every list
 
 For scripts: suit, size, refusal, count, card with its tiles for each set, differences.
+";
+
+pub const JUDGE: &str = "\
+tester judge HAND [claim=HEX] [dealer=N] [wind=E|S] [--plain]
+
+HAND as for `tester hand`. Judges a claim of a reading and the winner's gain: accepted, or the first of the four that is false.
+
+  claim=HEX  the claim's bytes (docs/RECORDS.md); if not given, the claim of the reported reading is made and judged
+
+For scripts: the lines of `hand` up to why, claim, reading SHAPE PAIR GROUPS PLACE, gain, judged with its refusal and verdict,
+fault, differences.
 ";
 
 pub const LOG: &str = "\

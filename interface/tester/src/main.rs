@@ -1,4 +1,4 @@
-//! `tester COMMAND WORDS`: hands, readings, turned tables, waits, hands that are not ready, logs, games and damaged bytes, answered by the proved core and compared
+//! `tester COMMAND WORDS`: hands, readings, turned tables, waits, hands that are not ready, practice cards, claims, logs, games and damaged bytes, answered by the proved core and compared
 //! with the other scorer. Exit status 0: answered, refusals too; 1: the two differ; 2: bad input, told in one line.
 
 mod answer;
@@ -10,6 +10,7 @@ mod fu;
 mod hand;
 mod help;
 mod input;
+mod judge;
 mod log;
 mod names;
 mod page;
@@ -37,7 +38,7 @@ use words::{Bad, Words};
 type Command = fn(&mut Core, Words) -> Result<String, Bad>;
 
 /// The commands by name, with their help.
-const COMMANDS: [(&str, Command, &str); 11] = [
+const COMMANDS: [(&str, Command, &str); 12] = [
     ("hand", hand::run, help::HAND),
     ("readings", readings::run, help::READINGS),
     ("turn", turn::run, help::TURN),
@@ -46,6 +47,7 @@ const COMMANDS: [(&str, Command, &str); 11] = [
     ("waits", waits::run, help::WAITS),
     ("ready", ready::run, help::READY),
     ("cards", cards::run, help::CARDS),
+    ("judge", judge::run, help::JUDGE),
     ("log", log::run, help::LOG),
     ("tally", tally::run, help::TALLY),
     ("damage", damage::run, help::DAMAGE),
@@ -57,14 +59,14 @@ fn run(core: &mut Core, mut words: Words) -> Result<String, Bad> {
     let Some(name) = words.take_first() else {
         return match wants_help {
             true => Ok(help::TOOL.into()),
-            false => Err(Bad::new("no command: hand, readings, turn, rename, slip, waits, ready, cards, log, tally or damage; --help says more")),
+            false => Err(Bad::new("no command: hand, readings, turn, rename, slip, waits, ready, cards, judge, log, tally or damage; --help says more")),
         };
     };
     match COMMANDS.iter().find(|(command, ..)| *command == name) {
         Some((.., help)) if wants_help => Ok(help.to_string()),
         Some((_, command, _)) => command(core, words),
         None => {
-            let why = "no command; there are hand, readings, turn, rename, slip, waits, ready, cards, log, tally and damage";
+            let why = "no command; there are hand, readings, turn, rename, slip, waits, ready, cards, judge, log, tally and damage";
             Err(Bad::new(format!("word 1, \"{name}\": {why}")))
         }
     }

@@ -3,7 +3,7 @@
 use other_scorer::reading::Reading;
 use other_scorer::score::{Valued, Value};
 
-use crate::answer::{parts, shape, Answer};
+use crate::answer::{columns, or_none, parts, shape, Answer};
 use crate::both::Core;
 use crate::names::{points, yaku};
 use crate::page::{table, Page};
@@ -104,23 +104,18 @@ fn legend(page: &mut Page, answer: &Answer) {
 
 /// A line for scripts: number, shape, pair, groups, place, yaku, h, fu, gain, verdict; - where there is none.
 fn plain_row(page: &mut Page, n: usize, (reading, value): &Valued, answer: &Answer) {
-    let or_none = |text: String| if text.is_empty() { "-".to_string() } else { text };
-    let (pair, groups) = parts(reading);
-    let place = match reading {
-        Reading::Regular { place, .. } => place.to_string(),
-        _ => String::new(),
-    };
     let yaku = value.as_ref().map_or(Vec::new(), numbers);
     let yaku: Vec<String> = yaku.iter().map(usize::to_string).collect();
     let figure = |of: fn(&Value) -> i32| value.as_ref().map_or("-".into(), |value| of(value).to_string());
+    let [shape, pair, groups, place] = columns(reading);
     page.plain(
         "reading",
         [
             n.to_string(),
-            shape(reading).replace(' ', "-"),
-            or_none(pair),
-            or_none(groups.join(",")),
-            or_none(place),
+            shape,
+            pair,
+            groups,
+            place,
             or_none(yaku.join(",")),
             figure(|value| value.h as i32),
             figure(|value| value.fu as i32),

@@ -34,6 +34,7 @@ pub fn refusal(number: u8) -> &'static str {
         15 => "a discard is no kind",
         16 => "the page is shorter than a slip",
         19 => "no such suit or size, or the buffer is shorter than the list",
+        22 => "the claim is faulty",
         _ => "no refusal of documents 01 and 02",
     }
 }

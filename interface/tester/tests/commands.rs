@@ -154,6 +154,36 @@ fn cards() {
 }
 
 #[test]
+fn claims() {
+    let (five, seven) = ("112233m778899p5s+5s seat=1 ron=3", "456p78s234s99p+9s chi=123m seat=1 ron=3");
+    for (hand, claim, judged, words) in [
+        (five, "16000078f01450", "0 0", "accepted"),
+        (five, "16000078f21450", "0 1", "1, its reading is not one of those tiles"),
+        (seven, "11184cc301f400", "0 2", "2, its reading has no yaku"),
+        (five, "40d480", "0 3", "3, its reading does not pay that gain"),
+        (five, "40c800", "0 4", "4, another reading with a yaku pays more"),
+        (seven, "40c800", "0 1", "1, its reading is not one of those tiles"),
+        (five, "40c801", "22 0", "refusal 22, the claim is faulty: a padding bit set"),
+        (five, "", "22 0", "refusal 22, the claim is faulty: another length"),
+    ] {
+        let out = answer(&format!("judge {hand} claim={claim}"));
+        assert!(out.contains(&format!("\njudged     {words}\n")) && out.ends_with("both scorers agree\n"), "{out}");
+        let out = answer(&format!("judge {hand} claim={claim} --plain"));
+        assert!(out.contains(&format!("\nclaim {claim}").trim_end().to_string()), "{out}");
+        assert!(out.contains(&format!("\njudged {judged}\n")) && out.ends_with("differences 0\n"), "{out}");
+    }
+    let own = answer(&format!("judge {five} --plain"));
+    assert!(own.contains("\nclaim 16000078f01450\nreading regular 55s 123m,123m,789p,789p 0\ngain 5200\njudged 0 0\n"), "{own}");
+    let out = answer(&format!("judge {five} claim=16000078f01450"));
+    assert!(out.contains("\nreading *  [55s] 123m 123m 789p 789p, [ ] with the winning tile\ngain *     5,200\n"), "{out}");
+    for (typed, refusal) in [(&LINE_1[..24], 1), (five, 8)] {
+        let dealer = if refusal == 8 { "dealer=4" } else { "" };
+        let out = answer(&format!("judge {typed} {dealer} claim=40c801 --plain"));
+        assert!(out.contains(&format!("\njudged {refusal} 0\n")), "{out}");
+    }
+}
+
+#[test]
 fn items_of_fu_by_name() {
     for (hand, rows) in [
         (

@@ -12,8 +12,8 @@ fn fails(line: &str, input: &str, message: &str) {
 
 #[test]
 fn of_the_tool() {
-    fails("", "", "no command: hand, readings, turn, rename, slip, waits, ready, cards, log, tally or damage; --help says more");
-    fails("hands", "", "word 1, \"hands\": no command; there are hand, readings, turn, rename, slip, waits, ready, cards, log, tally and damage");
+    fails("", "", "no command: hand, readings, turn, rename, slip, waits, ready, cards, judge, log, tally or damage; --help says more");
+    fails("hands", "", "word 1, \"hands\": no command; there are hand, readings, turn, rename, slip, waits, ready, cards, judge, log, tally and damage");
 }
 
 #[test]
@@ -34,7 +34,7 @@ fn of_cards() {
 #[test]
 fn of_a_hand() {
     let tiles = "234567m345p67s22s+8s";
-    for command in ["hand", "readings", "slip"] {
+    for command in ["hand", "readings", "slip", "judge"] {
         for (words, message) in [
             ("", format!("after word 1, \"{command}\": no hand, such as {tiles} seat=1 ron=3")),
             ("b81", "word 2, \"b81\": two hexadecimal digits make a byte, one is left over".into()),

@@ -1,0 +1,26 @@
+-- `claim::shape_in` meets its contract: shapes 1 and 2.
+use borrow.Author.Needs.{needs}
+use mathlib.Core.Path.{_∙_}
+use borrow.Author.Tests.{lt-ltb, le-ltb}
+use Rattle.claim.specs.laws.Claimed.{shape-faulty, shape-sound}
+use Rattle.claim.proofs.shape_in.Statement.{statement}
+use Rattle.claim.proofs.shape_in.Tie as tie
+
+pub shape-in-spec : {M : Type 1} → statement M
+shape-in-spec =
+    tie.close
+    (tie.spec (λ c κs. search needs) (λ c κs. search needs) (λ c κs. search needs)
+    (λ c.
+    let p = c .before .before in
+    let g = p .before in
+    let a = g .before .before in
+    c .nothing .ensures
+    ∙ shape-faulty (a .args .m) (a .args .shape) (a .args .b .now) (a .pre .2) (a .pre .3) (a .pre .4) (g .gather .result) (p .gather2 .result)
+    (g .gather .ensures .0) (p .gather2 .ensures .0) (lt-ltb 0 _ (c .before .if1 .taken)))
+    (λ c κs. search needs)
+    (λ c.
+    let p = c .before .before in
+    let g = p .before in
+    let a = g .before .before in
+    shape-sound (a .args .m) (a .args .shape) (a .args .b .now) (a .pre .2) (a .pre .3) (a .pre .4) (g .gather .result) (p .gather2 .result)
+    (g .gather .ensures .0) (p .gather2 .ensures .0) (c .of-shape .result) (c .of-shape .ensures) (le-ltb 0 _ (c .before .if1 .left))))

@@ -1,0 +1,82 @@
+-- `claim::verdict` meets its contract: where it is a reading, by what it pays.
+use borrow.Author.Needs.{needs}
+use Prim.Native.Nat.{ℕ, _≤_}
+use mathlib.Core.Path.{_≡_, ap, sym, _∙_}
+use mathlib.Core.Bool.{Bool, true, false, not}
+use mathlib.Core.List.{List}
+use borrow.Author.Tests.{not-true, not-false}
+use lib.ListN.{length}
+use Rattle.hand.specs.declared.Hand.{Hand}
+use Rattle.hand.specs.Hand.{concealedTally}
+use Rattle.reading.specs.declared.Reading.{Reading}
+use Rattle.yaku.specs.Yaku.{hasYaku}
+use Rattle.value.specs.declared.Value.{Value}
+use Rattle.setting.specs.declared.Setting.{Setting}
+use Rattle.best.specs.declared.Best.{Best}
+use Rattle.setting.specs.search.Setting.{worthIn}
+use Rattle.best.specs.search.Best.{bestOf}
+use Rattle.score.specs.Readings.{all-kinds}
+use Rattle.score.specs.Named.{worth}
+use Rattle.score.specs.search.Setting.{settingOf}
+use Rattle.score.specs.laws.Parts.{worth-in, kept-in}
+use Rattle.claim.specs.search.Verdict.{IsFormed, reads, weighedAs, verdictOf}
+use Rattle.claim.specs.laws.Reads.{decides, formed-bounds}
+use Rattle.claim.proofs.verdict.Statement.{statement}
+use Rattle.claim.proofs.verdict.Tie as tie
+
+-- ---- by what the calls gave
+
+module _ (h : Hand) (dealer wind : ℕ) (r : Reading) (gain : ℕ) (f : IsFormed (h .held .m) r)
+    (c : List ℕ) (x : Bool) (ec : c ≡ concealedTally h) (ex : x ≡ reads c (h .held .m) (h .fields .winning) r) where
+  reading-is : reads (concealedTally h) (h .held .m) (h .fields .winning) r ≡ x
+  reading-is = sym (ex ∙ ap (λ (l : List ℕ). reads l (h .held .m) (h .fields .winning) r) ec)
+
+  none : not x ≡ true → 1 ≡ verdictOf h dealer wind r gain
+  unfolding verdictOf
+  none e = rw (reading-is ∙ not-true x e)
+
+  weighs : not x ≡ false → h .held .m ≤ 4 → length (h .held .melds) ≡ 4
+      → (t : Setting) (v : Value) (b : Best) (y : Bool) (w : ℕ) → t ≡ settingOf h dealer wind → v ≡ worthIn t r
+      → b ≡ bestOf (worthIn t) c (h .held .m) (h .fields .winning)
+      → y ≡ hasYaku (v .yaku) → w ≡ weighedAs y (v .gain .0) gain (b .value .gain .0) → w ≡ verdictOf h dealer wind r gain
+  unfolding verdictOf
+  weighs n few long t v b y w et ev eb ey ew =
+      let read : reads (concealedTally h) (h .held .m) (h .fields .winning) r ≡ true = reading-is ∙ not-false x n in
+      let i = decides (concealedTally h) (h .held .m) (h .fields .winning) (all-kinds h) r f .0 read in
+      let worth-is : v ≡ worth h dealer wind r = ev ∙ ap (λ (z : Setting). worthIn z r) et ∙ worth-in h few long dealer wind r i in
+      ew ∙ rw (read, ey, worth-is, kept-in h few long dealer wind t c b et ec eb)
+
+-- ---- the calls
+
+-- melds has four places
+long-melds : (c : tie.Start) → length (c .args .h .held .melds) ≡ 4
+long-melds c = search needs
+
+pub verdict-spec : {M : Type 1} → statement M
+verdict-spec =
+    tie.close
+    (tie.spec (λ c κs. search needs)
+    (λ c κs. let s = c .before in let b = formed-bounds (s .args .h .held .m) (s .args .r) (s .pre .4) in (s .pre .0, b .0, b .1))
+    (λ c.
+    let i = c .before in
+    let t = i .before in
+    let a = t .before .args in
+    none (a .h) (a .dealer) (a .wind) (a .r) (a .gain) (t .before .pre .4) (t .concealed-tally .result) (i .is-reading .result) (t .concealed-tally .ensures)
+    (i .is-reading .ensures) (c .if1 .taken))
+    (λ c κs. search needs)
+    (λ c κs. let s = c .before .before .before .before in (c .setting-of .ensures .1, formed-bounds (s .args .h .held .m) (s .args .r) (s .pre .4) .0))
+    (λ c κs. search needs) (λ c κs. search needs) (λ c κs. search needs)
+    (λ c.
+    let y = c .before in
+    let b = y .before in
+    let v = b .before .before in
+    let k = v .before in
+    let e = k .before in
+    let i = e .before in
+    let t = i .before in
+    let s = t .before in
+    let a = s .args in
+    weighs (a .h) (a .dealer) (a .wind) (a .r) (a .gain) (s .pre .4) (t .concealed-tally .result) (i .is-reading .result) (t .concealed-tally .ensures)
+    (i .is-reading .ensures)
+    (e .if1 .left) (s .pre .0) (long-melds s) (k .setting-of .result) (v .worth .result) (b .best-of .result) (y .has-yaku .result) (c .weighed .result)
+    (k .setting-of .ensures .0) (v .worth .ensures) (b .best-of .ensures) (y .has-yaku .ensures) (c .weighed .ensures)))

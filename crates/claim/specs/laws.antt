@@ -1,0 +1,9 @@
+pub mod Bits
+pub mod Claimed
+pub mod Names
+pub mod Reads
+pub mod Verdict
+pub mod Exact
+pub mod Found
+pub mod Judged
+pub mod Worked

@@ -1,0 +1,65 @@
+//! `judge`: another scorer's claim for a hand, as the core judges it, in words.
+
+use other_scorer::claim::{pack, parse, Claim, FAULTS, FAULTY};
+use other_scorer::notation::hex::{from_hex, to_hex};
+
+use crate::answer::{columns, Answer};
+use crate::both::Core;
+use crate::hand::in_words;
+use crate::names::{count, points};
+use crate::page::Page;
+use crate::refusals::sentence;
+use crate::words::{Bad, Words};
+
+/// The verdicts in words (02, S-13).
+const VERDICTS: [&str; 5] = [
+    "accepted",
+    "1, its reading is not one of those tiles",
+    "2, its reading has no yaku",
+    "3, its reading does not pay that gain",
+    "4, another reading with a yaku pays more",
+];
+
+/// The verdict on a claim, or why it is refused.
+pub fn run(core: &mut Core, mut words: Words) -> Result<String, Bad> {
+    let plain = words.take_flag("--plain");
+    let typed = words.take("claim", |value| if value.is_empty() { Ok(Vec::new()) } else { from_hex(value) })?;
+    let answer = Answer::of(core, words)?;
+    let own = || answer.reported().map(|(reading, value)| Claim { reading: reading.clone(), gain: value.gain as u32 });
+    let Some(claim) = typed.or_else(|| own().map(|claim| pack(&claim))) else {
+        return Err(Bad::new("claim=HEX is needed: no reading of the hand is reported"));
+    };
+    let judged = core.judge(&answer.record, &claim, answer.dealer, answer.wind);
+    let named = answer.sound().map(|hand| parse(&claim, hand.m));
+    let fault = named.clone().and_then(Result::err).filter(|_| judged.refusal == FAULTY).map(|fault| FAULTS[fault]);
+    let named = named.and_then(Result::ok);
+
+    let mut page = Page::default();
+    if plain {
+        answer.plain_head(&mut page);
+        page.plain("claim", [to_hex(&claim)]);
+        if let Some(Claim { reading, gain }) = &named {
+            page.plain("reading", columns(reading));
+            page.plain("gain", [gain]);
+        }
+        page.plain("judged", [judged.refusal, judged.verdict]);
+        fault.iter().for_each(|fault| page.plain("fault", [fault]));
+        page.plain("differences", [core.differences.count]);
+        return Ok(page.finish());
+    }
+    answer.head(&mut page);
+    page.line("");
+    page.row("claim", format!("{}, {}", to_hex(&claim), count(claim.len(), "byte")));
+    if let (Some(hand), Some(Claim { reading, gain })) = (answer.sound(), &named) {
+        page.row("reading *", in_words(hand, reading));
+        page.row("gain *", points(*gain as i64));
+    }
+    page.row("judged", match judged.refusal {
+        0 => VERDICTS.get(judged.verdict as usize).unwrap_or(&"no verdict of document 02").to_string(),
+        refusal => sentence(refusal, &fault.map(String::from).into_iter().collect::<Vec<_>>()),
+    });
+    page.line("");
+    page.line("* what the claim names, read by the other scorer; all else is the core's answer");
+    page.line(core.verdict());
+    Ok(page.finish())
+}
