@@ -38,7 +38,8 @@ enum {
     HB_REFUSAL_ARGUMENT = 8,    /* Score "dealer over 3 or wind over 1"; Riichi, Chombo "seat over 3"; Draw "over 15" */
     HB_REFUSAL_NOT_OPEN = 9,    /* "over (marked so, or 200 hands finished), or out of form (dealer over 3, wind over 1, over
                                    200 hands, fewer sticks than declared seats, a score under the floor below, or scores
-                                   plus 1,000 times sticks not 120,000)"; the floor is -9,770,000 */
+                                   plus 1,000 times sticks not 120,000)"; "The counter never exceeds the hands finished, and a
+                                   game where it does is out of form"; "The floor of a score becomes" -15,740,000 */
     HB_REFUSAL_DECLARED = 10,   /* "declared already this hand" */
     HB_REFUSAL_RIICHI = 11,     /* "riichi field non-zero and winner not declared, or the reverse" */
     HB_REFUSAL_NOT_READY = 12,  /* "a declared seat not ready" */
@@ -228,6 +229,7 @@ typedef struct {
     uint8_t declared[4];  /* not 0 where the seat has declared riichi in this hand */
     uint8_t dealer, wind, hands;
     uint8_t over;         /* not 0 where the game is marked over */
+    uint32_t counter;     /* repeat counters: "rises by one at each dealer's win and each draw, returns to 0 at a child's win" */
 } HbGame;
 
 /* What stands at an offset of a log: an entry, the end (end set, all else zero), or refusal 14 (all else zero). */
@@ -296,7 +298,8 @@ HbGame hb_fresh(void);
 /* Riichi of a seat; refusals 8, 9, 10 in order. */
 uint8_t hb_riichi(HbGame *game, uint8_t seat);
 
-/* Win by a record; refusals 9, 1 to 7, 11 in order. */
+/* Win by a record: what Score gives, and of the counters "A ron payer pays 300 more for each counter, and on tsumo each payer
+ * pays 100 more"; refusals 9, 1 to 7, 11 in order. */
 uint8_t hb_win(HbGame *game, const uint8_t *record, size_t record_len);
 
 /* Draw; bits: four, seat 0 the most significant, set for ready; refusals 8, 9, 12 in order. */

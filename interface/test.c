@@ -31,7 +31,7 @@ static void sizes(void)
     CHECK(HB_UNFINISHED_LENGTH(0) == 11 && HB_UNFINISHED_LENGTH(1) == 9 && HB_UNFINISHED_LENGTH(2) == 8);
     CHECK(HB_UNFINISHED_LENGTH(3) == 7 && HB_UNFINISHED_LENGTH(4) == 6 && sizeof(HbWaits) == 36 && sizeof(HbReady) == 15);
     CHECK(sizeof(HbItems) == 10 && sizeof(HbScored) == 72 && sizeof(HbJudged) == 2);
-    CHECK(sizeof(HbGame) == 28 && sizeof(HbWalk) == 48 && sizeof(HbPrinted) == 56);
+    CHECK(sizeof(HbGame) == 32 && sizeof(HbWalk) == 48 && sizeof(HbPrinted) == 56);
 }
 
 /* A line of document 01's table: its number, record and score; from 101 on, hands that the table lacks. Points, and h and fu
@@ -811,10 +811,16 @@ static void refused_bookings(void)
     CHECK(all_refused(&game, HB_REFUSAL_NOT_OPEN));
     game = fresh, game.sticks = UINT32_MAX;
     CHECK(all_refused(&game, HB_REFUSAL_NOT_OPEN));
-    game = fresh, game.scores[0] = -9770001, game.scores[1] = 9770001 + 60000;
+    game = fresh, game.scores[0] = -15740001, game.scores[1] = 15740001 + 60000;
     CHECK(all_refused(&game, HB_REFUSAL_NOT_OPEN));
-    game = fresh, game.scores[0] = -9770000, game.scores[1] = 9770000 + 60000;
+    game = fresh, game.scores[0] = -15740000, game.scores[1] = 15740000 + 60000;
     CHECK(hb_riichi(&game, 3) == 0);
+    game = fresh, game.counter = 1;
+    CHECK(all_refused(&game, HB_REFUSAL_NOT_OPEN));
+    game = fresh, game.hands = 199, game.counter = 200;
+    CHECK(all_refused(&game, HB_REFUSAL_NOT_OPEN));
+    game = fresh, game.hands = 199, game.counter = UINT32_MAX;
+    CHECK(all_refused(&game, HB_REFUSAL_NOT_OPEN));
 }
 
 /* Marks of a game that are neither 0 nor 1: they are set, a refused booking leaves them, an accepted one sets 0 or 1. */
@@ -836,6 +842,39 @@ static void marks(void)
     game = before;
     CHECK(hb_chombo(&game, 0) == 0 && game.sticks == 0 && game.scores[2] == 33000);
     CHECK(memcmp(game.declared, cleared, sizeof cleared) == 0);
+}
+
+/* The counter: what a win pays more for it, what each booking leaves of it, and as many as there may be. */
+static void counters(void)
+{
+    static const uint8_t thirteen_orphans[13] = {136, 30, 0, 0, 65, 40, 164, 211, 110, 58, 243, 240, 66}; /* seat 0 from seat 1 */
+    static const int32_t by_child[] = {30000, 34100, 30000, 25900};  /* line 1, 2,000, and 300 for each of 7 */
+    static const int32_t by_tsumo[] = {28000, 34800, 28600, 28600};  /* line 2: 700, 700 and 1,300, and 100 for each from each */
+    static const int32_t by_dealer[] = {35000, 30000, 30000, 25000}; /* line 3, 2,900 */
+    static const int32_t lowest[] = {15800000, -15740000, 30000, 30000};
+    HbGame fresh = hb_fresh(), seven = fresh, game;
+    CHECK(fresh.counter == 0);
+    seven.hands = 7, seven.counter = 7;
+    game = seven;
+    CHECK(hb_win(&game, table[0].record, 13) == 0 && is_game(&game, by_child, 0, 1, HB_ROUND_EAST, 8) && game.counter == 0);
+    game = seven;
+    CHECK(hb_win(&game, table[1].record, 13) == 0 && is_game(&game, by_tsumo, 0, 1, HB_ROUND_EAST, 8) && game.counter == 0);
+    game = seven;
+    CHECK(hb_win(&game, table[2].record, 13) == 0 && is_game(&game, by_dealer, 0, 0, HB_ROUND_EAST, 8) && game.counter == 8);
+    game = seven;
+    CHECK(hb_draw(&game, 8) == 0 && game.counter == 8 && game.dealer == 0);
+    game = seven;
+    CHECK(hb_draw(&game, 0) == 0 && game.counter == 8 && game.dealer == 1);
+    game = seven;
+    CHECK(hb_riichi(&game, 2) == 0 && game.counter == 7);
+    CHECK(hb_chombo(&game, 2) == 0 && game.counter == 7 && game.hands == 8);
+    CHECK(hb_win(&game, table[0].record, 3) == HB_REFUSAL_LENGTH && game.counter == 7);
+
+    game = fresh;
+    for (int hand = 0; hand < 200; hand++)
+        CHECK_CASE(hand, hb_riichi(&game, 1) == 0 && game.counter == (uint32_t)hand && hb_win(&game, thirteen_orphans, 13) == 0);
+    CHECK(is_game(&game, lowest, 0, 0, HB_ROUND_EAST, 200) && game.over && game.counter == 200);
+    CHECK(all_refused(&game, HB_REFUSAL_NOT_OPEN));
 }
 
 /* The end by the deal after eight draws with none ready, and at 200 hands of chombo. */
@@ -1057,7 +1096,7 @@ static void starts(void)
     CHECK(memcmp(&walk.game, &fresh, sizeof fresh) == 0 && walk.at == 0 && walk.entry == 1);
 }
 
-/* Document 01's log 01 24, and one with a win, refused bookings and a bad entry at its end. */
+/* Document 01's log 01 24, one with a win, refused bookings and a bad entry at its end, and one with a counter. */
 static void logs(void)
 {
     static const int32_t after[] = {29000, 32000, 29000, 29000};
@@ -1065,6 +1104,7 @@ static void logs(void)
     static const char lines[] = "1 R 0 30000 29000 30000 30000 1\n2 D 0 29000 32000 29000 29000 1\n";
     static const char more[] = "1 W 0 30000 32000 30000 28000 0\n2 R 8 30000 32000 30000 28000 0\n"
                                "3 C 0 33000 23000 33000 31000 0\n";
+    static const char counted[] = "1 D 0 30000 30000 30000 30000 0\n2 W 0 30000 32300 30000 27700 0\n";
     uint8_t text[HB_LINE_MAX], log[17];
     HbPrinted printed = hb_lines(hb_start(), example, 2, text, sizeof text);
     CHECK(printed.written == sizeof lines - 1 && memcmp(text, lines, sizeof lines - 1) == 0);
@@ -1077,6 +1117,9 @@ static void logs(void)
     log[14] = 0x04, log[15] = 0x31, log[16] = 0x40;
     CHECK(tally(log, 17, HB_LINE_MAX, all) == sizeof more - 1 && memcmp(all, more, sizeof more - 1) == 0);
     CHECK(tally(log, 17, 3 * HB_LINE_MAX, all) == sizeof more - 1 && memcmp(all, more, sizeof more - 1) == 0);
+
+    log[0] = 0x2f, memcpy(log + 1, win_entry, 14);
+    CHECK(tally(log, 15, 2 * HB_LINE_MAX, all) == sizeof counted - 1 && memcmp(all, counted, sizeof counted - 1) == 0);
 }
 
 /* A log of many entries, to the game's end and past it, and a bad one last. Gives its length. */
@@ -1149,7 +1192,7 @@ static void walks_by_value(void)
 {
     static const uint8_t log[] = {0x01, 0x24};
     static const char line[] = "4000000000 D 9 1 -2 2147483647 -2147483648 4294967295\n";
-    const HbGame odd = {{1, -2, INT32_MAX, INT32_MIN}, UINT32_MAX, {6, 0x87, 0, 0xff}, 10, 11, 12, 0};
+    const HbGame odd = {{1, -2, INT32_MAX, INT32_MIN}, UINT32_MAX, {6, 0x87, 0, 0xff}, 10, 11, 12, 0, 0xa1b2c3d4};
     const HbWalk before = {odd, 1, 4000000000u}, after = {odd, 2, 4000000001u};
     uint8_t text[HB_LINE_MAX];
     HbPrinted printed = hb_lines(before, log, 2, text, sizeof text);
@@ -1248,6 +1291,7 @@ int main(void)
     bookings();
     refused_bookings();
     marks();
+    counters();
     ends();
     entries();
     booked_entries();

@@ -1,11 +1,12 @@
-//! The game and its four bookings (01, The game).
+//! The game and its four bookings (01, The game; 02, S-5).
 
 use crate::booking::Booking;
 use crate::codec::read;
+use crate::record::{Hand, RON};
 use crate::score::score;
 
-/// No score of an open game is under this (01, The game).
-pub const FLOOR: i32 = -9_770_000;
+/// No score of an open game is under this (02, S-5).
+pub const FLOOR: i32 = -15_740_000;
 
 /// The game is over at so many finished hands (01, The game).
 pub const LAST_HAND: u8 = 200;
@@ -22,13 +23,14 @@ pub struct Game {
     pub wind: u8,
     pub hands: u8,
     pub over: bool,
+    pub counter: u32,
 }
 
 impl Game {
     /// A game at its start (01, The game).
     pub fn fresh() -> Game {
         let (sticks, declared) = (0, [false; 4]);
-        Game { scores: [30_000; 4], sticks, declared, dealer: 0, wind: 0, hands: 0, over: false }
+        Game { scores: [30_000; 4], sticks, declared, dealer: 0, wind: 0, hands: 0, over: false, counter: 0 }
     }
 
     /// The number of declared seats (01, The game).
@@ -41,8 +43,8 @@ impl Game {
         self.scores.iter().map(|&score| score as i64).sum::<i64>() + STICK * self.sticks as i64
     }
 
-    /// Each way to be out of form (01, The game, refusal 9).
-    pub fn form_faults(&self) -> [bool; 6] {
+    /// Each way to be out of form (01, The game, refusal 9; 02, S-5).
+    pub fn form_faults(&self) -> [bool; 7] {
         [
             self.dealer > 3,
             self.wind > 1,
@@ -50,6 +52,7 @@ impl Game {
             self.sticks < self.declarations(),
             self.scores.iter().any(|&score| score < FLOOR),
             self.total() != TOTAL,
+            self.counter > self.hands as u32,
         ]
     }
 
@@ -58,7 +61,7 @@ impl Game {
         !self.over && self.hands != LAST_HAND && !self.form_faults().contains(&true)
     }
 
-    /// Gives a seat points, or takes them; in an open game sums stay under 30 million.
+    /// Gives a seat points, or takes them; in an open game sums stay under 70 million.
     fn pay(&mut self, seat: usize, points: i64) {
         let score = self.scores[seat] as i64 + points;
         self.scores[seat] = i32::try_from(score).expect("points of an open game");
@@ -109,6 +112,16 @@ pub fn riichi(game: &mut Game, seat: u8) -> u8 {
     0
 }
 
+/// Has each payer of a win pay more for the counters: 300 each by ron, 100 each on tsumo (02, S-5).
+fn pay_counters(game: &mut Game, hand: &Hand) {
+    let by_ron = hand.how == RON;
+    let more = if by_ron { 300 } else { 100 } * game.counter as i64;
+    for payer in (0..4).filter(|&seat| if by_ron { seat == hand.discarder } else { seat != hand.winner }) {
+        game.pay(payer as usize, -more);
+        game.pay(hand.winner as usize, more);
+    }
+}
+
 /// Books a win; gives the refusal, 0 if accepted (01, Win).
 pub fn win(game: &mut Game, record: &[u8]) -> u8 {
     if !game.is_open() {
@@ -129,8 +142,10 @@ pub fn win(game: &mut Game, record: &[u8]) -> u8 {
     for (seat, &change) in scored.changes.iter().enumerate() {
         game.pay(seat, change as i64);
     }
+    pay_counters(game, &hand);
     game.pay(winner, STICK * game.sticks as i64);
     game.sticks = 0;
+    game.counter = if hand.winner == game.dealer { game.counter + 1 } else { 0 };
     game.finish(hand.winner != game.dealer);
     0
 }
@@ -155,6 +170,7 @@ pub fn draw(game: &mut Game, bits: u8) -> u8 {
     for seat in 0..4 {
         game.pay(seat, if is_ready(bits, seat) { gain } else { -cost });
     }
+    game.counter += 1;
     game.finish(!is_ready(bits, game.dealer as usize));
     0
 }

@@ -1,4 +1,4 @@
-//! The ledger: a second bookkeeping, from the bookings' arguments alone (01, Ledger).
+//! The ledger: a second bookkeeping, from the bookings' arguments alone (01, Ledger; 02, S-5).
 //! It shares only the scoring of a win with the game.
 
 use std::collections::BTreeSet;
@@ -15,6 +15,7 @@ pub struct Ledger {
     pub wind: u8,
     pub hands: u32,
     pub over: bool,
+    pub counter: i64,
 }
 
 /// The seats set in a draw's four bits, seat 0 first (01, Draw).
@@ -28,6 +29,11 @@ fn winner(record: &[u8]) -> u8 {
     record[0] % 128 / 32
 }
 
+/// The discarder's seat in a record of a ron, whose first bit is set: its fourth and fifth bit (01, Tiles and the hand record).
+fn discarder(record: &[u8]) -> Option<u8> {
+    (record[0] / 128 == 1).then_some(record[0] % 32 / 8)
+}
+
 /// Whether a record's riichi field is non-zero: its sixth and seventh bit (01, Tiles and the hand record).
 fn has_riichi(record: &[u8]) -> bool {
     record[0] % 8 / 2 != 0
@@ -37,7 +43,7 @@ impl Ledger {
     /// The ledger before any booking (01, Ledger).
     pub fn fresh() -> Ledger {
         let (scores, declared) = ([30_000; 4], BTreeSet::new());
-        Ledger { scores, sticks: 0, declared, dealer: 0, wind: 0, hands: 0, over: false }
+        Ledger { scores, sticks: 0, declared, dealer: 0, wind: 0, hands: 0, over: false, counter: 0 }
     }
 
     /// Whether the ledger's game is closed: over, or out of form (01, The game, refusal 9).
@@ -46,7 +52,8 @@ impl Ledger {
             && self.wind <= 1
             && self.hands <= 200
             && self.declared.len() as i64 <= self.sticks
-            && self.scores.iter().all(|&score| -9_770_000 <= score)
+            && self.counter <= self.hands as i64
+            && self.scores.iter().all(|&score| -15_740_000 <= score)
             && self.scores.iter().sum::<i64>() + 1000 * self.sticks == 120_000;
         self.over || self.hands == 200 || !in_form
     }
@@ -68,13 +75,24 @@ impl Ledger {
         met.into_iter().find(|(_, holds)| *holds).map_or(0, |(number, _)| number)
     }
 
-    /// What an accepted booking gives or costs a seat (01, Ledger).
+    /// What the counters add to a seat's change at a win (02, S-5; 000, article 50).
+    fn added(&self, record: &[u8], seat: u8) -> i64 {
+        let each = match discarder(record) {
+            _ if winner(record) == seat => 300,
+            None => -100,
+            Some(payer) if payer == seat => -300,
+            Some(_) => 0,
+        };
+        each * self.counter
+    }
+
+    /// What an accepted booking gives or costs a seat (01, Ledger; 02, S-5).
     fn moved(&self, booking: &Booking, seat: u8) -> i64 {
         match booking {
             Riichi(own) if *own == seat => -1000,
             Riichi(_) => 0,
             Win(record) => {
-                let change = score(record, self.dealer, self.wind).changes[seat as usize] as i64;
+                let change = score(record, self.dealer, self.wind).changes[seat as usize] as i64 + self.added(record, seat);
                 if winner(record) == seat { change + 1000 * self.sticks } else { change }
             }
             Draw(bits) => {
@@ -102,6 +120,15 @@ impl Ledger {
         }
     }
 
+    /// The counter that an accepted booking leaves (02, S-5).
+    fn counted(&self, booking: &Booking) -> i64 {
+        match booking {
+            Win(record) if winner(record) != self.dealer => 0,
+            Win(_) | Draw(_) => self.counter + 1,
+            Riichi(_) | Chombo(_) => self.counter,
+        }
+    }
+
     /// Whether an accepted booking passes the deal (01, The game).
     fn passes(&self, booking: &Booking) -> bool {
         match booking {
@@ -122,6 +149,7 @@ impl Ledger {
             self.scores[seat as usize] + self.moved(booking, seat)
         });
         next.sticks = self.left(booking);
+        next.counter = self.counted(booking);
         if let Riichi(seat) = booking {
             next.declared.insert(*seat);
             return (next, 0);

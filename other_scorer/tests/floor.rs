@@ -1,4 +1,4 @@
-//! The lowest score a fresh game can reach (01, The game).
+//! The lowest score a fresh game can reach (01, The game; 02, S-5).
 
 mod chance;
 
@@ -9,7 +9,12 @@ use other_scorer::points::{basic, ron, tsumo, YAKUMAN};
 use other_scorer::rng::Rng;
 use other_scorer::{Booking, Game};
 
-/// The dealer's thirteen orphans by ron from seat 1, without riichi: seat 1 pays 48,000.
+/// The lowest score of a seat that has not declared after so many hands: 49,000 each, and 300 for each counter, one more a hand.
+fn lowest(hands: i32) -> i32 {
+    30_000 - 49_000 * hands - 300 * (hands * (hands - 1) / 2)
+}
+
+/// The dealer's thirteen orphans by ron from seat 1, without riichi: seat 1 pays 48,000 and the counters.
 fn yakuman() -> Booking {
     let hand = parse(&["19m19p19s1234677z+5z", "seat=0", "ron=1"]);
     Booking::Win(pack(&hand.expect("a hand")))
@@ -21,12 +26,12 @@ fn the_worst_list_reaches_the_floor() {
     let mut game = Game::fresh();
     for hand in 1..=200 {
         assert_eq!(book(&mut game, &Booking::Riichi(1)), 0);
-        assert_eq!(game.scores[1], 30_000 - 49_000 * (hand - 1) - 1000);
+        assert_eq!(game.scores[1], lowest(hand - 1) - 1000);
         assert_eq!(book(&mut game, &win), 0);
-        assert_eq!(game.scores[1], 30_000 - 49_000 * hand);
+        assert_eq!((game.scores[1], game.counter), (lowest(hand), hand as u32));
         assert_eq!(game.total(), 120_000);
     }
-    assert_eq!(game.scores, [30_000 + 9_800_000, FLOOR, 30_000, 30_000]);
+    assert_eq!(game.scores, [30_000 + 15_770_000, FLOOR, 30_000, 30_000]);
     assert_eq!((game.hands, game.over, game.dealer, game.wind, game.sticks), (200, true, 0, 0, 0));
     for booking in [Booking::Riichi(1), win, Booking::Draw(8), Booking::Chombo(1)] {
         let before = game;
@@ -63,7 +68,8 @@ fn no_list_undercuts_the_floor() {
             book(&mut game, &booking);
             for (&score, &declared) in game.scores.iter().zip(&game.declared) {
                 let hands = game.hands as i32;
-                assert!(score >= 30_000 - 49_000 * hands - 1000 * declared as i32);
+                assert!(score >= lowest(hands) - 1000 * declared as i32);
+                assert!(game.counter <= game.hands as u32);
                 assert!(score >= FLOOR);
             }
         }

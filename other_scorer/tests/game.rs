@@ -1,4 +1,4 @@
-//! The four bookings: refusals in their order, points, deal, wind and mark (01, The game).
+//! The four bookings: refusals in their order, points, deal, wind and mark (01, The game), and the counter (02, S-5).
 
 use other_scorer::codec::pack;
 use other_scorer::game::{book, chombo, draw, riichi, win, FLOOR};
@@ -55,7 +55,10 @@ fn not_open() -> Vec<Game> {
         Game { hands: 255, ..fresh },
         Game { declared: [true, false, false, false], ..fresh },
         Game { declared: [true; 4], sticks: 3, scores: [27_000, 30_000, 30_000, 30_000], ..fresh },
-        Game { scores: [FLOOR - 1, 9_860_001, 30_000, 0], ..fresh },
+        Game { scores: [FLOOR - 1, 15_830_001, 30_000, 0], ..fresh },
+        Game { counter: 1, ..fresh },
+        Game { counter: 200, hands: 199, ..fresh },
+        Game { counter: u32::MAX, hands: 199, ..fresh },
         Game { scores: [30_000, 30_000, 30_000, 30_001], ..fresh },
         Game { scores: [29_000, 30_000, 30_000, 30_000], ..fresh },
         Game { sticks: 1, ..fresh },
@@ -68,9 +71,10 @@ fn not_open() -> Vec<Game> {
 fn fresh_is_open_and_the_floor_itself_is_in_form() {
     let fresh = Game::fresh();
     assert!(fresh.is_open());
-    assert!(Game { scores: [FLOOR, 9_860_000, 30_000, 0], ..fresh }.is_open());
+    assert!(Game { scores: [FLOOR, 15_830_000, 30_000, 0], ..fresh }.is_open());
+    assert!(Game { counter: 199, hands: 199, ..fresh }.is_open());
     assert!(Game { hands: 199, dealer: 3, wind: 1, ..fresh }.is_open());
-    let most = Game { scores: [FLOOR; 4], sticks: 39_200, declared: [true; 4], ..fresh };
+    let most = Game { scores: [FLOOR; 4], sticks: 63_080, declared: [true; 4], ..fresh };
     assert!(most.is_open());
     assert!(not_open().iter().all(|game| !game.is_open()));
 }
@@ -159,7 +163,7 @@ fn a_win_takes_all_sticks() {
     assert_eq!((game.scores, game.sticks), ([32_000, 28_000, 28_000, 29_000], 3));
     assert_eq!(game.declared, [false, true, true, false]);
     assert_eq!(win(&mut game, &pinfu(1, 3, &["riichi"])), 0);
-    assert_eq!((game.scores, game.sticks), ([32_000, 34_900, 28_000, 25_100], 0));
+    assert_eq!((game.scores, game.sticks), ([32_000, 35_200, 28_000, 24_800], 0));
     assert_eq!((game.declared, game.dealer, game.hands), ([false; 4], 1, 2));
 }
 
@@ -236,12 +240,51 @@ fn sticks_left_at_the_end_stay() {
 
 #[test]
 fn a_game_may_be_at_the_ends_of_its_range() {
-    let most = Game { scores: [FLOOR; 4], sticks: 39_200, ..Game::fresh() };
+    let most = Game { scores: [FLOOR; 4], sticks: 63_080, ..Game::fresh() };
     let mut game = most;
     assert_eq!(win(&mut game, &pinfu(1, 3, &[])), 0);
-    assert_eq!(game.scores, [FLOOR, FLOOR + 39_200_000 + 2000, FLOOR, FLOOR - 2000]);
+    assert_eq!(game.scores, [FLOOR, FLOOR + 63_080_000 + 2000, FLOOR, FLOOR - 2000]);
     assert_eq!(riichi(&mut game, 1), 9);
     let mut game = most;
     assert_eq!(riichi(&mut game, 0), 0);
-    assert_eq!((game.scores[0], game.sticks, game.is_open()), (FLOOR - 1000, 39_201, false));
+    assert_eq!((game.scores[0], game.sticks, game.is_open()), (FLOOR - 1000, 63_081, false));
+}
+
+#[test]
+fn the_counter_rises_at_a_dealers_win_and_a_draw_and_clears_at_a_childs_win() {
+    let mut game = Game::fresh();
+    let counters: Vec<u32> = [
+        Booking::Draw(0b1000),
+        Booking::Riichi(2),
+        Booking::Chombo(2),
+        Booking::Win(pinfu(0, 3, &[])),
+        Booking::Draw(0b0000),
+        Booking::Win(pinfu(1, 3, &[])),
+        Booking::Win(pinfu(1, 3, &["riichi"])),
+        Booking::Win(pinfu(2, 3, &[])),
+        Booking::Win(pinfu(2, 3, &[])),
+    ]
+    .iter()
+    .map(|booking| {
+        book(&mut game, booking);
+        game.counter
+    })
+    .collect();
+    assert_eq!(counters, [1, 1, 1, 2, 3, 4, 4, 0, 1]);
+}
+
+#[test]
+fn counters_are_paid_by_the_ron_payer_or_by_each_on_tsumo() {
+    let start = Game { counter: 7, hands: 7, ..Game::fresh() };
+    let tsumo = |seat: &str| record(&["234567m345p67s22s+8s", seat, "tsumo"]);
+    for (win, scores, counter) in [
+        (pinfu(1, 3, &[]), [30_000, 34_100, 30_000, 25_900], 0),
+        (pinfu(0, 3, &[]), [35_000, 30_000, 30_000, 25_000], 8),
+        (tsumo("seat=1"), [28_000, 34_800, 28_600, 28_600], 0),
+        (tsumo("seat=0"), [36_000, 28_000, 28_000, 28_000], 8),
+    ] {
+        let mut game = start;
+        assert_eq!(book(&mut game, &Booking::Win(win)), 0);
+        assert_eq!((game.scores, game.counter), (scores, counter));
+    }
 }

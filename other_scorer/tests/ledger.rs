@@ -18,6 +18,7 @@ fn ledger(game: &Game) -> Ledger {
         wind: game.wind,
         hands: game.hands as u32,
         over: game.over,
+        counter: game.counter as i64,
     }
 }
 

@@ -1,5 +1,6 @@
 // The lowest score that a game from a fresh one can reach, by a run: in each of 200 hands seat 1 declares riichi, at 1,000, and
-// discards into the dealer's yakuman, at 48,000. Seat 1 then has 30,000 - 200 * 49,000 = -9,770,000, and the game is over.
+// discards into the dealer's yakuman, at 48,000 and 300 for each of the counters, 0 in the first hand to 199 in the last. Seat 1 then has
+// 30,000 - 200 * 49,000 - 300 * 19,900 = -15,740,000, and the game is over.
 use ledger::Game;
 use libc::STDOUT_FILENO;
 

@@ -1,4 +1,4 @@
-// Whether a game is open (01, The game, refusal 9): marked over, at its last hand, or out of form. Any value of the struct may be given.
+// Whether a game is open (01, The game, refusal 9; 02, S-5): marked over, at its last hand, or out of form. Any value of the struct may be given.
 ghost use mathlib.Core.Path.{_≡_};
 ghost use mathlib.Core.Bool.{false};
 ghost use Prim.Native.Nat.{_≤_};
@@ -62,6 +62,7 @@ pub fn not_open(g: Game) -> bool
         | (1 < g.wind)
         | (LAST_HAND < g.hands)
         | (g.sticks < count_true(set_marks(d)))
+        | ((g.hands as u32) < g.counter)
         | any_low(s)
         | !balanced(s, g.sticks);
     ((0 < g.over) | (g.hands == LAST_HAND)) | out

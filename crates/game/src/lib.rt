@@ -28,6 +28,7 @@ pub fn fresh_game() -> Game
         wind: 0,
         hands: 0,
         over: 0,
+        counter: 0,
     }
 }
 
@@ -81,7 +82,7 @@ fn unready(d: [u8; 4], b: [bool; 4]) -> bool
     ((0 < d[0]) & !b[0]) | ((0 < d[1]) & !b[1]) | ((0 < d[2]) & !b[2]) | ((0 < d[3]) & !b[3])
 }
 
-// Draw: bits set for ready, seat 0's first. Refused with 8, bits over 15; 9, a game that is not open; 12, a declared seat that is not ready.
+// Draw: bits set for ready, seat 0's first; the counter rises. Refused with 8, bits over 15; 9, a game that is not open; 12, a declared seat that is not ready.
 pub fn draw(g: Game, bits: u8) -> Outcome
     ensures { λ r. ⌜ Booked g (Booking.draw bits) (r .refusal) (r .game) ⌝ }
 {
@@ -106,7 +107,7 @@ pub fn draw(g: Game, bits: u8) -> Outcome
         };
     }
     let i = g.dealer as usize;
-    let h = moves::finish(g, payments::shares(b), g.sticks, !b[i]);
+    let h = moves::finish(g, payments::shares(b), g.sticks, !b[i], g.counter + 1);
     Outcome {
         refusal: 0,
         game: h,
@@ -136,6 +137,7 @@ pub fn chombo(g: Game, seat: u8) -> Outcome
         payments::penalties(seat, b),
         g.sticks - form::count_true(b),
         false,
+        g.counter,
     );
     Outcome {
         refusal: 0,

@@ -1,4 +1,4 @@
--- The ledger (01, The game and its paragraph "Ledger"): kept from the bookings' arguments alone, with the game's fields.
+-- The ledger (01, The game and its paragraph "Ledger"; 02, S-5): kept from the bookings' arguments alone, with the game's fields.
 -- The game's numbers; its fields; refusals; what an accepted booking does, as one structure; the fields after it; the ledger of a list.
 use mathlib.Core.Bool.{Bool, true, false, _&&_, _||_, not, cond}
 use mathlib.Core.List.{List, [], _∷_}
@@ -7,8 +7,9 @@ use lib.Dec.{ltb, eqb}
 use lib.IntN.{ℤ, pos, negℤ, _+ℤ_}
 use lib.Signed.{ltZ, leZ}
 use lib.ListN.{getD}
-use Rattle.tiles.specs.Below.{any, count, tabulate}
+use Rattle.tiles.specs.Below.{any, count, sum, tabulate}
 use Rattle.hand.specs.declared.Hand.{Hand}
+use Rattle.hand.specs.Hand.{isRon}
 use Rattle.hand_record.specs.Record.{handOf, readOf}
 use Rattle.score.specs.declared.Scored.{Scored}
 use Rattle.score.specs.Score.{scoreOf}
@@ -29,9 +30,9 @@ pointsInPlay = pos 120000
 abbrev pub lastHand : ℕ
 lastHand = 200
 
--- "no score falls under −9,770,000"
+-- "The floor of a score becomes −15,740,000" (02, S-5)
 abbrev pub floor : ℤ
-floor = negℤ (pos 9770000)
+floor = negℤ (pos 15740000)
 
 -- ---- the fields
 
@@ -43,7 +44,7 @@ isSet n = ltb 0 n
 abbrev pub mark : Bool → ℕ
 mark b = cond b 1 0
 
--- "scores (30,000 each at first); all but the scores are 0 or unset at first"
+-- "scores (30,000 each at first); all but the scores are 0 or unset at first"; "The game holds a counter, 0 at first" (02, S-5)
 unfoldable pub fresh : Game
 fresh = record {
   scores = tabulate 4 0 (λ i. startingScore);
@@ -53,6 +54,7 @@ fresh = record {
   wind = 0;
   hands = 0;
   over = mark false;
+  counter = 0;
 }
 
 -- the score of seat i ("Seats 0 to 3")
@@ -81,13 +83,15 @@ eqZ a b = leZ a b && leZ b a
 abbrev pub isOver : Game → Bool
 isOver l = isSet (l .over) || eqb (l .hands) lastHand
 
--- "out of form (dealer over 3, wind over 1, over 200 hands, fewer sticks than declared seats, a score under the floor, or scores plus 1,000 times sticks not 120,000)"
+-- "out of form (dealer over 3, wind over 1, over 200 hands, fewer sticks than declared seats, a score under the floor, or scores plus 1,000 times sticks not 120,000)";
+-- "The counter never exceeds the hands finished, and a game where it does is out of form" (02, S-5)
 unfoldable pub outOfForm : Game → Bool
 outOfForm l =
     ltb 3 (l .dealer)
     || ltb 1 (l .wind)
     || ltb lastHand (l .hands)
     || ltb (l .sticks) (declarations l)
+    || ltb (l .hands) (l .counter)
     || any 4 (λ i. ltZ (scoreAt l i) floor)
     || not (eqZ (totalOf l) pointsInPlay)
 
@@ -123,25 +127,43 @@ refusalFor l (chombo seat) = cond (ltb 3 seat) 8 (cond (notOpen l) 9 0)
 
 -- ---- what an accepted booking does
 
--- what it gives each seat, or takes; the sticks that it leaves on the table; the seats that are declared after it; whether it finishes the hand; whether the deal passes
+-- what it gives each seat, or takes; the sticks that it leaves on the table; the seats that are declared after it; whether it finishes the hand; whether the deal passes;
+-- the counter that it leaves
 pub record Effect : Type 0 where
   pub gives : ℕ → ℤ
   pub sticks : ℕ
   pub declared : ℕ → Bool
   pub finishes : Bool
   pub passes : Bool
+  pub counter : ℕ
 
 -- "Win, draw and chombo each finish a hand and clear declarations"
-abbrev pub finishing : (ℕ → ℤ) → ℕ → Bool → Effect
-finishing gives sticks passes = record { gives = gives; sticks = sticks; declared = λ i. false; finishes = true; passes = passes }
+abbrev pub finishing : (ℕ → ℤ) → ℕ → Bool → ℕ → Effect
+finishing gives sticks passes counter = record { gives = gives; sticks = sticks; declared = λ i. false; finishes = true; passes = passes; counter = counter }
 
 -- "riichi costs the seat 1,000"
 unfoldable pub riichiGives : ℕ → ℕ → ℤ
 riichiGives seat i = cond (eqb i seat) (negℤ (pos 1000)) (pos 0)
 
--- "A win gives the four changes of the reported reading, and the winner 1,000 a stick"
+-- "A ron payer pays 300 more for each counter, and on tsumo each payer pays 100 more" (02, S-5): what seat i pays more for n counters
+unfoldable pub repeatPays : ℕ → ℕ → Bool → ℕ → ℕ → ℕ
+repeatPays winner discarder ron n i = cond (eqb i winner) 0 (cond ron (cond (eqb i discarder) (300 * n) 0) (100 * n))
+
+-- "this addition" (02, S-5): the winner gets what the others pay more
+unfoldable pub repeatGives : ℕ → ℕ → Bool → ℕ → ℕ → ℤ
+repeatGives winner discarder ron n i = cond (eqb i winner) (pos (sum 4 (repeatPays winner discarder ron n))) (negℤ (pos (repeatPays winner discarder ron n i)))
+
+-- what it gives seat i at a win; no reading enters it
+abbrev pub addedFor : Game → List ℕ → ℕ → ℤ
+addedFor l s = repeatGives (handFor s .fields .winner) (handFor s .fields .discarder) (isRon (handFor s .fields)) (l .counter)
+
+-- "A win gives the four changes of the reported reading, and the winner 1,000 a stick"; "document 01's plus this addition" (02, S-5)
 unfoldable pub winGives : Game → List ℕ → ℕ → ℤ
-winGives l s i = getD (scoredFor l s .changes) i (pos 0) +ℤ cond (eqb i (handFor s .fields .winner)) (pos (1000 * l .sticks)) (pos 0)
+winGives l s i = getD (scoredFor l s .changes) i (pos 0) +ℤ addedFor l s i +ℤ cond (eqb i (handFor s .fields .winner)) (pos (1000 * l .sticks)) (pos 0)
+
+-- "dealer's win"; any other is "a child's win"
+abbrev pub isDealersWin : Game → List ℕ → Bool
+isDealersWin l s = eqb (handFor s .fields .winner) (l .dealer)
 
 -- "r ready": how many seats
 abbrev pub readySeats : ℕ → ℕ
@@ -168,12 +190,13 @@ unfoldable pub chomboGives : Game → ℕ → ℕ → ℤ
 chomboGives l seat i = fineOf seat i +ℤ backTo l i
 
 -- riichi "adds a stick and declares the seat"; a win "leaving none"; of a chombo "a stick less for each" declared seat;
--- "The deal passes on a child's win or a draw with the dealer not ready"
+-- "The deal passes on a child's win or a draw with the dealer not ready";
+-- the counter "rises by one at each dealer's win and each draw, returns to 0 at a child's win, and isn't touched by a chombo" (02, S-5)
 unfoldable pub effectOf : Game → Booking → Effect
-effectOf l (riichi seat) = record { gives = riichiGives seat; sticks = l .sticks + 1; declared = λ i. eqb i seat || isDeclared l i; finishes = false; passes = false }
-effectOf l (win s) = finishing (winGives l s) 0 (not (eqb (handFor s .fields .winner) (l .dealer)))
-effectOf l (draw bits) = finishing (drawGives bits) (l .sticks) (not (isReady bits (l .dealer)))
-effectOf l (chombo seat) = finishing (chomboGives l seat) (l .sticks - declarations l) false
+effectOf l (riichi seat) = record { gives = riichiGives seat; sticks = l .sticks + 1; declared = λ i. eqb i seat || isDeclared l i; finishes = false; passes = false; counter = l .counter }
+effectOf l (win s) = finishing (winGives l s) 0 (not (isDealersWin l s)) (cond (isDealersWin l s) (l .counter + 1) 0)
+effectOf l (draw bits) = finishing (drawGives bits) (l .sticks) (not (isReady bits (l .dealer))) (l .counter + 1)
+effectOf l (chombo seat) = finishing (chomboGives l seat) (l .sticks - declarations l) false (l .counter)
 
 -- ---- the fields after it
 
@@ -207,6 +230,7 @@ applied l e = record {
   wind = windAfter l (e .passes);
   hands = handsAfter l (e .finishes);
   over = mark (overAfter l e);
+  counter = e .counter;
 }
 
 -- ---- the ledger after any booking, and after a list

@@ -4,6 +4,7 @@ pub mod Sums
 pub mod Effect
 pub mod Accepted
 pub mod Refusals
+pub mod Repeat
 pub mod Fair
 pub mod Kept
 pub mod Lists

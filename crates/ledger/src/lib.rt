@@ -1,7 +1,7 @@
 // The game as one record. What its fields mean, the ledger and demand 3 are in specs/; crate `game` has the bookings.
 
 // Scores of seats 0 to 3; sticks on the table; for each seat 0, or another number where it has declared riichi in this hand; dealer;
-// wind, 0 East, 1 South; finished hands; 0, or another number where the game is marked over. Every byte pattern is a game.
+// wind, 0 East, 1 South; finished hands; 0, or another number where the game is marked over; repeat counters. Every byte pattern is a game.
 #[repr(C)]
 pub struct Game {
     pub scores: [i32; 4],
@@ -11,11 +11,12 @@ pub struct Game {
     pub wind: u8,
     pub hands: u8,
     pub over: u8,
+    pub counter: u32,
 }
 
-// "200 hands finished", "a score under the floor", "scores plus 1,000 times sticks" (01, The game): `lastHand`, `floor`, `pointsInPlay` of specs/Ledger.
+// "200 hands finished", "scores plus 1,000 times sticks" (01, The game), "The floor of a score" (02, S-5): `lastHand`, `pointsInPlay`, `floor` of specs/Ledger.
 pub const LAST_HAND: u8 = 200;
 
-pub const FLOOR: i32 = -9770000;
+pub const FLOOR: i32 = -15740000;
 
 pub const POINTS_IN_PLAY: i64 = 120000;

@@ -1,4 +1,4 @@
-// How an accepted booking moves the game (01, The game): a hand is finished, or a seat puts its stick. The game is open, so that no sum wraps.
+// How an accepted booking moves the game (01, The game; 02, S-5): a hand is finished, or a seat puts its stick. The game is open, so that no sum wraps.
 ghost use mathlib.Core.Path.{_≡_};
 ghost use mathlib.Core.Bool.{_||_};
 ghost use Prim.Native.Nat.{_≤_};
@@ -52,10 +52,10 @@ fn next_wind(g: Game, passes: bool) -> u8
     if passes & (g.dealer == 3) { 1 } else { g.wind }
 }
 
-// The hand is finished: what it gives is paid, declarations are cleared, the deal passes or stays.
-pub fn finish(g: Game, by: [i32; 4], sticks: u32, passes: bool) -> Game
+// The hand is finished: what it gives is paid, declarations are cleared, the deal passes or stays; the sticks and the counter are those given.
+pub fn finish(g: Game, by: [i32; 4], sticks: u32, passes: bool, counter: u32) -> Game
     requires { ⌜ Open g × Small by ⌝ }
-    ensures { λ r. ⌜ r ≡ finished g by sticks passes ⌝ }
+    ensures { λ r. ⌜ r ≡ finished g by sticks passes counter ⌝ }
 {
     let s = g.scores;
     let scores = pay(s, by);
@@ -69,6 +69,7 @@ pub fn finish(g: Game, by: [i32; 4], sticks: u32, passes: bool) -> Game
         wind: next_wind(g, passes),
         hands,
         over: mark((passes & is_last(g)) | (hands == LAST_HAND)),
+        counter,
     }
 }
 
@@ -101,5 +102,6 @@ pub fn put_stick(g: Game, seat: u8) -> Game
         wind: g.wind,
         hands: g.hands,
         over: 0,
+        counter: g.counter,
     }
 }

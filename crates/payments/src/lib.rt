@@ -1,16 +1,19 @@
-// What a riichi, a draw, a chombo and a win give each of the four seats, or take (01, Ledger). No sum wraps.
+// What a riichi, a draw, a chombo and a win give each of the four seats, or take (01, Ledger; 02, S-5). No sum wraps.
 ghost use mathlib.Core.Path.{_≡_};
 ghost use mathlib.Core.Bool.{false, cond};
-ghost use Prim.Native.Nat.{ℕ, _*_, _≤_};
+ghost use Prim.Native.Nat.{_*_, _≤_};
 ghost use lib.Dec.{eqb};
 ghost use lib.IntN.{pos, negℤ, _+ℤ_};
 ghost use lib.ListN.{getD};
 ghost use Rattle.tiles.specs.Below.{count, tabulate};
+ghost use Rattle.hand.specs.Hand.{isRon};
+ghost use Rattle.hand.specs.Refusals.{wrongDiscarder};
 ghost use Rattle.score.specs.laws.Z.{Within};
-ghost use Rattle.ledger.specs.Ledger.{shareOf, fineOf};
+ghost use Rattle.ledger.specs.Ledger.{lastHand, shareOf, fineOf, repeatGives};
 ghost use Rattle.ledger.specs.laws.Bounds.{amount, mostChange, mostSticks};
-ghost use Rattle.ledger.specs.laws.Sums.{Small};
+ghost use Rattle.ledger.specs.laws.Sums.{Small, Changes};
 use form::count_true;
+use hand::Fields;
 
 fn stake(pays: bool) -> i32
     ensures { λ r. ⌜ (r ≡ cond pays (negℤ (pos 1000)) (pos 0)) × Within r amount ⌝ }
@@ -83,27 +86,58 @@ pub fn penalties(seat: u8, d: [bool; 4]) -> [i32; 4]
     ]
 }
 
-// What a win gives a seat: its change, and the sticks if it wins.
-fn winning(change: i32, wins: bool, sticks: u32) -> i32
-    requires { ⌜ Within change mostChange × (sticks ≤ mostSticks) ⌝ }
-    ensures { λ r. ⌜ (r ≡ change +ℤ cond wins (pos (1000 * sticks)) (pos 0)) × Within r amount ⌝ }
+// What n repeat counters give a seat that wins, or does not, by ron or not, and has discarded the winning tile, or has not.
+fn addition(wins: bool, ron: bool, discards: bool, n: u32) -> i32
+    requires { ⌜ n ≤ lastHand ⌝ }
+    ensures { λ r. ⌜ (r ≡ cond wins (pos (300 * n)) (negℤ (pos (cond ron (cond discards (300 * n) 0) (100 * n))))) × Within r mostChange ⌝ }
 {
     if wins {
-        change + (1000 * sticks) as i32
+        (300 * n) as i32
+    } else if ron {
+        if discards { -((300 * n) as i32) } else { 0 }
     } else {
-        change
+        -((100 * n) as i32)
     }
 }
 
-// What a win gives each seat: its change, and the winner the sticks.
-pub fn winnings(c: [i32; 4], winner: u8, sticks: u32) -> [i32; 4]
-    requires { ⌜ ((i : ℕ) → Within (getD c i (pos 0)) mostChange) × (sticks ≤ mostSticks) ⌝ }
-    ensures { λ r. ⌜ (r ≡ tabulate 4 0 (λ i. getD c i (pos 0) +ℤ cond (eqb i winner) (pos (1000 * sticks)) (pos 0))) × Small r ⌝ }
+// What n repeat counters give each seat at a win: the payers pay more, and the winner gets it.
+pub fn additions(f: Fields, n: u32) -> [i32; 4]
+    requires { ⌜ (f .winner ≤ 3) × (f .discarder ≤ 3) × (wrongDiscarder f ≡ false) × (n ≤ lastHand) ⌝ }
+    ensures { λ r. ⌜ (r ≡ tabulate 4 0 (repeatGives (f .winner) (f .discarder) (isRon f) n)) × Changes r ⌝ }
+{
+    let ron = f.how == 1;
+    let w = f.winner;
+    let d = f.discarder;
+    [
+        addition(0 == w, ron, 0 == d, n),
+        addition(1 == w, ron, 1 == d, n),
+        addition(2 == w, ron, 2 == d, n),
+        addition(3 == w, ron, 3 == d, n),
+    ]
+}
+
+// What a win gives a seat: its change, what the counters add, and the sticks if it wins.
+fn winning(change: i32, added: i32, wins: bool, sticks: u32) -> i32
+    requires { ⌜ Within change mostChange × Within added mostChange × (sticks ≤ mostSticks) ⌝ }
+    ensures { λ r. ⌜ (r ≡ change +ℤ added +ℤ cond wins (pos (1000 * sticks)) (pos 0)) × Within r amount ⌝ }
+{
+    let sum = change + added;
+    if wins {
+        sum + (1000 * sticks) as i32
+    } else {
+        sum
+    }
+}
+
+// What a win gives each seat: its change, what the counters add, and the winner the sticks.
+pub fn winnings(c: [i32; 4], a: [i32; 4], winner: u8, sticks: u32) -> [i32; 4]
+    requires { ⌜ Changes c × Changes a × (sticks ≤ mostSticks) ⌝ }
+    ensures { λ r. ⌜ (r ≡ tabulate 4 0 (λ i. getD c i (pos 0) +ℤ getD a i (pos 0) +ℤ cond (eqb i winner) (pos (1000 * sticks)) (pos 0))) × Small r ⌝ }
 {
     [
-        winning(c[0], 0 == winner, sticks),
-        winning(c[1], 1 == winner, sticks),
-        winning(c[2], 2 == winner, sticks),
-        winning(c[3], 3 == winner, sticks),
+        winning(c[0], a[0], 0 == winner, sticks),
+        winning(c[1], a[1], 1 == winner, sticks),
+        winning(c[2], a[2], 2 == winner, sticks),
+        winning(c[3], a[3], 3 == winner, sticks),
     ]
 }

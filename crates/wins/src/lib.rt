@@ -1,17 +1,17 @@
 // The booking of a win, by value. Any value of the struct may be given; no sum wraps.
 ghost use mathlib.Core.Path.{_≡_};
-ghost use mathlib.Core.Bool.{not, cond};
-ghost use Prim.Native.Nat.{ℕ, _≤_};
+ghost use mathlib.Core.Bool.{false, not, cond};
+ghost use Prim.Native.Nat.{_+_, _≤_};
 ghost use lib.Dec.{ltb};
-ghost use lib.IntN.{pos};
-ghost use lib.ListN.{getD};
-ghost use Rattle.score.specs.laws.Z.{Within};
+ghost use Rattle.hand.specs.Refusals.{wrongDiscarder};
 ghost use Rattle.ledger.specs.Booking as Booking;
+ghost use Rattle.ledger.specs.Ledger.{lastHand};
 ghost use Rattle.ledger.specs.Runs.{Booked};
-ghost use Rattle.ledger.specs.laws.Bounds.{mostChange};
 ghost use Rattle.ledger.specs.laws.Form.{Open};
+ghost use Rattle.ledger.specs.laws.Sums.{Changes};
 ghost use Rattle.wins.specs.laws.Won.{Won};
 use game::Outcome;
+use hand::Fields;
 use ledger::Game;
 use score::Scored;
 
@@ -22,10 +22,18 @@ fn mismatch(riichi: u8, declared: bool) -> bool
     if 0 < riichi { !declared } else { declared }
 }
 
-// The win of a record that read, in an open game: its winner, its riichi field and what it scores.
-fn win_scored(g: Game, winner: u8, riichi: u8, v: Scored) -> Outcome
-    requires { ⌜ Open g × (winner ≤ 3) × ((i : ℕ) → Within (getD (v .changes) i (pos 0)) mostChange) ⌝ }
-    ensures { λ r. ⌜ Won g winner riichi v (r .refusal) (r .game) ⌝ }
+// The counter after a win, the dealer's or a child's, where there were n.
+fn counter_after(n: u32, dealers: bool) -> u32
+    requires { ⌜ n ≤ lastHand ⌝ }
+    ensures { λ r. ⌜ r ≡ cond dealers (n + 1) 0 ⌝ }
+{
+    if dealers { n + 1 } else { 0 }
+}
+
+// The win of a record that read, in an open game: its fields and what it scores.
+fn win_scored(g: Game, f: Fields, v: Scored) -> Outcome
+    requires { ⌜ Open g × (f .winner ≤ 3) × (f .discarder ≤ 3) × (wrongDiscarder f ≡ false) × Changes (v .changes) ⌝ }
+    ensures { λ r. ⌜ Won g f v (r .refusal) (r .game) ⌝ }
 {
     if 0 < v.refusal {
         return Outcome {
@@ -34,19 +42,23 @@ fn win_scored(g: Game, winner: u8, riichi: u8, v: Scored) -> Outcome
         };
     }
     let d = g.declared;
+    let winner = f.winner;
     let i = winner as usize;
-    if mismatch(riichi, 0 < d[i]) {
+    if mismatch(f.riichi, 0 < d[i]) {
         return Outcome {
             refusal: 11,
             game: g,
         };
     }
     let c = v.changes;
+    let a = payments::additions(f, g.counter);
+    let dealers = winner == g.dealer;
     let k = moves::finish(
         g,
-        payments::winnings(c, winner, g.sticks),
+        payments::winnings(c, a, winner, g.sticks),
         0,
-        !(winner == g.dealer),
+        !dealers,
+        counter_after(g.counter, dealers),
     );
     Outcome {
         refusal: 0,
@@ -54,8 +66,8 @@ fn win_scored(g: Game, winner: u8, riichi: u8, v: Scored) -> Outcome
     }
 }
 
-// Win: the record's best reading is paid, and the winner takes the sticks. Refused with 9, a game that is not open; Score's 1 to 7; 11, a riichi in
-// the record without a declaration of the winner, or the reverse.
+// Win: the record's best reading and the counters are paid, and the winner takes the sticks. Refused with 9, a game that is not open; Score's 1 to 7;
+// 11, a riichi in the record without a declaration of the winner, or the reverse.
 pub fn win(g: Game, s: &[u8]) -> Outcome
     ensures { λ r. ⌜ Booked g (Booking.win (now (s .entry))) (r .refusal) (r .game) ⌝ }
 {
@@ -74,5 +86,6 @@ pub fn win(g: Game, s: &[u8]) -> Outcome
     }
     let h = r.hand;
     let v = score::settle(h, g.dealer, g.wind);
-    win_scored(g, h.fields.winner, h.fields.riichi, v)
+    let f = h.fields;
+    win_scored(g, f, v)
 }

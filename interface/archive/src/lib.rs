@@ -159,6 +159,7 @@ pub struct Game {
     pub wind: u8,
     pub hands: u8,
     pub over: u8,
+    pub counter: u32,
 }
 
 #[repr(C)]

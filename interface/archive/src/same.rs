@@ -136,6 +136,7 @@ pub fn game(game: &other_scorer::Game) -> archive::Game {
         wind: game.wind,
         hands: game.hands,
         over: game.over as u8,
+        counter: game.counter,
     }
 }
 
@@ -149,6 +150,7 @@ pub fn to_other_game(game: &archive::Game) -> other_scorer::Game {
         wind: game.wind,
         hands: game.hands,
         over: game.over != 0,
+        counter: game.counter,
     }
 }
 
@@ -162,6 +164,7 @@ pub fn ledger(game: &archive::Game) -> other_scorer::Ledger {
         wind: game.wind,
         hands: game.hands as u32,
         over: game.over != 0,
+        counter: game.counter as i64,
     }
 }
 

@@ -29,10 +29,22 @@ fn section(booking: &Booking) -> &'static str {
     }
 }
 
+/// Counts a booking by its refusal, and a win that was paid by whether there were counters.
+fn note(report: &mut Report, counter: u32, booking: &Booking, refusal: u8) {
+    report.count(section(booking), refusal);
+    if let (Booking::Win(_), 0) = (booking, refusal) {
+        report.count("wins paid (1 with counters)", counter > 0);
+    }
+}
+
 /// Books the entry that bytes begin with in the games kept three ways, counts and gives the refusal.
 fn book_entry(report: &mut Report, games: &mut Games, bytes: &[u8], input: &dyn Fn() -> String) -> u8 {
+    let counter = games.other.counter;
     let (refusal, booking) = games.book_entry(&mut report.differences, bytes, input);
-    report.count(booking.as_ref().map_or("no entry to book", section), refusal);
+    match booking {
+        Some(booking) => note(report, counter, &booking, refusal),
+        None => report.count("no entry to book", refusal),
+    }
     refusal
 }
 
@@ -196,8 +208,9 @@ fn compare_chain(report: &mut Report, rng: &mut Rng) {
         let keep = rng.percent(50);
         let booking = chance::booking(rng, &games.other, keep);
         if rng.percent(50) {
+            let counter = games.other.counter;
             let refusal = games.book(&mut report.differences, &booking, &String::new);
-            report.count(section(&booking), refusal);
+            note(report, counter, &booking, refusal);
         } else {
             let mut bytes = booking.bytes();
             if rng.percent(20) {

@@ -152,7 +152,7 @@ pub const TALLY: &str = "\
 tester tally FILE|-|HEX [--words] [--bytes] [--plain]
 
 The game of a log, text or bytes as for `tester log`: a line for each entry with the deal it was made in (E1 to S4),
-its refusal (0 accepted), the scores and sticks after it. Bytes past 65,536 are not read.
+its refusal (0 accepted), the scores, sticks and counter after it. Bytes past 65,536 are not read.
 
   --words    why an entry was refused, below it
   --bytes    FILE holds the bytes of a log, even if they look like text

@@ -66,14 +66,14 @@ fn deal(game: &Game) -> String {
 
 /// A line for each entry, after a line of heads.
 fn listing(walk: &Walk) -> Vec<String> {
-    let heads = ["entry", "deal", "refusal", "seat 0", "seat 1", "seat 2", "seat 3", "sticks", "booking"];
+    let heads = ["entry", "deal", "refusal", "seat 0", "seat 1", "seat 2", "seat 3", "sticks", "counter", "booking"];
     let mut rows = vec![heads.map(String::from).to_vec()];
     for (n, step) in (1..).zip(&walk.steps) {
         let game = &step.after.archive;
         let mut row = vec![n.to_string(), deal(&step.before.other), step.refusal.to_string()];
         row.extend(game.scores.map(|score| points(score as i64)));
-        row.extend([game.sticks.to_string(), text::line(&step.booking)]);
+        row.extend([game.sticks.to_string(), game.counter.to_string(), text::line(&step.booking)]);
         rows.push(row);
     }
-    table(&rows, &[0, 1, 2, 3, 4, 5, 6, 7])
+    table(&rows, &[0, 1, 2, 3, 4, 5, 6, 7, 8])
 }

@@ -396,6 +396,10 @@ fn the_worked_logs() {
     assert!(out.contains("refusal 8, an argument is out of range: seat 4 over 3\n"), "{out}");
     assert!(out.contains("stopped at byte 16, 40: refusal 14, the log's entry is bad or cut: kind over 3\n"), "{out}");
     assert!(out.contains("3 entries, 1 refused; 2 hands finished; E2 is on\n"), "{out}");
+    let third = answer(&format!("tally 2f 10 {LINE_1}"));
+    let counters: Vec<&str> = third.lines().take(3).map(|line| line.split_whitespace().nth(if line.starts_with("entry") { 12 } else { 8 }).unwrap_or("")).collect();
+    assert_eq!(counters, ["counter", "1", "0"], "{third}");
+    assert_eq!(answer(&format!("tally 2f 10 {LINE_1} --plain")), "1 D 0 30000 30000 30000 30000 0\n2 W 0 30000 32300 30000 27700 0\n");
 }
 
 #[test]

@@ -20,6 +20,7 @@ fn expected() -> Cover {
     cover.expect("refusal 11", &["field without riichi", "riichi without field"]);
     cover.expect("win", &["tsumo dealer", "tsumo child", "ron dealer", "ron child"]);
     cover.expect("win with sticks", &["none", "this hand's", "older"]);
+    cover.expect("win with counters", &["none by tsumo", "none by ron", "some by tsumo", "some by ron"]);
     cover.expect_numbers("win riichi field", 0, 2);
     cover.expect_numbers("win situation", 0, 4);
     cover.expect_numbers("win melds", 0, 4);
@@ -57,6 +58,7 @@ fn note_win(cover: &mut Cover, before: &Game, record: &[u8]) {
     let how = if hand.how == RON { "ron" } else { "tsumo" };
     cover.add("win", format!("{how} {}", SEATS[(hand.winner == before.dealer) as usize]));
     cover.add("win with sticks", sticks(before));
+    cover.add("win with counters", format!("{} by {how}", if before.counter == 0 { "none" } else { "some" }));
     cover.add("win riichi field", hand.riichi);
     cover.add("win situation", hand.situation);
     cover.add("win melds", hand.m);

@@ -10,7 +10,7 @@ fn score(rng: &mut Rng) -> i64 {
         0 => FLOOR as i64,
         1 => FLOOR as i64 + rng.below(60_000) as i64,
         2 => 30_000,
-        _ => FLOOR as i64 + rng.below(39_200_001) as i64,
+        _ => FLOOR as i64 + rng.below(63_080_001) as i64,
     }
 }
 
@@ -18,7 +18,7 @@ fn score(rng: &mut Rng) -> i64 {
 pub fn in_form(rng: &mut Rng) -> Game {
     loop {
         let mut game = Game::fresh();
-        game.sticks = rng.pick(&[0, 1, 4, 5, 39_000]);
+        game.sticks = rng.pick(&[0, 1, 4, 5, 63_000]);
         for seat in 0..4 {
             game.declared[seat] = game.sticks > seat as u32 && rng.percent(30);
         }
@@ -27,6 +27,8 @@ pub fn in_form(rng: &mut Rng) -> Game {
         let any = rng.within(0, 200);
         game.hands = rng.pick(&[0, 198, 199, 200, any]);
         game.over = rng.percent(3);
+        let some = rng.within(0, game.hands);
+        game.counter = rng.pick(&[0, some, game.hands]) as u32;
         let seats = [score(rng), score(rng), score(rng)];
         let last = 120_000 - 1000 * game.sticks as i64 - seats.iter().sum::<i64>();
         if last >= FLOOR as i64 {
@@ -41,13 +43,14 @@ pub fn in_form(rng: &mut Rng) -> Game {
 pub fn disturbed(rng: &mut Rng) -> Game {
     let mut game = in_form(rng);
     let seat = rng.below(4);
-    match rng.below(7) {
+    match rng.below(8) {
         0 => game.dealer = rng.within(4, 255),
         1 => game.wind = rng.within(2, 255),
         2 => game.hands = rng.within(200, 255),
         3 => game.scores[seat] = game.scores[seat].wrapping_add(rng.within(1, 255) as i32),
         4 => game.sticks = game.sticks.wrapping_add(rng.pick(&[1, u32::MAX])),
         5 => game.declared = [true; 4],
+        6 => game.counter = rng.pick(&[game.hands as u32 + 1, 256, u32::MAX]),
         _ => {
             game.scores = [(); 4].map(|_| rng.pick(&[i32::MIN, i32::MAX, FLOOR - 1, FLOOR + 1]));
             game.sticks = rng.pick(&[0, u32::MAX]);

@@ -32,9 +32,11 @@ draw-spec =
     (sym (c .before .unready .ensures) ∙ c .if3 .taken)) (omega arith))
     (λ c. search needs) (λ c κs. search needs)
     (λ c. omega (arith, opened (c .before .before .before .before .before .before) .form .dealer))
-    (λ c κs. (opened (c .before .before .before .before .before .before), c .shares .ensures .1))
+    (λ c. let o = opened (c .before .before .before .before .before .before .before) in omega (arith, o .form .counter, o .hands))
+    (λ c κs. (opened (c .before .before .before .before .before .before .before), c .before .shares .ensures .1))
     (λ c.
-    let all = c .before .before .before in
+    let sharing = c .before .before in
+    let all = sharing .before .before in
     let told = all .before .before in
     let on = told .before .before in
     let a = on .before .before .before .args in
@@ -42,4 +44,4 @@ draw-spec =
     (draw-by (a .g) (a .bits) (on .before .before .if1 .left) (sym (on .before .not-open .ensures) ∙ on .if2 .left) false (told .ready .result) (told .ready .ensures)
     (sym (all .before .unready .ensures) ∙ all .if3 .left))
     (c .finish .ensures
-    ∙ draw-applied (a .g) (a .bits) (opened on .form .dealer) (c .before .shares .result) (told .ready .result) (told .ready .ensures) (c .before .shares .ensures .0))))
+    ∙ draw-applied (a .g) (a .bits) (opened on .form .dealer) (sharing .shares .result) (told .ready .result) (told .ready .ensures) (sharing .shares .ensures .0))))

@@ -11,9 +11,9 @@ use Rattle.ledger.specs.Ledger.{startingScore, lastHand, floor}
 abbrev pub depth : ℕ
 depth = dn floor
 
--- the most that a seat pays in the hand that follows h finished ones, its stick left out: a yakuman dealt to the dealer
+-- the most that a seat pays in the hand that follows h finished ones, its stick left out: a yakuman dealt to the dealer, with h counters
 abbrev pub costs : ℕ → ℕ
-costs h = 48000
+costs h = 48000 + 300 * h
 
 -- the most that a seat has paid in h hands, a stick in each
 unfoldable pub worst : ℕ → ℕ
@@ -43,12 +43,12 @@ worst-low h (suc zero) l m = omega (arith, worst-le (h + 1) lastHand (omega arit
 worst-low h (suc (suc d)) l m = absurd (omega arith)
 
 -- ---- room: two amounts add up within 32 bits, and no score, no gift and no 1,000 times the sticks is more than one.
--- There is room for the floors −15,740,000 and −28,540,000 of document 02 too.
+-- There is room for the floor −28,540,000 of document 02 too.
 
 abbrev pub amount : ℕ
 amount = 1000000000
 
--- more than the most that a win gives or takes without the sticks
+-- more than the most that a win's changes, or its counters, give or take
 abbrev pub mostChange : ℕ
 mostChange = 200000
 

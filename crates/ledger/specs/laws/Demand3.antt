@@ -2,15 +2,15 @@
 use mathlib.Core.Path.{_≡_, ap, _∙_}
 use mathlib.Core.Bool.{false}
 use mathlib.Core.List.{List}
-use Prim.Native.Nat.{ℕ, _<_}
+use Prim.Native.Nat.{ℕ, _≤_, _<_}
 use lib.IntN.{ℤ, _+ℤ_}
 use lib.Signed.{ltZ}
 use Rattle.ledger.specs.declared.Game.{Game}
 use Rattle.ledger.specs.Booking.{Booking, win}
 use Rattle.ledger.specs.Ledger.{fresh, scoreAt, totalOf, floor, outOfForm, refusalFor, ledgerFrom, ledger, givenFrom}
 use Rattle.ledger.specs.Runs.{Runs, Every}
-use Rattle.ledger.specs.Demand3.{AcceptedWhen, PaidByBest, TilesRefused, SixOrSeven, OfWin, Demand3}
-use Rattle.ledger.specs.laws.Tiles.{win-accepted-when, win-paid, win-tiles, win-six-or-seven}
+use Rattle.ledger.specs.Demand3.{AcceptedWhen, PaidByBest, BestWithCounters, TilesRefused, SixOrSeven, OfWin, Demand3}
+use Rattle.ledger.specs.laws.Tiles.{win-accepted-when, win-paid, win-best, win-tiles, win-six-or-seven}
 use Rattle.ledger.specs.laws.Form.{of-form, low-not}
 use Rattle.ledger.specs.laws.Kept.{fresh-kept, kept-form, ledger-kept}
 use Rattle.ledger.specs.laws.Lists.{fresh-score, scores-given, runs-ledger, every-of}
@@ -33,8 +33,15 @@ demand-3 bs ns g r = record {
   six-or-seven = of-wins SixOrSeven win-six-or-seven r;
 }
 
+pub counters-keep-best : (bs : List Booking) (ns : List ℕ) (g : Game) → Runs fresh bs ns g → Every (OfWin BestWithCounters) fresh bs ns
+counters-keep-best bs ns g r = of-wins BestWithCounters win-best r
+
 pub never-below-floor : (bs : List Booking) → (outOfForm (ledger bs) ≡ false) × ((i : ℕ) → i < 4 → ltZ (scoreAt (ledger bs) i) floor ≡ false)
 unfolding ledger
 never-below-floor bs =
     let f = kept-form (ledgerFrom fresh bs) (ledger-kept bs fresh fresh-kept) in
     (of-form (ledgerFrom fresh bs) f, λ i l. low-not (scoreAt (ledgerFrom fresh bs) i) (f .low i l))
+
+pub counter-within-hands : (bs : List Booking) → ledger bs .counter ≤ ledger bs .hands
+unfolding ledger
+counter-within-hands bs = ledger-kept bs fresh fresh-kept .counter

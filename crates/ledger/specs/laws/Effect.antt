@@ -34,6 +34,7 @@ pub record Kept (g : Game) : Type 0 where
   pub wind : g .wind ≤ 1
   pub hands : g .hands ≤ lastHand
   pub sticks : declarations g ≤ g .sticks
+  pub counter : g .counter ≤ g .hands
   pub above : (i : ℕ) → i < 4 → Above g i
   pub total : totalOf g ≡ pointsInPlay
 
@@ -56,6 +57,7 @@ module _ (g : Game) (e : Effect) where
     pub balanced : Balanced
     pub backed : count 4 (e .declared) ≤ e .sticks
     pub hands : handsAfter g (e .finishes) ≤ lastHand
+    pub counter : e .counter ≤ handsAfter g (e .finishes)
     pub bounded : (i : ℕ) → i < 4 → Bounded i
 
   -- ---- what follows
@@ -118,17 +120,20 @@ module _ (g : Game) (e : Effect) where
     wind = wind-small (k .wind);
     hands = f .hands;
     sticks = omega (arith, f .backed, declarations-applied);
+    counter = f .counter;
     above = λ i l. above-applied i l (f .bounded i l) (k .above i l);
     total = total-applied (f .balanced) ∙ k .total;
   }
 
 -- ---- an effect that finishes a hand: its gifts are paid for, and no seat loses more than the hand may cost
 
-module _ (g : Game) (gives : ℕ → ℤ) (sticks : ℕ) (passes : Bool) where
-  pub finishing-fair : g .hands < lastHand → Balanced g (finishing gives sticks passes) → ((i : ℕ) → i < 4 → dn (gives i) ≤ costs (g .hands) + up (gives i)) → Fair g (finishing gives sticks passes)
-  finishing-fair h b d = record {
+module _ (g : Game) (gives : ℕ → ℤ) (sticks : ℕ) (passes : Bool) (counter : ℕ) where
+  pub finishing-fair : g .hands < lastHand → counter ≤ g .hands + 1 → Balanced g (finishing gives sticks passes counter)
+      → ((i : ℕ) → i < 4 → dn (gives i) ≤ costs (g .hands) + up (gives i)) → Fair g (finishing gives sticks passes counter)
+  finishing-fair h n b d = record {
     balanced = b;
     backed = omega arith;
     hands = omega arith;
+    counter = n;
     bounded = λ i l. let t = mark-le (isDeclared g i) in let c = d i l in (omega arith, omega (arith, worst-step (g .hands)));
   }

@@ -10,15 +10,17 @@ use lib.Dec.{eqb}
 use lib.IntN.{ℤ, pos, negℤ, _+ℤ_}
 use lib.ListN.{getD}
 use Rattle.tiles.specs.Below.{count}
+use Rattle.hand.specs.Hand.{isRon}
 use Rattle.hand_record.specs.laws.Bounds.{read-bounds}
 use Rattle.score.specs.laws.Z.{up, dn, add-law, parts-eq}
 use Rattle.score.specs.laws.Changes.{score-within, zero-sum}
 use Rattle.ledger.specs.declared.Game.{Game}
 use Rattle.ledger.specs.Booking.{Booking, riichi, win, draw, chombo}
-use Rattle.ledger.specs.Ledger.{lastHand, mark, isDeclared, declarations, isReady, handFor, scoredFor, readySeats, shareOf, refusalFor, riichiGives, winGives, drawGives, fineOf, backTo, chomboGives, effectOf}
+use Rattle.ledger.specs.Ledger.{lastHand, mark, isDeclared, declarations, isReady, handFor, scoredFor, readySeats, shareOf, refusalFor, riichiGives, addedFor, winGives, isDealersWin, drawGives, fineOf, backTo, chomboGives, effectOf}
 use Rattle.ledger.specs.laws.Bounds.{costs, worst}
 use Rattle.ledger.specs.laws.Form.{open-of}
 use Rattle.ledger.specs.laws.Accepted.{riichi-accepted, chombo-accepted, draw-accepted, win-accepted}
+use Rattle.ledger.specs.laws.Repeat.{added-zero, added-dn}
 use Rattle.ledger.specs.laws.Effect.{mark-le, Bounded, Fair, finishing-fair}
 
 -- ---- what four seats are given, by its parts
@@ -68,6 +70,7 @@ module _ (g : Game) where
         balanced = riichi-balanced seat (y .0);
         backed = omega (arith, riichi-backed seat (y .0), o .form .sticks);
         hands = o .form .hands;
+        counter = o .form .counter;
         bounded = λ i l. riichi-bounded seat i (o .hands) (y .2);
       }
 
@@ -148,7 +151,7 @@ module _ (g : Game) (seat : ℕ) where
   unfolding chomboGives
   chombo-bounded i = fine-dn (eqb i seat) (isDeclared g i)
 
--- ---- a win: the changes sum to 0, and the winner takes the sticks
+-- ---- a win: the changes and what the counters add sum to 0, and the winner takes the sticks
 
 pot-dn : (wins : Bool) (n : ℕ) → dn (cond wins (pos n) (pos 0)) ≡ 0
 pot-dn true n = refl
@@ -177,7 +180,18 @@ module _ (g : Game) (s : List ℕ) where
   unfolding won
   won-zero = sum-parts (λ i. getD (scoredFor g s .changes) i (pos 0)) (zero-sum s (g .dealer) (g .wind))
 
-  won-dn : (i : ℕ) → dn (won i) ≤ costs (g .hands)
+  unfoldable added : ℕ → ℤ
+  added i = addedFor g s i
+
+  added-turns : handFor s .fields .winner ≤ 3 → Turns added 0 0
+  unfolding added
+  added-turns h = sum-parts (addedFor g s) (added-zero (handFor s .fields .discarder) (isRon (handFor s .fields)) (g .counter) (handFor s .fields .winner) h)
+
+  added-most : (i : ℕ) → dn (added i) ≤ 300 * g .counter
+  unfolding added
+  added-most i = added-dn (handFor s .fields .discarder) (isRon (handFor s .fields)) (g .counter) (handFor s .fields .winner) i
+
+  won-dn : (i : ℕ) → dn (won i) ≤ 48000
   unfolding won
   won-dn i = score-within s (g .dealer) (g .wind) i .1
 
@@ -190,12 +204,16 @@ module _ (g : Game) (s : List ℕ) where
   pot-none i = pot-dn (eqb i (handFor s .fields .winner)) (1000 * g .sticks)
 
   win-balanced : handFor s .fields .winner ≤ 3 → Turns (winGives g s) (g .sticks) 0
-  unfolding winGives won pot
-  win-balanced h = both-turn won pot (g .sticks) 0 won-zero (pot-turns h)
+  unfolding winGives won added pot
+  win-balanced h = both-turn (λ i. won i +ℤ added i) pot (g .sticks) 0 (both-turn won added 0 0 won-zero (added-turns h)) (pot-turns h)
 
-  win-bounded : (i : ℕ) → dn (winGives g s i) ≤ costs (g .hands) + up (winGives g s i)
-  unfolding winGives won pot
-  win-bounded i = omega (arith, won-dn i, pot-none i, add-law (won i) (pot i))
+  win-bounded : g .counter ≤ g .hands → (i : ℕ) → dn (winGives g s i) ≤ costs (g .hands) + up (winGives g s i)
+  unfolding winGives won added pot
+  win-bounded h i = omega (arith, won-dn i, added-most i, pot-none i, add-law (won i) (added i), add-law (won i +ℤ added i) (pot i))
+
+won-counter : (deals : Bool) (n h : ℕ) → n ≤ h → cond deals (n + 1) 0 ≤ h + 1
+won-counter true n h l = omega arith
+won-counter false n h l = omega arith
 
 -- ---- each booking
 
@@ -205,10 +223,15 @@ module _ (g : Game) where
   effect-fair (riichi seat) e = riichi-fair g seat e
   effect-fair (win s) e =
       let y = win-accepted g s e in
-      finishing-fair g (winGives g s) 0 (not (eqb (handFor s .fields .winner) (g .dealer))) (open-of g (y .0) .hands) (win-balanced g s (read-bounds s (y .1) .winner)) (λ i l. win-bounded g s i)
+      let o = open-of g (y .0) in
+      finishing-fair g (winGives g s) 0 (not (isDealersWin g s)) (cond (isDealersWin g s) (g .counter + 1) 0) (o .hands)
+      (won-counter (isDealersWin g s) (g .counter) (g .hands) (o .form .counter)) (win-balanced g s (read-bounds s (y .1) .winner)) (λ i l. win-bounded g s (o .form .counter) i)
   effect-fair (draw bits) e =
-      finishing-fair g (drawGives bits) (g .sticks) (not (isReady bits (g .dealer))) (open-of g (draw-accepted g bits e) .hands) (draw-balanced bits (g .sticks)) (λ i l. omega (arith, draw-bounded bits i))
+      let o = open-of g (draw-accepted g bits e) in
+      finishing-fair g (drawGives bits) (g .sticks) (not (isReady bits (g .dealer))) (g .counter + 1) (o .hands)
+      (omega (arith, o .form .counter)) (draw-balanced bits (g .sticks)) (λ i l. omega (arith, draw-bounded bits i))
   effect-fair (chombo seat) e =
       let y = chombo-accepted g seat e in
       let o = open-of g (y .1) in
-      finishing-fair g (chomboGives g seat) (g .sticks - declarations g) false (o .hands) (chombo-balanced g seat (y .0) (o .form .sticks)) (λ i l. omega (arith, chombo-bounded g seat i))
+      finishing-fair g (chomboGives g seat) (g .sticks - declarations g) false (g .counter) (o .hands)
+      (omega (arith, o .form .counter)) (chombo-balanced g seat (y .0) (o .form .sticks)) (λ i l. omega (arith, chombo-bounded g seat i))

@@ -7,7 +7,7 @@ use native.Mathlib.Omega.{arith}
 use borrow.Author.Tests.{ltb-false, le-ltb, leb-true, le-leb, eqb-true, eqb-false, eq-eqb, not-false}
 use lib.Dec.{ltb, leb, eqb}
 use lib.IntN.{ℤ, pos, negsuc, _+ℤ_}
-use lib.Signed.{ltZ}
+use lib.Signed.{ltZ, leZ}
 use Rattle.tiles.specs.Below.{any, some}
 use Rattle.tiles.specs.laws.Below.{or-both, some-at, some-of}
 use Rattle.score.specs.laws.Z.{up, dn, add-law, part-law, parts-eq, ltZ-false, le-ltZ, Within}
@@ -15,7 +15,7 @@ use Rattle.ledger.specs.declared.Game.{Game}
 use Rattle.ledger.specs.Ledger.{pointsInPlay, lastHand, floor, isSet, scoreAt, declarations, totalOf, eqZ, isOver, outOfForm, notOpen}
 use Rattle.ledger.specs.laws.Bounds.{depth, amount, mostSticks}
 
--- ---- the test of integers
+-- ---- tests of integers
 
 pub same-leb : (a b : ℕ) → leb a b && leb b a ≡ eqb a b
 same-leb a b = go (eqb a b) refl
@@ -28,6 +28,12 @@ same-leb a b = go (eqb a b) refl
         apart true true u v = absurd (eqb-false a b q (omega (arith, leb-true a b u, leb-true b a v)))
         apart true false u v = refl
         apart false y u v = refl
+
+pub le-leZ : (a b : ℤ) → up a + dn b ≤ up b + dn a → leZ a b ≡ true
+le-leZ (pos a) (pos b) h = le-leb a b (omega arith)
+le-leZ (pos a) (negsuc b) h = absurd (omega arith)
+le-leZ (negsuc a) (pos b) h = refl
+le-leZ (negsuc a) (negsuc b) h = le-leb b a (omega arith)
 
 pub eqZ-true : (a b : ℤ) → eqZ a b ≡ true → a ≡ b
 eqZ-true (pos a) (pos b) h = ap pos (eqb-true a b (sym (same-leb a b) ∙ h))
@@ -48,6 +54,7 @@ pub record InForm (g : Game) : Type 0 where
   pub wind : g .wind ≤ 1
   pub hands : g .hands ≤ lastHand
   pub sticks : declarations g ≤ g .sticks
+  pub counter : g .counter ≤ g .hands
   pub low : (i : ℕ) → i < 4 → dn (scoreAt g i) ≤ depth
   pub total : totalOf g ≡ pointsInPlay
 
@@ -57,17 +64,18 @@ not-low z h = ⊎-elim (λ (e : up z ≡ 0). omega (arith, ltZ-false z floor h))
 pub low-not : (z : ℤ) → dn z ≤ depth → ltZ z floor ≡ false
 low-not z h = le-ltZ z floor (omega arith)
 
-six : (a b c d e f : Bool) → a || b || c || d || e || not f ≡ false → (a ≡ false) × (b ≡ false) × (c ≡ false) × (d ≡ false) × (e ≡ false) × (f ≡ true)
-six a b c d e f h =
-    let h5 = or-both (a || b || c || d || e) (not f) h in
+seven : (a b c d e f k : Bool) → a || b || c || d || e || f || not k ≡ false → (a ≡ false) × (b ≡ false) × (c ≡ false) × (d ≡ false) × (e ≡ false) × (f ≡ false) × (k ≡ true)
+seven a b c d e f k h =
+    let h6 = or-both (a || b || c || d || e || f) (not k) h in
+    let h5 = or-both (a || b || c || d || e) f (h6 .0) in
     let h4 = or-both (a || b || c || d) e (h5 .0) in
     let h3 = or-both (a || b || c) d (h4 .0) in
     let h2 = or-both (a || b) c (h3 .0) in
     let h1 = or-both a b (h2 .0) in
-    (h1 .0, h1 .1, h2 .1, h3 .1, h4 .1, not-false f (h5 .1))
+    (h1 .0, h1 .1, h2 .1, h3 .1, h4 .1, h5 .1, not-false k (h6 .1))
 
-six-none : (a b c d e f : Bool) → a ≡ false → b ≡ false → c ≡ false → d ≡ false → e ≡ false → f ≡ true → a || b || c || d || e || not f ≡ false
-six-none a b c d e f p q r t u v = rw (p, q, r, t, u, v)
+seven-none : (a b c d e f k : Bool) → a ≡ false → b ≡ false → c ≡ false → d ≡ false → e ≡ false → f ≡ false → k ≡ true → a || b || c || d || e || f || not k ≡ false
+seven-none a b c d e f k p q r t u v w = rw (p, q, r, t, u, v, w)
 
 module _ (g : Game) where
   -- a score under the floor
@@ -77,21 +85,22 @@ module _ (g : Game) where
   pub form-of : outOfForm g ≡ false → InForm g
   unfolding outOfForm some lows
   form-of h =
-      let p = six (ltb 3 (g .dealer)) (ltb 1 (g .wind)) (ltb lastHand (g .hands)) (ltb (g .sticks) (declarations g)) lows (eqZ (totalOf g) pointsInPlay) h in
+      let p = seven (ltb 3 (g .dealer)) (ltb 1 (g .wind)) (ltb lastHand (g .hands)) (ltb (g .sticks) (declarations g)) (ltb (g .hands) (g .counter)) lows (eqZ (totalOf g) pointsInPlay) h in
       record {
         dealer = ltb-false 3 (g .dealer) (p .0);
         wind = ltb-false 1 (g .wind) (p .1);
         hands = ltb-false lastHand (g .hands) (p .2);
         sticks = ltb-false (g .sticks) (declarations g) (p .3);
-        low = λ i l. not-low (scoreAt g i) (some-at (λ j. ltZ (scoreAt g j) floor) 4 i (p .4) l);
-        total = eqZ-true (totalOf g) pointsInPlay (p .5);
+        counter = ltb-false (g .hands) (g .counter) (p .4);
+        low = λ i l. not-low (scoreAt g i) (some-at (λ j. ltZ (scoreAt g j) floor) 4 i (p .5) l);
+        total = eqZ-true (totalOf g) pointsInPlay (p .6);
       }
 
   pub of-form : InForm g → outOfForm g ≡ false
   unfolding outOfForm some lows
   of-form f =
-      six-none (ltb 3 (g .dealer)) (ltb 1 (g .wind)) (ltb lastHand (g .hands)) (ltb (g .sticks) (declarations g)) lows (eqZ (totalOf g) pointsInPlay)
-      (le-ltb 3 (g .dealer) (f .dealer)) (le-ltb 1 (g .wind) (f .wind)) (le-ltb lastHand (g .hands) (f .hands)) (le-ltb (g .sticks) (declarations g) (f .sticks))
+      seven-none (ltb 3 (g .dealer)) (ltb 1 (g .wind)) (ltb lastHand (g .hands)) (ltb (g .sticks) (declarations g)) (ltb (g .hands) (g .counter)) lows (eqZ (totalOf g) pointsInPlay)
+      (le-ltb 3 (g .dealer) (f .dealer)) (le-ltb 1 (g .wind) (f .wind)) (le-ltb lastHand (g .hands) (f .hands)) (le-ltb (g .sticks) (declarations g) (f .sticks)) (le-ltb (g .hands) (g .counter) (f .counter))
       (some-of (λ j. ltZ (scoreAt g j) floor) 4 (λ i l. low-not (scoreAt g i) (f .low i l))) (eq-eqZ (totalOf g) pointsInPlay (f .total))
 
 -- ---- open

@@ -27,7 +27,7 @@ above-fresh (suc (suc (suc (suc i)))) l = absurd (omega arith)
 
 pub fresh-kept : Kept fresh
 unfolding fresh totalOf
-fresh-kept = record { dealer = omega arith; wind = omega arith; hands = omega arith; sticks = omega arith; above = above-fresh; total = refl }
+fresh-kept = record { dealer = omega arith; wind = omega arith; hands = omega arith; sticks = omega arith; counter = omega arith; above = above-fresh; total = refl }
 
 above-low : (z : ℤ) (h d : ℕ) → h + d ≤ lastHand → d ≤ 1 → dn z + up startingScore ≤ up z + worst h + 1000 * d → dn z ≤ depth
 above-low z h d a l b = ⊎-elim (λ (e : up z ≡ 0). omega (arith, worst-low h d a l)) (λ (e : dn z ≡ 0). omega arith) (part-law z)
@@ -38,6 +38,7 @@ kept-form g k = record {
   wind = k .wind;
   hands = k .hands;
   sticks = k .sticks;
+  counter = k .counter;
   low = λ i l. above-low (scoreAt g i) (g .hands) (mark (isDeclared g i)) (k .above i l .0) (mark-le (isDeclared g i)) (k .above i l .1);
   total = k .total;
 }

@@ -3,24 +3,30 @@ use mathlib.Core.Path.{_≡_, refl, sym, ap, _∙_}
 use mathlib.Core.Bool.{Bool, true, false, cond}
 use mathlib.Core.List.{List}
 use mathlib.Core.Logic.{inl, inr, ⊎-elim, _↔_}
-use Prim.Native.Nat.{ℕ, _<_}
+use Prim.Native.Nat.{ℕ, _≤_, _<_}
 use native.Mathlib.Omega.{arith}
 use borrow.Author.Tests.{ltb-false}
 use lib.Dec.{ltb}
 use lib.IntN.{ℤ, pos, _+ℤ_, +ℤ-assoc}
 use lib.ListN.{getD}
+use lib.Signed.{leZ}
+use Rattle.hand.specs.Hand.{isRon}
 use Rattle.hand_record.specs.Record.{IsSound}
 use Rattle.hand_record.specs.Claims.{sound}
+use Rattle.hand_record.specs.laws.Bounds.{read-bounds}
 use Rattle.reading.specs.declared.Reading.{Reading}
+use Rattle.points.specs.Claims.{gain-is-payments}
+use Rattle.value.specs.Value.{valueOf}
 use Rattle.score.specs.declared.Scored.{Scored}
-use Rattle.score.specs.Named.{Named, scoredAs}
+use Rattle.score.specs.Named.{wonOf, seatsOf, worth, Named, scoredAs}
+use Rattle.score.specs.laws.Z.{add-law}
 use Rattle.score.specs.laws.Settled.{scored}
 use Rattle.score.specs.laws.Named.{accepted, best, most, refused-6, refused-7, for-tiles}
 use Rattle.ledger.specs.declared.Game.{Game}
 use Rattle.ledger.specs.Booking.{win}
-use Rattle.ledger.specs.Ledger.{scoreAt, notOpen, handFor, scoredFor, riichiMismatch, refusalFor, winGives, effectOf, after}
-use Rattle.ledger.specs.Demand3.{sticksTo, PaidBy, AcceptedWhen, PaidByBest, TilesRefused, SixOrSeven}
-use Rattle.ledger.specs.laws.Form.{open-of}
+use Rattle.ledger.specs.Ledger.{scoreAt, notOpen, handFor, scoredFor, riichiMismatch, refusalFor, addedFor, winGives, effectOf, after}
+use Rattle.ledger.specs.Demand3.{gainBy, changeBy, sticksTo, PaidBy, AcceptedWhen, PaidByBest, BestWithCounters, TilesRefused, SixOrSeven}
+use Rattle.ledger.specs.laws.Form.{le-leZ, open-of}
 use Rattle.ledger.specs.laws.Accepted.{win-accepted}
 use Rattle.ledger.specs.laws.Refusals.{win-by}
 use Rattle.ledger.specs.laws.Lists.{score-after}
@@ -34,18 +40,30 @@ from-score j k m a b = go (ltb 0 k) m refl
     go false true e = (λ q. absurd (omega arith), λ q. absurd (omega (arith, ltb-false 0 k e)))
     go false false e = (λ q. absurd (omega arith), λ q. absurd (omega (arith, ltb-false 0 k e)))
 
+each-added : (x c a k : ℤ) → x +ℤ (c +ℤ a +ℤ k) ≡ x +ℤ c +ℤ a +ℤ k
+each-added x c a k = sym (+ℤ-assoc x (c +ℤ a) k) ∙ ap (λ (z : ℤ). z +ℤ k) (sym (+ℤ-assoc x c a))
+
+-- what is added to both leaves their order
+same-order : (a b : ℕ) (x : ℤ) → a ≤ b → leZ (pos a +ℤ x) (pos b +ℤ x) ≡ true
+same-order a b x h = le-leZ (pos a +ℤ x) (pos b +ℤ x) (omega (arith, add-law (pos a) x, add-law (pos b) x))
+
 module _ (l : Game) (s : List ℕ) where
   -- in an open game Score gives what document 01 names for a sound record
   names : notOpen l ≡ false → IsSound s → Named (handFor s) (l .dealer) (l .wind) (scoredFor l s)
   names o i = let f = open-of l o .form in scored s (l .dealer) (l .wind) (f .dealer) (f .wind) i
 
-  -- an accepted win that scores as r moves each score by its change in r and the sticks
+  -- an accepted win that scores as r moves each score by its change in r, what the counters add, and the sticks
   win-moves : (r : Reading) → refusalFor l (win s) ≡ 0 → scoredFor l s ≡ scoredAs (handFor s) (l .dealer) (l .wind) r → PaidBy l s r
   unfolding effectOf winGives
   win-moves r z e i h =
-      let given : scoreAt (after l (win s)) i ≡ scoreAt l i +ℤ (getD (scoredFor l s .changes) i (pos 0) +ℤ sticksTo l s i) = rw z at (score-after l (win s) i h) in
-      given ∙ ap (λ (x : Scored). scoreAt l i +ℤ (getD (x .changes) i (pos 0) +ℤ sticksTo l s i)) e
-      ∙ sym (+ℤ-assoc (scoreAt l i) (getD (scoredAs (handFor s) (l .dealer) (l .wind) r .changes) i (pos 0)) (sticksTo l s i))
+      let given : scoreAt (after l (win s)) i ≡ scoreAt l i +ℤ (getD (scoredFor l s .changes) i (pos 0) +ℤ addedFor l s i +ℤ sticksTo l s i) = rw z at (score-after l (win s) i h) in
+      given ∙ ap (λ (x : Scored). scoreAt l i +ℤ (getD (x .changes) i (pos 0) +ℤ addedFor l s i +ℤ sticksTo l s i)) e
+      ∙ each-added (scoreAt l i) (changeBy l s r i) (addedFor l s i) (sticksTo l s i)
+
+  -- the winner's change in a reading is its gain
+  gain-at : (q : Reading) → handFor s .fields .winner < 4 → changeBy l s q (handFor s .fields .winner) ≡ pos (gainBy l s q)
+  unfolding worth valueOf wonOf
+  gain-at q h = gain-is-payments (seatsOf (handFor s) (l .dealer)) (isRon (handFor s .fields)) (worth (handFor s) (l .dealer) (l .wind) q .basic .0) .got h
 
   module _ (n : ℕ) (e : n ≡ refusalFor l (win s)) where
     pub win-accepted-when : AcceptedWhen l s n
@@ -64,6 +82,12 @@ module _ (l : Game) (s : List ℕ) where
         let y = win-accepted l s (sym e ∙ z) in
         let r = best (handFor s) (l .dealer) (l .wind) (names (y .0) (sound s .1 (y .1))) (y .2) in
         (r .0, r .1, win-moves (r .0) (sym e ∙ z) (r .2), λ q w. most (handFor s) (l .dealer) (l .wind) (r .0) q (r .1) w)
+
+    pub win-best : BestWithCounters l s n
+    win-best z =
+        let p = win-paid z in
+        let w : handFor s .fields .winner < 4 = omega (arith, read-bounds s (win-accepted l s (sym e ∙ z) .1) .winner) in
+        (p .0, p .1, p .2, λ q k. rw (gain-at (p .0) w, gain-at q w) (same-order (gainBy l s q) (gainBy l s (p .0)) (addedFor l s (handFor s .fields .winner)) (p .3 q k)))
 
     -- a refusal of the scorer's, of a sound record in an open game
     told : notOpen l ≡ false → (j : ℕ) → 0 < j → j < 11 → (n ≡ j) ↔ (scoredFor l s .refusal ≡ j)

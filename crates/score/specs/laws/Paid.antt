@@ -41,7 +41,7 @@ paid-by s true w d x n = rw (gain-by-ron s 8000 (omega arith) (n refl)) (by-ron 
 paid-by s false w d x n = rw (gain-by-tsumo s 8000 (omega arith) (omega arith)) (by-tsumo (eqb (s .winner) (s .dealer)))
 
 -- "ron with discarder equal to winner" is refused
-other-seat : (f : Fields) → wrongDiscarder f ≡ false → isRon f ≡ true → f .winner ≡ f .discarder → ⊥
+pub other-seat : (f : Fields) → wrongDiscarder f ≡ false → isRon f ≡ true → f .winner ≡ f .discarder → ⊥
 other-seat f o r e = let q : eqb (f .discarder) (f .winner) ≡ false = rw r at o in eqb-false _ _ q (sym e)
 
 -- ---- of a hand

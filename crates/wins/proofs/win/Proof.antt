@@ -67,12 +67,15 @@ win-spec =
     let f = opened (read (c .before) .before) .form in
     (b .few, b .winner, f .dealer, f .wind, b .discarder, b .other))
     (λ c κs.
-    let on = read (past c) .before in
+    let v = c .before in
+    let on = read (past v) .before in
     let z = start on .args in
-    (opened on, bounds (past c) .winner, λ i. let w = score-within (z .s .now) (z .g .dealer) (z .g .wind) i in rw (scores c) (omega arith, omega arith)))
+    let b = bounds (past v) in
+    (opened on, b .winner, b .discarder, b .other, λ i. let w = score-within (z .s .now) (z .g .dealer) (z .g .wind) i in rw (scores v) (omega arith, omega arith)))
     (λ c.
-    let r = read (past (c .before)) in
+    let v = c .before .before in
+    let r = read (past v) in
     let on = r .before in
     let z = start on .args in
-    won-booked (z .g) (z .s .now) (r .read-hand .result .hand) (c .before .settle .result) (c .win-scored .result .refusal) (c .win-scored .result .game)
-    (sym (on .before .not-open .ensures) ∙ on .if1 .left) (is-hand (past (c .before))) (scores (c .before)) (c .win-scored .ensures)))
+    won-booked (z .g) (z .s .now) (r .read-hand .result .hand) (v .settle .result) (c .win-scored .result .refusal) (c .win-scored .result .game)
+    (sym (on .before .not-open .ensures) ∙ on .if1 .left) (is-hand (past v)) (scores v) (c .win-scored .ensures)))
