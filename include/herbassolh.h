@@ -42,7 +42,7 @@ enum {
                                    game where it does is out of form"; "The floor of a score becomes" -15,740,000 */
     HB_REFUSAL_DECLARED = 10,   /* "declared already this hand" */
     HB_REFUSAL_RIICHI = 11,     /* "riichi field non-zero and winner not declared, or the reverse" */
-    HB_REFUSAL_NOT_READY = 12,  /* "a declared seat not ready" */
+    HB_REFUSAL_NOT_READY = 12,  /* "12 is never given now": a name for lines of older logs, "a declared seat not ready" */
     HB_REFUSAL_BUFFER = 13,     /* "buffer shorter than the record" */
     HB_REFUSAL_ENTRY = 14,      /* "kind over 3, win argument not 0, m over 4, or bytes missing" */
     HB_REFUSAL_DISCARD = 15,    /* "a discard over 33" */
@@ -302,7 +302,9 @@ uint8_t hb_riichi(HbGame *game, uint8_t seat);
  * pays 100 more"; refusals 9, 1 to 7, 11 in order. */
 uint8_t hb_win(HbGame *game, const uint8_t *record, size_t record_len);
 
-/* Draw; bits: four, seat 0 the most significant, set for ready; refusals 8, 9, 12 in order. */
+/* Draw; bits: four, seat 0 the most significant, set for ready. Where a declared seat is not ready it is a chombo of each such
+ * seat: "each such seat pays 3,000 to every other seat, two such seats paying each other, and this hand's sticks return. No ready
+ * payment is made, the deal and counter stay, and the hand is finished." Refusals 8, 9 in order. */
 uint8_t hb_draw(HbGame *game, uint8_t bits);
 
 /* Chombo of a seat; refusals 8, 9 in order. */
@@ -314,7 +316,7 @@ HbNextEntry hb_next(const uint8_t *log, size_t log_len, size_t at);
 
 /* Books the entry that part begins with, such as log + at with the length that hb_next gave: its booking's refusal and the
  * game updated, or 14 and the game left where part begins with no whole entry. Refusals of an entry: 14; of a riichi 8, 9, 10,
- * a win 9, 2 to 7, 11, a draw 9, 12, a chombo 8, 9, in order. */
+ * a win 9, 2 to 7, 11, a draw 9, a chombo 8, 9, in order. */
 uint8_t hb_book(HbGame *game, const uint8_t *part, size_t part_len);
 
 /* A walk before a log's first entry, with a fresh game. */

@@ -743,7 +743,7 @@ static int all_refused(const HbGame *game, uint8_t refusal)
     return same && memcmp(&copy, game, sizeof copy) == 0;
 }
 
-/* Accepted bookings: what each gives and takes; and refusals 10, 11, 12 among them. */
+/* Accepted bookings: what each gives and takes; and refusals 10 and 11 among them. */
 static void bookings(void)
 {
     static const int32_t start[] = {30000, 30000, 30000, 30000};
@@ -765,7 +765,6 @@ static void bookings(void)
     declared = game;
     CHECK(hb_riichi(&game, 1) == HB_REFUSAL_DECLARED && memcmp(&game, &declared, sizeof game) == 0);
     CHECK(hb_win(&game, table[0].record, 13) == HB_REFUSAL_RIICHI && memcmp(&game, &declared, sizeof game) == 0);
-    CHECK(hb_draw(&game, 11) == HB_REFUSAL_NOT_READY && memcmp(&game, &declared, sizeof game) == 0);
     CHECK(hb_win(&game, with_riichi, 13) == 0 && is_game(&game, after_riichi_win, 0, 1, HB_ROUND_EAST, 2));
     CHECK(!game.declared[1]);
     game = declared;
@@ -837,7 +836,8 @@ static void marks(void)
     game.declared[2] = 0xfe, game.sticks = 1, game.scores[2] -= 1000;
     before = game;
     CHECK(hb_riichi(&game, 2) == HB_REFUSAL_DECLARED && memcmp(&game, &before, sizeof game) == 0);
-    CHECK(hb_draw(&game, 0) == HB_REFUSAL_NOT_READY && memcmp(&game, &before, sizeof game) == 0);
+    CHECK(hb_draw(&game, 0) == 0 && game.sticks == 0 && game.scores[2] == 21000 && memcmp(game.declared, cleared, sizeof cleared) == 0);
+    game = before;
     CHECK(hb_riichi(&game, 1) == 0 && game.sticks == 2 && memcmp(game.declared, set, sizeof set) == 0);
     game = before;
     CHECK(hb_chombo(&game, 0) == 0 && game.sticks == 0 && game.scores[2] == 33000);
@@ -875,6 +875,40 @@ static void counters(void)
         CHECK_CASE(hand, hb_riichi(&game, 1) == 0 && game.counter == (uint32_t)hand && hb_win(&game, thirteen_orphans, 13) == 0);
     CHECK(is_game(&game, lowest, 0, 0, HB_ROUND_EAST, 200) && game.over && game.counter == 200);
     CHECK(all_refused(&game, HB_REFUSAL_NOT_OPEN));
+}
+
+/* Draws in which declared seats are not ready: a chombo of each. Each is made in a game with an older stick, two counters and the
+ * deal of seat 1, as a call and as an entry. */
+static void not_ready(void)
+{
+    static const struct {
+        uint8_t declared, bits; /* four bits, seat 0 the most significant */
+        int32_t scores[4];
+    } cases[] = {
+        {0x4, 0x0, {33000, 20000, 33000, 33000}}, /* nobody is ready: seat 1, the dealer, pays 3,000 to each */
+        {0x4, 0xb, {33000, 20000, 33000, 33000}}, /* three are ready: no ready payment */
+        {0xc, 0x8, {33000, 20000, 33000, 33000}}, /* seat 0 declared and is ready: its stick returns */
+        {0xc, 0x2, {24000, 23000, 36000, 36000}}, /* seats 0 and 1 pay each other too */
+        {0xe, 0x1, {27000, 26000, 27000, 39000}}, /* three seats */
+        {0xf, 0x1, {27000, 26000, 27000, 39000}}, /* and seat 3's stick returns */
+        {0xf, 0x0, {30000, 29000, 30000, 30000}}, /* all four: the sticks return, nothing else moves */
+    };
+    HbGame start = hb_fresh();
+    start.scores[1] = 29000, start.sticks = 1, start.hands = 2, start.counter = 2, start.dealer = 1;
+    for (size_t n = 0; n < COUNT_OF(cases); n++) {
+        HbGame game = start, booked;
+        for (uint8_t seat = 0; seat < 4; seat++)
+            CHECK_CASE(n, !(cases[n].declared >> (3 - seat) & 1) || hb_riichi(&game, seat) == 0);
+        booked = game;
+        CHECK_CASE(n, hb_draw(&game, cases[n].bits) == 0 && book_byte(&booked, (uint8_t)(0x20 + cases[n].bits)) == 0);
+        CHECK_CASE(n, is_game(&game, cases[n].scores, 1, 1, HB_ROUND_EAST, 3) && game.counter == 2 && !game.over);
+        CHECK_CASE(n, !game.declared[0] && !game.declared[1] && !game.declared[2] && !game.declared[3]);
+        CHECK_CASE(n, memcmp(&game, &booked, sizeof game) == 0);
+    }
+    HbGame last = hb_fresh();
+    last.hands = 199, last.dealer = 3, last.wind = HB_ROUND_SOUTH;
+    CHECK(hb_riichi(&last, 0) == 0 && hb_draw(&last, 7) == 0 && last.over && last.dealer == 3 && last.hands == 200);
+    CHECK(last.scores[0] == 21000 && last.scores[3] == 33000 && last.sticks == 0);
 }
 
 /* The end by the deal after eight draws with none ready, and at 200 hands of chombo. */
@@ -978,7 +1012,7 @@ static void booked_entries(void)
         CHECK_CASE(n, books_as(riichi_entry, 14, games[n], refusal, after));
     }
     CHECK(books_as(win_entry, 14, games[1], HB_REFUSAL_RIICHI, games[1]));
-    CHECK(book_byte(&games[1], 0x01) == HB_REFUSAL_DECLARED && book_byte(&games[1], 0x2b) == HB_REFUSAL_NOT_READY);
+    CHECK(book_byte(&games[1], 0x01) == HB_REFUSAL_DECLARED);
     CHECK(book_byte(&games[1], 0x04) == HB_REFUSAL_ARGUMENT && book_byte(&games[1], 0x3f) == HB_REFUSAL_ARGUMENT);
     CHECK(book_byte(&games[2], 0x04) == HB_REFUSAL_ARGUMENT && book_byte(&games[2], 0x20) == HB_REFUSAL_NOT_OPEN);
 }
@@ -1025,7 +1059,9 @@ static void marked_entries(void)
     game.declared[2] = 2, game.sticks = 1, game.scores[2] -= 1000;
     before = game;
     CHECK(book_byte(&game, 0x02) == HB_REFUSAL_DECLARED && memcmp(&game, &before, sizeof game) == 0);
-    CHECK(book_byte(&game, 0x2d) == HB_REFUSAL_NOT_READY && memcmp(&game, &before, sizeof game) == 0);
+    CHECK(book_byte(&game, 0x2d) == 0 && game.sticks == 0 && game.scores[2] == 21000);
+    CHECK(memcmp(game.declared, cleared, sizeof cleared) == 0);
+    game = before;
     CHECK(book_win(&game, with_riichi, 13) == HB_REFUSAL_RIICHI && memcmp(&game, &before, sizeof game) == 0);
     CHECK(book_byte(&game, 0x01) == 0 && game.sticks == 2 && memcmp(game.declared, set, sizeof set) == 0);
     CHECK(book_win(&game, with_riichi, 13) == 0 && game.sticks == 0 && memcmp(game.declared, cleared, sizeof cleared) == 0);
@@ -1292,6 +1328,7 @@ int main(void)
     refused_bookings();
     marks();
     counters();
+    not_ready();
     ends();
     entries();
     booked_entries();

@@ -1,4 +1,4 @@
-//! The game and its four bookings (01, The game; 02, S-5).
+//! The game and its four bookings (01, The game; 02, S-5 and S-7).
 
 use crate::booking::Booking;
 use crate::codec::read;
@@ -76,6 +76,26 @@ impl Game {
         }
     }
 
+    /// The declared seats that a draw's bits say are not ready (02, S-7).
+    pub fn unready(&self, bits: u8) -> Vec<usize> {
+        (0..4).filter(|&seat| self.declared[seat] && !is_ready(bits, seat)).collect()
+    }
+
+    /// Has each of some seats pay 3,000 to every other, gives this hand's sticks back and finishes it (01, Chombo; 02, S-7).
+    fn penalise(&mut self, seats: &[usize]) {
+        for &seat in seats {
+            for other in (0..4).filter(|&other| other != seat) {
+                self.pay(seat, -3000);
+                self.pay(other, 3000);
+            }
+        }
+        for owner in (0..4).filter(|&owner| self.declared[owner]).collect::<Vec<_>>() {
+            self.pay(owner, STICK);
+            self.sticks -= 1;
+        }
+        self.finish(false);
+    }
+
     /// Finishes a hand and clears declarations (01, The game).
     fn finish(&mut self, passes: bool) {
         self.declared = [false; 4];
@@ -150,7 +170,7 @@ pub fn win(game: &mut Game, record: &[u8]) -> u8 {
     0
 }
 
-/// Books a draw; gives the refusal, 0 if accepted (01, Draw).
+/// Books a draw, or a chombo of the declared seats that are not ready; gives the refusal, 0 if accepted (01, Draw; 02, S-7).
 pub fn draw(game: &mut Game, bits: u8) -> u8 {
     if bits > 15 {
         return 8;
@@ -158,8 +178,10 @@ pub fn draw(game: &mut Game, bits: u8) -> u8 {
     if !game.is_open() {
         return 9;
     }
-    if (0..4).any(|seat| game.declared[seat] && !is_ready(bits, seat)) {
-        return 12;
+    let unready = game.unready(bits);
+    if !unready.is_empty() {
+        game.penalise(&unready);
+        return 0;
     }
     let (gain, cost) = match bits.count_ones() {
         1 => (3000, 1000),
@@ -183,15 +205,7 @@ pub fn chombo(game: &mut Game, seat: u8) -> u8 {
     if !game.is_open() {
         return 9;
     }
-    for other in (0..4).filter(|&other| other != seat as usize) {
-        game.pay(seat as usize, -3000);
-        game.pay(other, 3000);
-    }
-    for owner in (0..4).filter(|&owner| game.declared[owner]).collect::<Vec<_>>() {
-        game.pay(owner, STICK);
-        game.sticks -= 1;
-    }
-    game.finish(false);
+    game.penalise(&[seat as usize]);
     0
 }
 

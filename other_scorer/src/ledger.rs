@@ -1,4 +1,4 @@
-//! The ledger: a second bookkeeping, from the bookings' arguments alone (01, Ledger; 02, S-5).
+//! The ledger: a second bookkeeping, from the bookings' arguments alone (01, Ledger; 02, S-5 and S-7).
 //! It shares only the scoring of a win with the game.
 
 use std::collections::BTreeSet;
@@ -68,8 +68,7 @@ impl Ledger {
                 0 => vec![(11, has_riichi(record) != self.declared.contains(&winner(record)))],
                 number => vec![(number, true)],
             },
-            Draw(bits) if *bits > 15 => vec![(8, true)],
-            Draw(bits) => vec![(9, closed), (12, !self.declared.is_subset(&ready(*bits)))],
+            Draw(bits) => vec![(8, *bits > 15), (9, closed)],
             Chombo(seat) => vec![(8, *seat > 3), (9, closed)],
         };
         met.into_iter().find(|(_, holds)| *holds).map_or(0, |(number, _)| number)
@@ -86,8 +85,24 @@ impl Ledger {
         each * self.counter
     }
 
-    /// What an accepted booking gives or costs a seat (01, Ledger; 02, S-5).
+    /// The seats of which an accepted booking is a chombo: one, or those declared and not ready at a draw (01, Ledger; 02, S-7).
+    fn faulty(&self, booking: &Booking) -> BTreeSet<u8> {
+        match booking {
+            Chombo(seat) => BTreeSet::from([*seat]),
+            Draw(bits) => &self.declared - &ready(*bits),
+            Riichi(_) | Win(_) => BTreeSet::new(),
+        }
+    }
+
+    /// What a chombo of some seats gives or costs a seat: 3,000 from each, less 12,000 if it is one of them, and its stick (02, S-7).
+    fn fined(&self, faulty: &BTreeSet<u8>, seat: u8) -> i64 {
+        let back = 1000 * self.declared.contains(&seat) as i64;
+        3000 * faulty.len() as i64 - 12_000 * faulty.contains(&seat) as i64 + back
+    }
+
+    /// What an accepted booking gives or costs a seat (01, Ledger; 02, S-5 and S-7).
     fn moved(&self, booking: &Booking, seat: u8) -> i64 {
+        let faulty = self.faulty(booking);
         match booking {
             Riichi(own) if *own == seat => -1000,
             Riichi(_) => 0,
@@ -95,7 +110,7 @@ impl Ledger {
                 let change = score(record, self.dealer, self.wind).changes[seat as usize] as i64 + self.added(record, seat);
                 if winner(record) == seat { change + 1000 * self.sticks } else { change }
             }
-            Draw(bits) => {
+            Draw(bits) if faulty.is_empty() => {
                 let ready = ready(*bits);
                 match ready.len() as i64 {
                     0 | 4 => 0,
@@ -103,38 +118,36 @@ impl Ledger {
                     r => -3000 / (4 - r),
                 }
             }
-            Chombo(own) => {
-                let back = if self.declared.contains(&seat) { 1000 } else { 0 };
-                back + if *own == seat { -9000 } else { 3000 }
-            }
+            Draw(_) | Chombo(_) => self.fined(&faulty, seat),
         }
     }
 
-    /// The sticks that an accepted booking leaves (01, Ledger).
+    /// The sticks that an accepted booking leaves (01, Ledger; 02, S-7).
     fn left(&self, booking: &Booking) -> i64 {
         match booking {
             Riichi(_) => self.sticks + 1,
             Win(_) => 0,
-            Draw(_) => self.sticks,
-            Chombo(_) => self.sticks - self.declared.len() as i64,
+            Draw(_) if self.faulty(booking).is_empty() => self.sticks,
+            Draw(_) | Chombo(_) => self.sticks - self.declared.len() as i64,
         }
     }
 
-    /// The counter that an accepted booking leaves (02, S-5).
+    /// The counter that an accepted booking leaves (02, S-5 and S-7).
     fn counted(&self, booking: &Booking) -> i64 {
         match booking {
             Win(record) if winner(record) != self.dealer => 0,
-            Win(_) | Draw(_) => self.counter + 1,
-            Riichi(_) | Chombo(_) => self.counter,
+            Win(_) => self.counter + 1,
+            Draw(_) if self.faulty(booking).is_empty() => self.counter + 1,
+            Riichi(_) | Draw(_) | Chombo(_) => self.counter,
         }
     }
 
-    /// Whether an accepted booking passes the deal (01, The game).
+    /// Whether an accepted booking passes the deal (01, The game; 02, S-7).
     fn passes(&self, booking: &Booking) -> bool {
         match booking {
-            Riichi(_) | Chombo(_) => false,
             Win(record) => winner(record) != self.dealer,
-            Draw(bits) => !ready(*bits).contains(&self.dealer),
+            Draw(bits) if self.faulty(booking).is_empty() => !ready(*bits).contains(&self.dealer),
+            Riichi(_) | Draw(_) | Chombo(_) => false,
         }
     }
 

@@ -1,4 +1,4 @@
-//! The four bookings: refusals in their order, points, deal, wind and mark (01, The game), and the counter (02, S-5).
+//! The four bookings: refusals in their order, points, deal, wind and mark (01, The game), the counter (02, S-5) and seats that are not ready (02, S-7).
 
 use other_scorer::codec::pack;
 use other_scorer::game::{book, chombo, draw, riichi, win, FLOOR};
@@ -124,7 +124,7 @@ fn win_refuses_9_then_1_to_7_then_11() {
 }
 
 #[test]
-fn draw_refuses_8_9_12() {
+fn draw_refuses_8_9_and_never_12() {
     let declared = after(&[Booking::Riichi(1)]);
     for game in not_open().into_iter().chain([Game { over: true, ..declared }]) {
         assert_eq!(number(&game, Booking::Draw(16)), 8);
@@ -132,8 +132,7 @@ fn draw_refuses_8_9_12() {
         assert_eq!(number(&game, Booking::Draw(0)), 9);
     }
     for bits in 0..16 {
-        let ready = bits & 0b0100 != 0;
-        assert_eq!(number(&declared, Booking::Draw(bits)), if ready { 0 } else { 12 });
+        assert_eq!(number(&declared, Booking::Draw(bits)), 0);
     }
     assert_eq!(number(&declared, Booking::Draw(16)), 8);
 }
@@ -193,6 +192,31 @@ fn a_chombo_gives_back_only_this_hands_sticks() {
     assert_eq!(chombo(&mut game, 2), 0);
     assert_eq!((game.scores, game.sticks), ([32_000, 32_000, 20_000, 35_000], 1));
     assert_eq!((game.declared, game.dealer, game.hands), ([false; 4], 1, 2));
+}
+
+#[test]
+fn declared_seats_that_are_not_ready_pay_a_chombo_each() {
+    // Sticks of seat 3 from an earlier hand, a counter, and the deal of seat 1.
+    let start = after(&[Booking::Riichi(3), Booking::Draw(1)]);
+    assert_eq!((start.scores, start.sticks, start.dealer, start.counter), ([29_000, 29_000, 29_000, 32_000], 1, 1, 1));
+    for (declared, bits, scores) in [
+        (&[1][..], 0b0000, [32_000, 20_000, 32_000, 35_000]),
+        (&[1], 0b1011, [32_000, 20_000, 32_000, 35_000]),
+        (&[0, 1], 0b1000, [32_000, 20_000, 32_000, 35_000]),
+        (&[0, 1], 0b0010, [23_000, 23_000, 35_000, 38_000]),
+        (&[0, 1, 2], 0b0000, [26_000, 26_000, 26_000, 41_000]),
+        (&[0, 1, 2, 3], 0b0001, [26_000, 26_000, 26_000, 41_000]),
+        (&[0, 1, 2, 3], 0b0000, [29_000, 29_000, 29_000, 32_000]),
+    ] {
+        let mut game = start;
+        declared.iter().for_each(|&seat| assert_eq!(riichi(&mut game, seat), 0));
+        assert_eq!(draw(&mut game, bits), 0);
+        assert_eq!((game.scores, game.sticks, game.declared), (scores, 1, [false; 4]), "{declared:?} {bits:04b}");
+        assert_eq!((game.dealer, game.wind, game.hands, game.counter, game.over), (1, 0, 2, 1, false));
+    }
+    let mut last = Game { dealer: 3, wind: 1, hands: 199, counter: 5, ..Game::fresh() };
+    assert_eq!((riichi(&mut last, 0), draw(&mut last, 0)), (0, 0));
+    assert_eq!((last.scores, last.dealer, last.hands, last.counter, last.over), ([21_000, 33_000, 33_000, 33_000], 3, 200, 5, true));
 }
 
 #[test]

@@ -29,6 +29,7 @@ struct Reached {
     numbers: [usize; 13],
     by_deal: usize,
     by_hands: usize,
+    unready: [usize; 4],
 }
 
 /// Books a random list on a game and on a ledger, comparing after each booking.
@@ -51,6 +52,12 @@ fn compare(rng: &mut Rng, start: Game, length: usize, keep: bool, reached: &mut 
         }
         reached.bookings += 1;
         reached.numbers[number as usize] += 1;
+        if let (Booking::Draw(bits), 0) = (&booking, number) {
+            let unready = before.unready(*bits).len();
+            if unready > 0 {
+                reached.unready[unready - 1] += 1;
+            }
+        }
         if game.over && !before.over {
             let which = if game.hands == 200 { &mut reached.by_hands } else { &mut reached.by_deal };
             *which += 1;
@@ -73,7 +80,8 @@ fn fresh_games() {
         compare(&mut rng, Game::fresh(), length, keep, &mut reached);
     }
     let missing: Vec<usize> = (0..13).filter(|&n| reached.numbers[n] == 0).collect();
-    assert_eq!(missing, vec![0; 0], "refusals not reached");
+    assert_eq!(missing, [12], "refusals not reached");
+    assert!(reached.unready.iter().all(|&count| count > 0), "{:?}", reached.unready);
     assert!(reached.by_deal > 100 && reached.by_hands > 20);
 }
 
@@ -87,6 +95,7 @@ fn games_of_any_value() {
         let (length, keep) = (1 + rng.below(8), rng.percent(50));
         compare(&mut rng, start, length, keep, &mut reached);
     }
-    assert!(reached.numbers.iter().all(|&count| count > 20), "{:?}", reached.numbers);
+    assert!(reached.unready.iter().all(|&count| count > 10), "{:?}", reached.unready);
+    assert!((0..12).all(|n| reached.numbers[n] > 20) && reached.numbers[12] == 0, "{:?}", reached.numbers);
     assert!(reached.by_deal > 100 && reached.by_hands > 100);
 }

@@ -1,6 +1,7 @@
 // The game: riichi, draw and chombo by value. Any value of the struct may be given; no sum wraps.
 ghost use mathlib.Core.Path.{_≡_};
 ghost use mathlib.Core.Bool.{false, _&&_, not};
+ghost use lib.Dec.{eqb};
 ghost use lib.ListN.{getD};
 ghost use Rattle.tiles.specs.Below.{any, tabulate};
 ghost use Rattle.ledger.specs.Booking as Booking;
@@ -75,14 +76,34 @@ fn ready(bits: u8) -> [bool; 4]
     ]
 }
 
-// A declared seat is not ready.
-fn unready(d: [u8; 4], b: [bool; 4]) -> bool
-    ensures { λ r. ⌜ r ≡ any 4 (λ i. isSet (getD d i 0) && not (getD b i false)) ⌝ }
+// Which declared seats are not ready.
+fn at_fault(d: [u8; 4], b: [bool; 4]) -> [bool; 4]
+    ensures { λ r. ⌜ r ≡ tabulate 4 0 (λ i. isSet (getD d i 0) && not (getD b i false)) ⌝ }
 {
-    ((0 < d[0]) & !b[0]) | ((0 < d[1]) & !b[1]) | ((0 < d[2]) & !b[2]) | ((0 < d[3]) & !b[3])
+    [
+        (0 < d[0]) & !b[0],
+        (0 < d[1]) & !b[1],
+        (0 < d[2]) & !b[2],
+        (0 < d[3]) & !b[3],
+    ]
 }
 
-// Draw: bits set for ready, seat 0's first; the counter rises. Refused with 8, bits over 15; 9, a game that is not open; 12, a declared seat that is not ready.
+// One of four is true.
+fn any_true(f: [bool; 4]) -> bool
+    ensures { λ r. ⌜ r ≡ any 4 (λ i. getD f i false) ⌝ }
+{
+    f[0] | f[1] | f[2] | f[3]
+}
+
+// The seat alone.
+fn only(seat: u8) -> [bool; 4]
+    ensures { λ r. ⌜ r ≡ tabulate 4 0 (λ i. eqb i seat) ⌝ }
+{
+    [0 == seat, 1 == seat, 2 == seat, 3 == seat]
+}
+
+// Draw: bits set for ready, seat 0's first; the counter rises. Where a declared seat is not ready it is a chombo of each such seat.
+// Refused with 8, bits over 15; 9, a game that is not open.
 pub fn draw(g: Game, bits: u8) -> Outcome
     ensures { λ r. ⌜ Booked g (Booking.draw bits) (r .refusal) (r .game) ⌝ }
 {
@@ -100,10 +121,12 @@ pub fn draw(g: Game, bits: u8) -> Outcome
     }
     let d = g.declared;
     let b = ready(bits);
-    if unready(d, b) {
+    let f = at_fault(d, b);
+    if any_true(f) {
+        let k = moves::penalise(g, f);
         return Outcome {
-            refusal: 12,
-            game: g,
+            refusal: 0,
+            game: k,
         };
     }
     let i = g.dealer as usize;
@@ -130,15 +153,7 @@ pub fn chombo(g: Game, seat: u8) -> Outcome
             game: g,
         };
     }
-    let d = g.declared;
-    let b = form::set_marks(d);
-    let h = moves::finish(
-        g,
-        payments::penalties(seat, b),
-        g.sticks - form::count_true(b),
-        false,
-        g.counter,
-    );
+    let h = moves::penalise(g, only(seat));
     Outcome {
         refusal: 0,
         game: h,

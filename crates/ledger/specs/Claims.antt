@@ -1,19 +1,24 @@
 -- The theorems of the game: demand 3, for every list of bookings from a fresh game.
 use mathlib.Core.Path.{_≡_}
-use mathlib.Core.Bool.{Bool, true, false}
+use mathlib.Core.Bool.{Bool, true, false, cond}
 use mathlib.Core.List.{List}
 use Prim.Native.Nat.{ℕ, _*_, _≤_, _<_}
-use lib.IntN.{pos, _+ℤ_}
+use lib.Dec.{eqb}
+use lib.IntN.{pos, negℤ, _+ℤ_}
 use lib.Signed.{ltZ}
+use Rattle.tiles.specs.Below.{any}
 use Rattle.ledger.specs.declared.Game.{Game}
-use Rattle.ledger.specs.Booking.{Booking}
-use Rattle.ledger.specs.Ledger.{fresh, scoreAt, floor, outOfForm, repeatGives, ledgerFrom, ledger}
+use Rattle.ledger.specs.Booking.{Booking, draw}
+use Rattle.ledger.specs.Ledger.{fresh, scoreAt, declarations, floor, outOfForm, refusalFor, repeatGives, fineOf, chomboGives, chomboOf, isAtFault, after, ledgerFrom, ledger}
 use Rattle.ledger.specs.Runs.{Runs, Every}
 pub use Rattle.ledger.specs.Runs.{refusalsFrom}
 pub use Rattle.ledger.specs.Demand3.{BestWithCounters, OfWin, Demand3}
+pub use Rattle.ledger.specs.NotReady.{BookedAsChombo}
 use Rattle.ledger.specs.laws.Demand3 as laws
 use Rattle.ledger.specs.laws.Lists as lists
 use Rattle.ledger.specs.laws.Repeat as repeat
+use Rattle.ledger.specs.laws.Fines as fines
+use Rattle.ledger.specs.laws.NotReady as not-ready
 
 -- demand 3
 pub demand-3 : (bs : List Booking) (ns : List ℕ) (g : Game) → Runs fresh bs ns g → Demand3 bs ns g
@@ -46,3 +51,28 @@ counters-keep-best = laws.counters-keep-best
 -- "The counter never exceeds the hands finished"
 pub counter-within-hands : (bs : List Booking) → ledger bs .counter ≤ ledger bs .hands
 counter-within-hands = laws.counter-within-hands
+
+-- ---- declared, yet not ready (02, S-7)
+
+-- "12 is never given now"
+pub never-12 : (l : Game) (b : Booking) → refusalFor l b ≡ 12 → ⊥
+never-12 = not-ready.never-12
+
+-- "Book it so": a draw in which a declared seat is not ready, in a game where no refusal meets it
+pub not-ready-is-chombo : (l : Game) (bits : ℕ) → refusalFor l (draw bits) ≡ 0 → any 4 (isAtFault l bits) ≡ true → BookedAsChombo l bits (after l (draw bits))
+not-ready-is-chombo = not-ready.booked-as-chombo
+
+-- "sums over a game take this payment in": the four fines sum to 0, and with the sticks that return the four gifts leave the total
+pub fines-sum-zero : (at : ℕ → Bool) → fineOf at 0 +ℤ fineOf at 1 +ℤ fineOf at 2 +ℤ fineOf at 3 ≡ pos 0
+fines-sum-zero = fines.fines-zero
+
+pub sticks-return : (l : Game) (at : ℕ → Bool) → declarations l ≤ l .sticks →
+    chomboGives l at 0 +ℤ chomboGives l at 1 +ℤ chomboGives l at 2 +ℤ chomboGives l at 3 +ℤ pos (1000 * chomboOf l at .sticks) ≡ pos (1000 * l .sticks)
+sticks-return = not-ready.with-sticks
+
+-- of one seat they are what "A chombo costs the seat 9,000 and gives each other seat 3,000" says (01, Ledger); of four nothing moves
+pub chombo-of-one : (seat : ℕ) → seat < 4 → (i : ℕ) → i < 4 → fineOf (λ j. eqb j seat) i ≡ cond (eqb i seat) (negℤ (pos 9000)) (pos 3000)
+chombo-of-one = fines.of-one
+
+pub chombo-of-four : (i : ℕ) → i < 4 → fineOf (λ j. true) i ≡ pos 0
+chombo-of-four = fines.of-four

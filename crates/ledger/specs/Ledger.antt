@@ -1,4 +1,4 @@
--- The ledger (01, The game and its paragraph "Ledger"; 02, S-5): kept from the bookings' arguments alone, with the game's fields.
+-- The ledger (01, The game and its paragraph "Ledger"; 02, S-5 and S-7): kept from the bookings' arguments alone, with the game's fields.
 -- The game's numbers; its fields; refusals; what an accepted booking does, as one structure; the fields after it; the ledger of a list.
 use mathlib.Core.Bool.{Bool, true, false, _&&_, _||_, not, cond}
 use mathlib.Core.List.{List, [], _∷_}
@@ -115,14 +115,14 @@ riichiMismatch l h = cond (ltb 0 (h .fields .riichi)) (not (isDeclared l (h .fie
 abbrev pub isReady : ℕ → ℕ → Bool
 isReady bits i = eqb (bits / 2 ^ (3 - i) % 2) 1
 
--- "Where refusals meet a booking by the ledger's fields, the first listed is its number"; 0 where none does
+-- "Where refusals meet a booking by the ledger's fields, the first listed is its number"; 0 where none does. Of a draw "12 is never given now" (02, S-7)
 unfoldable pub refusalFor : Game → Booking → ℕ
 refusalFor l (riichi seat) = cond (ltb 3 seat) 8 (cond (notOpen l) 9 (cond (isDeclared l seat) 10 0))
 refusalFor l (win s) =
     cond (notOpen l) 9
     (cond (ltb 0 (scoredFor l s .refusal)) (scoredFor l s .refusal)
     (cond (riichiMismatch l (handFor s)) 11 0))
-refusalFor l (draw bits) = cond (ltb 15 bits) 8 (cond (notOpen l) 9 (cond (any 4 (λ i. isDeclared l i && not (isReady bits i))) 12 0))
+refusalFor l (draw bits) = cond (ltb 15 bits) 8 (cond (notOpen l) 9 0)
 refusalFor l (chombo seat) = cond (ltb 3 seat) 8 (cond (notOpen l) 9 0)
 
 -- ---- what an accepted booking does
@@ -177,26 +177,40 @@ shareOf r ready = cond (eqb r 0 || eqb r 4) (pos 0) (cond ready (pos (3000 / r))
 unfoldable pub drawGives : ℕ → ℕ → ℤ
 drawGives bits i = shareOf (readySeats bits) (isReady bits i)
 
--- "A chombo costs the seat 9,000 and gives each other seat 3,000"
-abbrev pub fineOf : ℕ → ℕ → ℤ
-fineOf seat i = cond (eqb i seat) (negℤ (pos 9000)) (pos 3000)
+-- "each such seat pays 3,000 to every other seat" (02, S-7): what seat i pays seat j, the seats `at` being at fault
+abbrev pub finePaid : (ℕ → Bool) → ℕ → ℕ → ℕ
+finePaid at i j = cond (not (eqb i j) && at i) 3000 0
+
+-- what seat i gets of the others less what it pays them, "two such seats paying each other" (02, S-7)
+unfoldable pub fineOf : (ℕ → Bool) → ℕ → ℤ
+fineOf at i = pos (sum 4 (λ j. finePaid at j i)) +ℤ negℤ (pos (sum 4 (finePaid at i)))
 
 -- "each declared seat gets 1,000 back"
 abbrev pub backTo : Game → ℕ → ℤ
 backTo l i = cond (isDeclared l i) (pos 1000) (pos 0)
 
--- what a chombo gives seat i
-unfoldable pub chomboGives : Game → ℕ → ℕ → ℤ
-chomboGives l seat i = fineOf seat i +ℤ backTo l i
+-- what a chombo of the seats `at` gives seat i; of one seat it "costs the seat 9,000 and gives each other seat 3,000", as `chombo-of-one` of Claims says
+unfoldable pub chomboGives : Game → (ℕ → Bool) → ℕ → ℤ
+chomboGives l at i = fineOf at i +ℤ backTo l i
 
--- riichi "adds a stick and declares the seat"; a win "leaving none"; of a chombo "a stick less for each" declared seat;
+-- of a chombo "a stick less for each" declared seat; "the deal and counter stay, and the hand is finished" (02, S-7)
+abbrev pub chomboOf : Game → (ℕ → Bool) → Effect
+chomboOf l at = finishing (chomboGives l at) (l .sticks - declarations l) false (l .counter)
+
+-- seat i is "Declared, yet not ready" (02, S-7)
+abbrev pub isAtFault : Game → ℕ → ℕ → Bool
+isAtFault l bits i = isDeclared l i && not (isReady bits i)
+
+-- riichi "adds a stick and declares the seat"; a win "leaving none"; "A draw in which a declared seat isn't ready" is "a chombo" of "each such seat" (02, S-7);
 -- "The deal passes on a child's win or a draw with the dealer not ready";
 -- the counter "rises by one at each dealer's win and each draw, returns to 0 at a child's win, and isn't touched by a chombo" (02, S-5)
 unfoldable pub effectOf : Game → Booking → Effect
 effectOf l (riichi seat) = record { gives = riichiGives seat; sticks = l .sticks + 1; declared = λ i. eqb i seat || isDeclared l i; finishes = false; passes = false; counter = l .counter }
 effectOf l (win s) = finishing (winGives l s) 0 (not (isDealersWin l s)) (cond (isDealersWin l s) (l .counter + 1) 0)
-effectOf l (draw bits) = finishing (drawGives bits) (l .sticks) (not (isReady bits (l .dealer))) (l .counter + 1)
-effectOf l (chombo seat) = finishing (chomboGives l seat) (l .sticks - declarations l) false (l .counter)
+effectOf l (draw bits) =
+    cond (any 4 (isAtFault l bits)) (chomboOf l (isAtFault l bits))
+    (finishing (drawGives bits) (l .sticks) (not (isReady bits (l .dealer))) (l .counter + 1))
+effectOf l (chombo seat) = chomboOf l (λ i. eqb i seat)
 
 -- ---- the fields after it
 

@@ -5,9 +5,11 @@ pub mod Effect
 pub mod Accepted
 pub mod Refusals
 pub mod Repeat
+pub mod Fines
 pub mod Fair
 pub mod Kept
 pub mod Lists
+pub mod NotReady
 pub mod Tiles
 pub mod Demand3
 pub mod Examples

@@ -1,16 +1,18 @@
-// How an accepted booking moves the game (01, The game; 02, S-5): a hand is finished, or a seat puts its stick. The game is open, so that no sum wraps.
+// How an accepted booking moves the game (01, The game; 02, S-5 and S-7): a hand is finished, by a chombo too, or a seat puts its stick. The game is open, so that no sum wraps.
 ghost use mathlib.Core.Path.{_≡_};
-ghost use mathlib.Core.Bool.{_||_};
+ghost use mathlib.Core.Bool.{false, _||_};
 ghost use Prim.Native.Nat.{_≤_};
 ghost use lib.Dec.{eqb};
 ghost use lib.ListN.{getD};
 ghost use Rattle.tiles.specs.Below.{tabulate};
 ghost use Rattle.ledger.specs.Booking as Booking;
-ghost use Rattle.ledger.specs.Ledger.{isSet, mark, isLast, dealerAfter, windAfter, effectOf, applied};
+ghost use Rattle.ledger.specs.Ledger.{isSet, mark, isLast, dealerAfter, windAfter, chomboOf, effectOf, applied};
 ghost use Rattle.ledger.specs.laws.Form.{Open};
 ghost use Rattle.ledger.specs.laws.Sums.{Small, paid};
 ghost use Rattle.moves.specs.laws.Steps.{finished};
+use form::count_true;
 use form::mark;
+use form::set_marks;
 use ledger::Game;
 use ledger::LAST_HAND;
 
@@ -71,6 +73,17 @@ pub fn finish(g: Game, by: [i32; 4], sticks: u32, passes: bool, counter: u32) ->
         over: mark((passes & is_last(g)) | (hands == LAST_HAND)),
         counter,
     }
+}
+
+// The hand is finished by a chombo of the seats f: they pay, this hand's sticks go back, and the deal and the counter stay.
+pub fn penalise(g: Game, f: [bool; 4]) -> Game
+    requires { ⌜ Open g ⌝ }
+    ensures { λ r. ⌜ r ≡ applied g (chomboOf g (λ i. getD f i false)) ⌝ }
+{
+    let d = g.declared;
+    let b = set_marks(d);
+    let by = payments::penalties(f, b);
+    finish(g, by, g.sticks - count_true(b), false, g.counter)
 }
 
 // The marks with that of the seat set.

@@ -1,4 +1,4 @@
-// What a riichi, a draw, a chombo and a win give each of the four seats, or take (01, Ledger; 02, S-5). No sum wraps.
+// What a riichi, a draw, a chombo and a win give each of the four seats, or take (01, Ledger; 02, S-5 and S-7). No sum wraps.
 ghost use mathlib.Core.Path.{_≡_};
 ghost use mathlib.Core.Bool.{false, cond};
 ghost use Prim.Native.Nat.{_*_, _≤_};
@@ -11,6 +11,7 @@ ghost use Rattle.hand.specs.Refusals.{wrongDiscarder};
 ghost use Rattle.score.specs.laws.Z.{Within};
 ghost use Rattle.ledger.specs.Ledger.{lastHand, shareOf, fineOf, repeatGives};
 ghost use Rattle.ledger.specs.laws.Bounds.{amount, mostChange, mostSticks};
+ghost use Rattle.ledger.specs.laws.Fines.{finedBy};
 ghost use Rattle.ledger.specs.laws.Sums.{Small, Changes};
 use form::count_true;
 use hand::Fields;
@@ -61,28 +62,43 @@ pub fn shares(b: [bool; 4]) -> [i32; 4]
     ]
 }
 
-// What a chombo gives a seat that pays, or does not, and has declared, or has not.
-fn penalty(pays: bool, declared: bool) -> i32
-    ensures { λ r. ⌜ (r ≡ cond pays (negℤ (pos 9000)) (pos 3000) +ℤ cond declared (pos 1000) (pos 0)) × Within r amount ⌝ }
+// What a chombo of n seats gives a seat that is one of them, or is not.
+fn fine(n: u32, pays: bool) -> i32
+    requires { ⌜ n ≤ 4 ⌝ }
+    ensures { λ r. ⌜ (r ≡ finedBy n pays) × Within r mostChange ⌝ }
 {
     if pays {
-        if declared { -8000 } else { -9000 }
-    } else if declared {
-        4000
+        -((3000 * (4 - n)) as i32)
     } else {
-        3000
+        (3000 * n) as i32
     }
 }
 
-// What a chombo of a seat gives each seat, by which have declared.
-pub fn penalties(seat: u8, d: [bool; 4]) -> [i32; 4]
-    ensures { λ r. ⌜ (r ≡ tabulate 4 0 (λ i. fineOf seat i +ℤ cond (getD d i false) (pos 1000) (pos 0))) × Small r ⌝ }
+// What a chombo gives back to a seat that has declared, or has not.
+fn back(declared: bool) -> i32
+    ensures { λ r. ⌜ (r ≡ cond declared (pos 1000) (pos 0)) × Within r mostChange ⌝ }
 {
+    if declared { 1000 } else { 0 }
+}
+
+// What a chombo gives a seat: its fine, or its part of the others', and its stick.
+fn penalty(n: u32, pays: bool, declared: bool) -> i32
+    requires { ⌜ n ≤ 4 ⌝ }
+    ensures { λ r. ⌜ (r ≡ finedBy n pays +ℤ cond declared (pos 1000) (pos 0)) × Within r amount ⌝ }
+{
+    fine(n, pays) + back(declared)
+}
+
+// What a chombo of the seats f gives each seat, by which have declared.
+pub fn penalties(f: [bool; 4], d: [bool; 4]) -> [i32; 4]
+    ensures { λ r. ⌜ (r ≡ tabulate 4 0 (λ i. fineOf (λ j. getD f j false) i +ℤ cond (getD d i false) (pos 1000) (pos 0))) × Small r ⌝ }
+{
+    let n = count_true(f);
     [
-        penalty(0 == seat, d[0]),
-        penalty(1 == seat, d[1]),
-        penalty(2 == seat, d[2]),
-        penalty(3 == seat, d[3]),
+        penalty(n, f[0], d[0]),
+        penalty(n, f[1], d[1]),
+        penalty(n, f[2], d[2]),
+        penalty(n, f[3], d[3]),
     ]
 }
 

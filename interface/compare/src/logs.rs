@@ -29,20 +29,22 @@ fn section(booking: &Booking) -> &'static str {
     }
 }
 
-/// Counts a booking by its refusal, and a win that was paid by whether there were counters.
-fn note(report: &mut Report, counter: u32, booking: &Booking, refusal: u8) {
+/// Counts a booking by its refusal, a win that was paid by whether there were counters, and an accepted draw by its seats at fault.
+fn note(report: &mut Report, before: &Game, booking: &Booking, refusal: u8) {
     report.count(section(booking), refusal);
-    if let (Booking::Win(_), 0) = (booking, refusal) {
-        report.count("wins paid (1 with counters)", counter > 0);
+    match (booking, refusal) {
+        (Booking::Win(_), 0) => report.count("wins paid (1 with counters)", before.counter > 0),
+        (Booking::Draw(bits), 0) => report.count("draws by seats declared, not ready", before.unready(*bits).len() as u8),
+        _ => {}
     }
 }
 
 /// Books the entry that bytes begin with in the games kept three ways, counts and gives the refusal.
 fn book_entry(report: &mut Report, games: &mut Games, bytes: &[u8], input: &dyn Fn() -> String) -> u8 {
-    let counter = games.other.counter;
+    let before = games.other;
     let (refusal, booking) = games.book_entry(&mut report.differences, bytes, input);
     match booking {
-        Some(booking) => note(report, counter, &booking, refusal),
+        Some(booking) => note(report, &before, &booking, refusal),
         None => report.count("no entry to book", refusal),
     }
     refusal
@@ -208,9 +210,9 @@ fn compare_chain(report: &mut Report, rng: &mut Rng) {
         let keep = rng.percent(50);
         let booking = chance::booking(rng, &games.other, keep);
         if rng.percent(50) {
-            let counter = games.other.counter;
+            let before = games.other;
             let refusal = games.book(&mut report.differences, &booking, &String::new);
-            note(report, counter, &booking, refusal);
+            note(report, &before, &booking, refusal);
         } else {
             let mut bytes = booking.bytes();
             if rng.percent(20) {

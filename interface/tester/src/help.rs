@@ -154,10 +154,10 @@ tester tally FILE|-|HEX [--words] [--bytes] [--plain]
 The game of a log, text or bytes as for `tester log`: a line for each entry with the deal it was made in (E1 to S4),
 its refusal (0 accepted), the scores, sticks and counter after it. Bytes past 65,536 are not read.
 
-  --words    why an entry was refused, below it
+  --words    why an entry was refused, or whose chombo a draw was, below it
   --bytes    FILE holds the bytes of a log, even if they look like text
 
-For scripts: the lines of the program tally; with --words the refusal in words at the end of its line.
+For scripts: the lines of the program tally; with --words the refusal, or whose chombo a draw was, at the end of its line.
 ";
 
 pub const DAMAGE: &str = "\

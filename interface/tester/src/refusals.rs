@@ -1,7 +1,6 @@
 //! Each refusal in words, and which of its conditions was met, worked out by the other scorer.
 
 use other_scorer::codec::{length, length_fault, meld_count, unpack, LENGTH_FAULTS};
-use other_scorer::game::is_ready;
 use other_scorer::log::{size, ENTRY_FAULTS};
 use other_scorer::notation::text;
 use other_scorer::score::valued;
@@ -28,7 +27,7 @@ pub fn refusal(number: u8) -> &'static str {
         9 => "the game is not open",
         10 => "declared already this hand",
         11 => "the riichi field and the declaration differ",
-        12 => "a declared seat is not ready",
+        12 => "never given: a declared seat is not ready",
         13 => "the buffer is shorter than the record",
         14 => "the log's entry is bad or cut",
         15 => "a discard is no kind",
@@ -115,15 +114,11 @@ pub fn of_unfinished(refusal: u8, bytes: &[u8], discards: &[u8]) -> Vec<String> 
 
 /// The conditions met by the refusal of a booking in a game (01, The game).
 pub fn of_booking(refusal: u8, booking: &Booking, game: &Game) -> Vec<String> {
-    let seats = |test: &dyn Fn(usize) -> bool| -> Vec<String> {
-        (0..4).filter(|&seat| test(seat)).map(|seat| format!("seat {seat}")).collect()
-    };
     match (refusal, booking) {
         (9, _) if game.hands == 200 => vec!["200 hands are finished".into()],
         (9, _) => vec!["it is over".into()],
         (8, Booking::Riichi(seat) | Booking::Chombo(seat)) => vec![format!("seat {seat} over 3")],
         (10, Booking::Riichi(seat)) => vec![format!("seat {seat}")],
-        (12, Booking::Draw(bits)) => seats(&|seat| game.declared[seat] && !is_ready(*bits, seat)),
         (11, Booking::Win(record)) => unpack(record).map_or(Vec::new(), |(hand, _)| match hand.riichi {
             0 => vec![format!("seat {} has declared, the record has no riichi", hand.winner)],
             _ => vec![format!("the record has riichi, seat {} has not declared", hand.winner)],
@@ -131,6 +126,13 @@ pub fn of_booking(refusal: u8, booking: &Booking, game: &Game) -> Vec<String> {
         (_, Booking::Win(record)) => of_record(refusal, record, game.dealer, game.wind),
         _ => Vec::new(),
     }
+}
+
+/// What an accepted draw was where a declared seat was not ready: a chombo of these seats (02, S-7).
+pub fn of_draw(booking: &Booking, game: &Game) -> Option<String> {
+    let Booking::Draw(bits) = booking else { return None };
+    let seats: Vec<String> = game.unready(*bits).iter().map(|seat| format!("seat {seat}")).collect();
+    (!seats.is_empty()).then(|| format!("a chombo, declared and not ready: {}", seats.join("; ")))
 }
 
 /// The condition met by refusal 14 at the start of a stretch of a log (01, Next entry).

@@ -8,12 +8,12 @@ use crate::input;
 use crate::log::entries;
 use crate::names::{count, points, wind};
 use crate::page::{table, Page};
-use crate::refusals::{of_booking, of_entry, sentence};
+use crate::refusals::{of_booking, of_draw, of_entry, sentence};
 use crate::text;
 use crate::walk::{whole, Step, Walk};
 use crate::words::{Bad, Words};
 
-/// The game of a log, entry by entry; with --words also why an entry is refused.
+/// The game of a log, entry by entry; with --words also why an entry is refused, or that a draw was a chombo.
 pub fn run(core: &mut Core, mut words: Words) -> Result<String, Bad> {
     let (plain, raw, why) = (words.take_flag("--plain"), words.take_flag("--bytes"), words.take_flag("--words"));
     let log = input::log(core, &words, raw)?.bytes;
@@ -29,8 +29,8 @@ pub fn run(core: &mut Core, mut words: Words) -> Result<String, Bad> {
     page.line(&rows[0]);
     for (step, row) in walk.steps.iter().zip(&rows[1..]) {
         page.line(row);
-        if why && step.refusal != 0 {
-            page.line(format!("      {}", reason(step)));
+        if let Some(remark) = remark(step).filter(|_| why) {
+            page.line(format!("      {remark}"));
         }
     }
     page.line("");
@@ -46,16 +46,20 @@ pub fn run(core: &mut Core, mut words: Words) -> Result<String, Bad> {
     Ok(page.finish())
 }
 
-/// Why an entry was refused.
-fn reason(step: &Step) -> String {
-    sentence(step.refusal, &of_booking(step.refusal, &step.booking, &step.before.other))
+/// Why an entry was refused, or what an accepted draw was besides one.
+fn remark(step: &Step) -> Option<String> {
+    let before = &step.before.other;
+    match step.refusal {
+        0 => of_draw(&step.booking, before),
+        refusal => Some(sentence(refusal, &of_booking(refusal, &step.booking, before))),
+    }
 }
 
-/// A line of tally with the refusal in words behind it.
+/// A line of tally with its remark behind it.
 fn worded(line: &str, step: &Step) -> String {
-    match step.refusal {
-        0 => line.into(),
-        _ => format!("{} {}\n", line.trim_end(), reason(step)),
+    match remark(step) {
+        None => line.into(),
+        Some(remark) => format!("{} {remark}\n", line.trim_end()),
     }
 }
 

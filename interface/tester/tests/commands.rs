@@ -404,14 +404,13 @@ fn the_worked_logs() {
 
 #[test]
 fn refusals_of_bookings_say_which_condition_was_met() {
-    let text = "riichi 1\nriichi 1\ndraw 0\nwin 234567m345p67s22s+8s seat=1 ron=3\n\
+    let text = "riichi 1\nriichi 1\nwin 234567m345p67s22s+8s seat=1 ron=3\n\
         WIN 234567m345p67s22s+8s seat=2 ron=3 double # no riichi of seat 2\nwin b822640210620a31661a9a6bb0\nchombo 9\n";
     let ran = run_in(Path::new("."), "tally - --plain --words", text.as_bytes());
     let words: Vec<&str> = ran.out.lines().map(|line| line.splitn(9, ' ').nth(8).unwrap_or("")).collect();
     let wanted = [
         "",
         "refusal 10, declared already this hand: seat 1",
-        "refusal 12, a declared seat is not ready: seat 1",
         "refusal 11, the riichi field and the declaration differ: seat 1 has declared, the record has no riichi",
         "refusal 11, the riichi field and the declaration differ: the record has riichi, seat 2 has not declared",
         "refusal 2, a field is out of range: indicator over 33",
@@ -422,6 +421,20 @@ fn refusals_of_bookings_say_which_condition_was_met() {
         let ran = run_in(Path::new("."), "tally - --plain --words", format!("{deals}riichi 0\n").as_bytes());
         assert!(ran.out.ends_with(&format!(" refusal 9, the game is not open: {why}\n")), "{}", ran.out);
     }
+}
+
+#[test]
+fn a_draw_with_a_declared_seat_that_is_not_ready_is_a_chombo() {
+    let log = "01 03 29 00 01 02 03 20 01 24";
+    let lines = "1 R 0 30000 29000 30000 30000 1\n2 R 0 30000 29000 30000 29000 2\n\
+        3 D 0 33000 21000 33000 33000 0 a chombo, declared and not ready: seat 1\n\
+        4 R 0 32000 21000 33000 33000 1\n5 R 0 32000 20000 33000 33000 2\n6 R 0 32000 20000 32000 33000 3\n7 R 0 32000 20000 32000 32000 4\n\
+        8 D 0 33000 21000 33000 33000 0 a chombo, declared and not ready: seat 0; seat 1; seat 2; seat 3\n\
+        9 R 0 33000 20000 33000 33000 1\n10 D 0 32000 23000 32000 32000 1\n";
+    assert_eq!(answer(&format!("tally {log} --plain --words")), lines);
+    let out = answer(&format!("tally {log} --words"));
+    assert!(out.contains("\n      a chombo, declared and not ready: seat 1\n"), "{out}");
+    assert!(out.contains("10 entries, 0 refused; 3 hands finished; E2 is on\n"), "{out}");
 }
 
 #[test]

@@ -27,6 +27,7 @@ fn scenes(rng: &mut Rng) -> Vec<Scene> {
     all.extend([(1, 4), (5, 5), (6, 7), (8, 10), (11, 99)].map(|(low, high)| Scene::Han(low, high)));
     all.extend((2..=7).map(Scene::Refused));
     all.extend((1..=4).map(Scene::Draw));
+    all.extend((1..=4).map(Scene::Unready));
     all.extend((0..=4).flat_map(|n| [Scene::Chombo(n, true), Scene::Chombo(n, false)]));
     all.extend([Scene::Carried, Scene::Seat, Scene::Again]);
     all.extend([Scene::Undeclared, Scene::Silent, Scene::NoYaku]);

@@ -25,7 +25,9 @@ pub enum Scene {
     Draw(u8),
     /// A chombo with so many declared, by a declared seat if there is one, or by another.
     Chombo(u8, bool),
-    /// Sticks carried over two draws and a chombo to a win.
+    /// A draw in which so many declared seats are not ready: a chombo of each (02, S-7).
+    Unready(u8),
+    /// Sticks carried over two draws, a draw with a seat that is not ready and a chombo to a win.
     Carried,
     /// Riichi and chombo with an argument over 3 (refusal 8).
     Seat,
@@ -60,6 +62,7 @@ impl Scene {
             Scene::Refused(number) => refused(script, number),
             Scene::Draw(count) => draw(script, count as usize),
             Scene::Chombo(count, own) => chombo(script, count as usize, own),
+            Scene::Unready(count) => unready(script, count as usize),
             Scene::Carried => carried(script),
             Scene::Seat => {
                 let over = script.rng.within(4, 15);
@@ -109,20 +112,27 @@ fn refused(script: &mut Script, number: u8) {
     }
 }
 
-/// A draw with so many ready, the dealer among them, some of them declared; refused first with 12.
+/// A draw with so many ready, the dealer among them, some of them declared.
 fn draw(script: &mut Script, count: usize) {
     let seats = script.seats(&[script.game.dealer]);
-    let (ready, rest) = seats.split_at(count);
-    let declared: Vec<u8> = ready.iter().copied().filter(|_| script.rng.percent(50)).collect();
-    for &seat in &declared {
+    for &seat in &seats[..count] {
+        if script.rng.percent(50) {
+            script.add(Riichi(seat));
+        }
+    }
+    script.draw(&seats[..count]);
+}
+
+/// A draw in which so many declared seats are not ready; of the others each has declared, is ready, or both (02, S-7).
+fn unready(script: &mut Script, count: usize) {
+    let seats = script.seats(&[]);
+    let (faulty, rest) = seats.split_at(count);
+    let declared: Vec<u8> = rest.iter().copied().filter(|_| script.rng.percent(50)).collect();
+    for &seat in faulty.iter().chain(&declared) {
         script.add(Riichi(seat));
     }
-    if let Some(first) = declared.first() {
-        let others: Vec<u8> = seats.iter().copied().filter(|seat| seat != first).collect();
-        script.draw(&others);
-        script.draw(rest);
-    }
-    script.draw(ready);
+    let ready: Vec<u8> = rest.iter().copied().filter(|seat| declared.contains(seat) || script.rng.percent(50)).collect();
+    script.draw(&ready);
 }
 
 /// A chombo with so many declared, by one of them or by another seat.
@@ -134,13 +144,16 @@ fn chombo(script: &mut Script, count: usize, own: bool) {
     script.add(Chombo(if own { seats[0] } else { seats[3] }));
 }
 
-/// Sticks carried over two draws and a chombo, to a win of the dealer.
+/// Sticks carried over two draws, a draw with a declared seat that is not ready and a chombo, to a win of the dealer.
 fn carried(script: &mut Script) {
     let seats = script.seats(&[script.game.dealer]);
     for ready in [2, 3] {
         script.add(Riichi(seats[1]));
         script.draw(&seats[..ready]);
     }
+    script.add(Riichi(seats[1]));
+    script.add(Riichi(seats[2]));
+    script.draw(&seats[..2]);
     script.add(Riichi(seats[0]));
     script.add(Riichi(seats[2]));
     script.add(Chombo(seats[3]));
@@ -148,7 +161,8 @@ fn carried(script: &mut Script) {
     script.win(seats[0], any);
 }
 
-/// The scene that passes the deal for the time after this many (01, The game).
+/// The scene that passes the deal for the time after this many (01, The game); the first and the third go on with wins of a deal
+/// with no counter, by ron and by tsumo, and a draw with no stick, so that each log has them.
 pub fn pass(script: &mut Script, deal: usize) {
     let dealer = script.game.dealer;
     let child = script.child();
@@ -157,11 +171,17 @@ pub fn pass(script: &mut Script, deal: usize) {
         0 => {
             script.add(Riichi(dealer));
             script.win(child, |hand, _| hand.how == RON);
+            script.win(script.game.dealer, |hand, _| hand.how == RON);
         }
         1 => {
             script.draw(&[]);
         }
-        2 => script.win(child, |hand, _| hand.how == TSUMO),
+        2 => {
+            script.win(child, |hand, _| hand.how == TSUMO);
+            let dealer = script.game.dealer;
+            script.win(dealer, |hand, _| hand.how == TSUMO);
+            script.draw(&[dealer]);
+        }
         3 => {
             script.add(Riichi(others[0]));
             script.draw(&others[..2]);

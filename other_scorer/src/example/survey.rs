@@ -15,7 +15,7 @@ fn expected() -> Cover {
     let mut cover = Cover::default();
     cover.expect("accepted", &["R", "W", "D", "C"]);
     cover.expect("refused", &["R", "W", "D", "C"]);
-    cover.expect("refusal", &["2", "3", "4", "5", "6", "7", "8", "9", "10", "11", "12", "14"]);
+    cover.expect("refusal", &["2", "3", "4", "5", "6", "7", "8", "9", "10", "11", "14"]);
     cover.expect("refused after the end", &["R 8", "R 9", "W 9", "D 9", "C 8", "C 9"]);
     cover.expect("refusal 11", &["field without riichi", "riichi without field"]);
     cover.expect("win", &["tsumo dealer", "tsumo child", "ron dealer", "ron child"]);
@@ -29,6 +29,8 @@ fn expected() -> Cover {
     cover.expect_numbers("win yaku", 1, 36);
     cover.expect_numbers("draw ready", 0, 4);
     cover.expect("draw with sticks", &["none", "this hand's", "older"]);
+    cover.expect_numbers("draw declared, not ready", 1, 4);
+    cover.expect("such a draw", &["dealer at fault", "dealer not at fault", "a declared seat ready", "a ready seat not declared", "older sticks", "counters"]);
     cover.expect_numbers("chombo declared", 0, 4);
     cover.expect("chombo by", &["dealer", "child", "declared seat", "other seat"]);
     cover.expect("chombo with older sticks", &["yes"]);
@@ -78,8 +80,20 @@ fn note_win(cover: &mut Cover, before: &Game, record: &[u8]) {
     }
 }
 
-/// Counts an accepted draw.
+/// Counts an accepted draw, one in which a declared seat is not ready by itself (02, S-7).
 fn note_draw(cover: &mut Cover, before: &Game, bits: u8) {
+    let unready = before.unready(bits);
+    if !unready.is_empty() {
+        let ready = |declared: bool| (0..4).any(|seat| is_ready(bits, seat) && before.declared[seat] == declared);
+        cover.add("draw declared, not ready", unready.len());
+        let dealer = unready.contains(&(before.dealer as usize));
+        cover.add("such a draw", if dealer { "dealer at fault" } else { "dealer not at fault" });
+        cover.add_if(ready(true), "such a draw", "a declared seat ready");
+        cover.add_if(ready(false), "such a draw", "a ready seat not declared");
+        cover.add_if(sticks(before) == "older", "such a draw", "older sticks");
+        cover.add_if(before.counter > 0, "such a draw", "counters");
+        return;
+    }
     cover.add("draw ready", (0..4).filter(|&seat| is_ready(bits, seat)).count());
     cover.add("draw with sticks", sticks(before));
 }

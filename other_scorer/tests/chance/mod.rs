@@ -64,6 +64,7 @@ pub fn booking(rng: &mut Rng, game: &Game, keep: bool) -> Booking {
             let bits = match rng.below(10) {
                 0 => rng.next() as u8,
                 1..=2 => rng.within(0, 15),
+                3 => return Booking::Draw(rng.within(0, 15) & !declared),
                 _ => rng.within(0, 15) | declared,
             };
             Booking::Draw(if keep { bits | 8 >> dealer } else { bits })

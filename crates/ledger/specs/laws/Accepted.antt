@@ -1,18 +1,17 @@
 -- What a booking that no refusal meets has.
 use mathlib.Core.Path.{_≡_, refl, sym, ap, _∙_}
-use mathlib.Core.Bool.{Bool, true, false, not, _&&_, cond}
+use mathlib.Core.Bool.{Bool, true, false, cond}
 use mathlib.Core.List.{List}
 use Prim.Native.Nat.{ℕ, zero, suc, _≤_}
 use native.Mathlib.Omega.{arith}
 use borrow.Author.Tests.{ltb-false, ltb-true}
 use lib.Dec.{ltb}
-use Rattle.tiles.specs.Below.{any}
 use Rattle.hand_record.specs.Record.{refusalIn, readOf}
 use Rattle.score.specs.declared.Scored.{Scored}
 use Rattle.score.specs.laws.Settled.{score-unread}
 use Rattle.ledger.specs.declared.Game.{Game}
 use Rattle.ledger.specs.Booking.{riichi, win, draw, chombo}
-use Rattle.ledger.specs.Ledger.{isDeclared, isReady, notOpen, handFor, scoredFor, riichiMismatch, refusalFor}
+use Rattle.ledger.specs.Ledger.{isDeclared, notOpen, handFor, scoredFor, riichiMismatch, refusalFor}
 use Rattle.ledger.specs.laws.Form.{open-of}
 
 cond-zero : (b : Bool) (n m : ℕ) → cond b (suc n) m ≡ 0 → (b ≡ false) × (m ≡ 0)
@@ -42,9 +41,7 @@ module _ (g : Game) where
 
   pub draw-accepted : (bits : ℕ) → refusalFor g (draw bits) ≡ 0 → notOpen g ≡ false
   unfolding refusalFor
-  draw-accepted bits e =
-      let x : Bool = any 4 (λ i. isDeclared g i && not (isReady bits i)) in
-      cond-zero (notOpen g) 8 (cond x 12 0) (cond-zero (ltb 15 bits) 7 (cond (notOpen g) 9 (cond x 12 0)) e .1) .0
+  draw-accepted bits e = cond-zero (notOpen g) 8 0 (cond-zero (ltb 15 bits) 7 (cond (notOpen g) 9 0) e .1) .0
 
   -- in an open game a record that scores has read
   read-of : (s : List ℕ) → notOpen g ≡ false → scoredFor g s .refusal ≡ 0 → (n : ℕ) → refusalIn (readOf s .answer) ≡ n → n ≡ 0

@@ -9,24 +9,25 @@ use borrow.Author.Tests.{eqb-true}
 use lib.Dec.{eqb}
 use lib.IntN.{ℤ, pos, negℤ, _+ℤ_}
 use lib.ListN.{getD}
-use Rattle.tiles.specs.Below.{count}
+use Rattle.tiles.specs.Below.{any, count}
 use Rattle.hand.specs.Hand.{isRon}
 use Rattle.hand_record.specs.laws.Bounds.{read-bounds}
 use Rattle.score.specs.laws.Z.{up, dn, add-law, parts-eq}
 use Rattle.score.specs.laws.Changes.{score-within, zero-sum}
 use Rattle.ledger.specs.declared.Game.{Game}
 use Rattle.ledger.specs.Booking.{Booking, riichi, win, draw, chombo}
-use Rattle.ledger.specs.Ledger.{lastHand, mark, isDeclared, declarations, isReady, handFor, scoredFor, readySeats, shareOf, refusalFor, riichiGives, addedFor, winGives, isDealersWin, drawGives, fineOf, backTo, chomboGives, effectOf}
+use Rattle.ledger.specs.Ledger.{lastHand, mark, isDeclared, declarations, notOpen, isReady, handFor, scoredFor, readySeats, shareOf, refusalFor, finishing, riichiGives, addedFor, winGives, isDealersWin, drawGives, fineOf, backTo, chomboGives, chomboOf, isAtFault, effectOf}
 use Rattle.ledger.specs.laws.Bounds.{costs, worst}
 use Rattle.ledger.specs.laws.Form.{open-of}
 use Rattle.ledger.specs.laws.Accepted.{riichi-accepted, chombo-accepted, draw-accepted, win-accepted}
 use Rattle.ledger.specs.laws.Repeat.{added-zero, added-dn}
+use Rattle.ledger.specs.laws.Fines.{fines-even, fine-dn}
 use Rattle.ledger.specs.laws.Effect.{mark-le, Bounded, Fair, finishing-fair}
 
 -- ---- what four seats are given, by its parts
 
 -- gifts f turn k sticks into m
-abbrev Turns : (ℕ → ℤ) → ℕ → ℕ → Type 0
+abbrev pub Turns : (ℕ → ℤ) → ℕ → ℕ → Type 0
 Turns f k m = up (f 0) + up (f 1) + up (f 2) + up (f 3) + 1000 * m ≡ dn (f 0) + dn (f 1) + dn (f 2) + dn (f 3) + 1000 * k
 
 -- two gifts: one that the seats pay, one that comes from the sticks
@@ -116,40 +117,30 @@ module _ (bits : ℕ) where
       let n : ℕ = readySeats bits in
       share-dn (eqb n 0 || eqb n 4) (isReady bits i) (3000 / n) (3000 / (4 - n)) (div-le-self 3000 (4 - n))
 
--- ---- a chombo: what the seat pays the others get, and this hand's sticks go back
+-- ---- a chombo: the fines are paid for, and this hand's sticks go back
 
-abbrev back : Bool → ℤ
-back d = cond d (pos 1000) (pos 0)
-
-back-is : (d : Bool) → (up (back d) ≡ 1000 * cond d 1 0) × (dn (back d) ≡ 0)
+back-is : (d : Bool) → (up (cond d (pos 1000) (pos 0)) ≡ 1000 * cond d 1 0) × (dn (cond d (pos 1000) (pos 0)) ≡ 0)
 back-is true = (refl, refl)
 back-is false = (refl, refl)
 
-fine-dn : (pays declared : Bool) → dn (cond pays (negℤ (pos 9000)) (pos 3000) +ℤ back declared) ≤ 9000
-fine-dn true true = omega arith
-fine-dn true false = omega arith
-fine-dn false true = omega arith
-fine-dn false false = omega arith
-
 module _ (g : Game) where
-  backs : declarations g ≤ g .sticks → Turns (λ i. back (isDeclared g i)) (g .sticks) (g .sticks - declarations g)
+  backs : declarations g ≤ g .sticks → Turns (backTo g) (g .sticks) (g .sticks - declarations g)
   backs h = omega (arith, back-is (isDeclared g 0), back-is (isDeclared g 1), back-is (isDeclared g 2), back-is (isDeclared g 3))
 
-fines : (seat : ℕ) → seat ≤ 3 → Turns (fineOf seat) 0 0
-fines zero h = refl
-fines (suc zero) h = refl
-fines (suc (suc zero)) h = refl
-fines (suc (suc (suc zero))) h = refl
-fines (suc (suc (suc (suc n)))) h = absurd (omega arith)
+  module _ (at : ℕ → Bool) where
+    pub chombo-balanced : declarations g ≤ g .sticks → Turns (chomboGives g at) (g .sticks) (g .sticks - declarations g)
+    unfolding chomboGives
+    chombo-balanced d = both-turn (fineOf at) (backTo g) (g .sticks) (g .sticks - declarations g) (omega (arith, fines-even at)) (backs d)
 
-module _ (g : Game) (seat : ℕ) where
-  chombo-balanced : seat ≤ 3 → declarations g ≤ g .sticks → Turns (chomboGives g seat) (g .sticks) (g .sticks - declarations g)
-  unfolding chomboGives
-  chombo-balanced h d = both-turn (fineOf seat) (backTo g) (g .sticks) (g .sticks - declarations g) (fines seat h) (backs g d)
+    chombo-bounded : (i : ℕ) → i < 4 → dn (chomboGives g at i) ≤ 9000 + up (chomboGives g at i)
+    unfolding chomboGives
+    chombo-bounded i l = omega (arith, fine-dn at i l, back-is (isDeclared g i), add-law (fineOf at i) (backTo g i))
 
-  chombo-bounded : (i : ℕ) → dn (chomboGives g seat i) ≤ 9000
-  unfolding chomboGives
-  chombo-bounded i = fine-dn (eqb i seat) (isDeclared g i)
+    chombo-fair : notOpen g ≡ false → Fair g (chomboOf g at)
+    chombo-fair e =
+        let o = open-of g e in
+        finishing-fair g (chomboGives g at) (g .sticks - declarations g) false (g .counter) (o .hands)
+        (omega (arith, o .form .counter)) (chombo-balanced (o .form .sticks)) (λ i l. omega (arith, chombo-bounded i l))
 
 -- ---- a win: the changes and what the counters add sum to 0, and the winner takes the sticks
 
@@ -226,12 +217,13 @@ module _ (g : Game) where
       let o = open-of g (y .0) in
       finishing-fair g (winGives g s) 0 (not (isDealersWin g s)) (cond (isDealersWin g s) (g .counter + 1) 0) (o .hands)
       (won-counter (isDealersWin g s) (g .counter) (g .hands) (o .form .counter)) (win-balanced g s (read-bounds s (y .1) .winner)) (λ i l. win-bounded g s (o .form .counter) i)
-  effect-fair (draw bits) e =
-      let o = open-of g (draw-accepted g bits e) in
-      finishing-fair g (drawGives bits) (g .sticks) (not (isReady bits (g .dealer))) (g .counter + 1) (o .hands)
-      (omega (arith, o .form .counter)) (draw-balanced bits (g .sticks)) (λ i l. omega (arith, draw-bounded bits i))
-  effect-fair (chombo seat) e =
-      let y = chombo-accepted g seat e in
-      let o = open-of g (y .1) in
-      finishing-fair g (chomboGives g seat) (g .sticks - declarations g) false (g .counter) (o .hands)
-      (omega (arith, o .form .counter)) (chombo-balanced g seat (y .0) (o .form .sticks)) (λ i l. omega (arith, chombo-bounded g seat i))
+  effect-fair (draw bits) e = go (draw-accepted g bits e) (any 4 (isAtFault g bits))
+    where
+      go : notOpen g ≡ false → (t : Bool)
+          → Fair g (cond t (chomboOf g (isAtFault g bits)) (finishing (drawGives bits) (g .sticks) (not (isReady bits (g .dealer))) (g .counter + 1)))
+      go q true = chombo-fair g (isAtFault g bits) q
+      go q false =
+          let o = open-of g q in
+          finishing-fair g (drawGives bits) (g .sticks) (not (isReady bits (g .dealer))) (g .counter + 1) (o .hands)
+          (omega (arith, o .form .counter)) (draw-balanced bits (g .sticks)) (λ i l. omega (arith, draw-bounded bits i))
+  effect-fair (chombo seat) e = chombo-fair g (λ i. eqb i seat) (chombo-accepted g seat e .1)

@@ -1,18 +1,16 @@
 -- The refusal of each booking, test by test, as the code comes to it; and what is booked then.
 use mathlib.Core.Path.{_≡_, refl}
-use mathlib.Core.Bool.{Bool, true, false, not, _&&_, cond}
+use mathlib.Core.Bool.{Bool, true, false, cond}
 use mathlib.Core.List.{List}
 use Prim.Native.Nat.{ℕ, _≤_, _<_}
 use native.Mathlib.Omega.{arith}
 use borrow.Author.Tests.{lt-ltb, le-ltb}
 use lib.Dec.{ltb}
-use lib.ListN.{getD}
-use Rattle.tiles.specs.Below.{any, tabulate}
 use Rattle.hand_record.specs.Record.{refusalIn, readOf}
 use Rattle.score.specs.laws.Settled.{score-unread}
 use Rattle.ledger.specs.declared.Game.{Game}
 use Rattle.ledger.specs.Booking.{Booking, riichi, win, draw, chombo}
-use Rattle.ledger.specs.Ledger.{isDeclared, notOpen, isReady, handFor, scoredFor, riichiMismatch, refusalFor, effectOf, applied, after}
+use Rattle.ledger.specs.Ledger.{isDeclared, notOpen, handFor, scoredFor, riichiMismatch, refusalFor, effectOf, applied, after}
 use Rattle.ledger.specs.Runs.{Booked}
 use Rattle.ledger.specs.laws.Form.{open-of}
 
@@ -57,15 +55,9 @@ module _ (g : Game) (bits : ℕ) where
   unfolding refusalFor
   draw-bits h = rw (lt-ltb 15 bits h)
 
-  pub draw-shut : bits ≤ 15 → notOpen g ≡ true → refusalFor g (draw bits) ≡ 9
+  pub draw-by : bits ≤ 15 → (b : Bool) → notOpen g ≡ b → refusalFor g (draw bits) ≡ cond b 9 0
   unfolding refusalFor
-  draw-shut h o = rw (le-ltb 15 bits h, o)
-
-  pub draw-by : bits ≤ 15 → notOpen g ≡ false → (b : Bool) (r : List Bool) → r ≡ tabulate 4 0 (isReady bits) → any 4 (λ i. isDeclared g i && not (getD r i false)) ≡ b → refusalFor g (draw bits) ≡ cond b 12 0
-  unfolding refusalFor
-  draw-by h o b r q e =
-      let t : any 4 (λ i. isDeclared g i && not (isReady bits i)) ≡ b = rw q at e in
-      rw (le-ltb 15 bits h, o, t)
+  draw-by h b e = rw (le-ltb 15 bits h, e)
 
 module _ (g : Game) (s : List ℕ) where
   pub win-shut : notOpen g ≡ true → refusalFor g (win s) ≡ 9

@@ -13,10 +13,10 @@ use Rattle.ledger.specs.Ledger.{repeatPays, repeatGives}
 
 -- ---- the four additions sum to 0
 
-abbrev Even : (ℕ → ℤ) → Type 0
+abbrev pub Even : (ℕ → ℤ) → Type 0
 Even f = up (f 0) + up (f 1) + up (f 2) + up (f 3) ≡ dn (f 0) + dn (f 1) + dn (f 2) + dn (f 3)
 
-even-zero : (f : ℕ → ℤ) → Even f → f 0 +ℤ f 1 +ℤ f 2 +ℤ f 3 ≡ pos 0
+pub even-zero : (f : ℕ → ℤ) → Even f → f 0 +ℤ f 1 +ℤ f 2 +ℤ f 3 ≡ pos 0
 even-zero f e = eq-parts _ _ (omega (arith, e, add-law (f 0) (f 1), add-law (f 0 +ℤ f 1) (f 2), add-law (f 0 +ℤ f 1 +ℤ f 2) (f 3)))
 
 module _ (discarder : ℕ) (ron : Bool) (n : ℕ) where

@@ -1,18 +1,18 @@
--- What finishing a hand comes to, and that this is what the ledger's effects of riichi, chombo and draw do.
-use mathlib.Core.Path.{_≡_}
-use mathlib.Core.Bool.{Bool, false, not, _||_}
+-- What finishing a hand comes to, and that this is what the ledger's effects of riichi, of a chombo and of a draw do.
+use mathlib.Core.Path.{_≡_, _∙_}
+use mathlib.Core.Bool.{Bool, true, false, not, _&&_, _||_, cond}
 use mathlib.Core.List.{List}
 use Prim.Native.Nat.{ℕ, _+_, _-_, _≤_}
 use native.Mathlib.Omega.{arith}
 use borrow.Author.Tests.{ne-eqb}
 use lib.Dec.{eqb}
-use lib.IntN.{ℤ, pos}
+use lib.IntN.{ℤ, pos, _+ℤ_}
 use lib.ListN.{getD}
-use Rattle.tiles.specs.Below.{count, tabulate}
+use Rattle.tiles.specs.Below.{any, count, tabulate}
 use Rattle.tiles.specs.laws.Tabulate.{getD-tabulate}
 use Rattle.ledger.specs.declared.Game.{Game}
-use Rattle.ledger.specs.Booking.{riichi, draw, chombo}
-use Rattle.ledger.specs.Ledger.{lastHand, mark, isDeclared, declarations, isReady, shareOf, finishing, riichiGives, drawGives, chomboGives, effectOf, applied}
+use Rattle.ledger.specs.Booking.{riichi, draw}
+use Rattle.ledger.specs.Ledger.{lastHand, mark, isDeclared, isReady, shareOf, finishing, riichiGives, drawGives, fineOf, chomboGives, chomboOf, isAtFault, effectOf, applied}
 use Rattle.ledger.specs.laws.Form.{Open}
 use Rattle.ledger.specs.laws.Sums.{paid}
 
@@ -30,12 +30,32 @@ module _ (g : Game) (seat : ℕ) where
       let n : eqb (g .hands) lastHand ≡ false = ne-eqb (g .hands) lastHand (λ e. omega (arith, o .hands)) in
       rw (p, q, n)
 
-  pub chombo-applied : (by : List ℤ) (n : ℕ) → by ≡ tabulate 4 0 (chomboGives g seat) → n ≡ declarations g → finished g by (g .sticks - n) false (g .counter) ≡ applied g (effectOf g (chombo seat))
-  unfolding finished applied effectOf
-  chombo-applied by n p q = rw (p, q)
+module _ (g : Game) where
+  -- f who is at fault, d who has declared
+  pub chombo-applied : (f d : List Bool) (by : List ℤ) (n : ℕ) → d ≡ tabulate 4 0 (isDeclared g)
+      → by ≡ tabulate 4 0 (λ i. fineOf (λ j. getD f j false) i +ℤ cond (getD d i false) (pos 1000) (pos 0)) → n ≡ count 4 (λ i. getD d i false)
+      → finished g by (g .sticks - n) false (g .counter) ≡ applied g (chomboOf g (λ i. getD f i false))
+  unfolding finished applied chomboGives
+  chombo-applied f d by n e p q = rw (p, q, e)
 
-module _ (g : Game) (bits : ℕ) where
-  pub draw-applied : g .dealer ≤ 3 → (by : List ℤ) (r : List Bool) → r ≡ tabulate 4 0 (isReady bits) → by ≡ tabulate 4 0 (λ i. shareOf (count 4 (λ j. getD r j false)) (getD r i false))
+  -- the seats by a list or by a test
+  pub same-chombo : (f : List Bool) (at : ℕ → Bool) → f ≡ tabulate 4 0 at → applied g (chomboOf g (λ i. getD f i false)) ≡ applied g (chomboOf g at)
+  unfolding applied chomboGives fineOf
+  same-chombo f at q = rw q
+
+-- r who is ready, f who has declared and is not
+module _ (g : Game) (bits : ℕ) (r f : List Bool) (q : r ≡ tabulate 4 0 (isReady bits)) (e : f ≡ tabulate 4 0 (λ i. isDeclared g i && not (getD r i false))) where
+  faults : f ≡ tabulate 4 0 (isAtFault g bits)
+  faults = e ∙ rw q
+
+  some-fault : (t : Bool) → any 4 (λ i. getD f i false) ≡ t → any 4 (isAtFault g bits) ≡ t
+  some-fault t a = rw faults at a
+
+  pub fault-applied : any 4 (λ i. getD f i false) ≡ true → applied g (chomboOf g (λ i. getD f i false)) ≡ applied g (effectOf g (draw bits))
+  unfolding effectOf
+  fault-applied a = let t = some-fault true a in rw t (same-chombo g f (isAtFault g bits) faults)
+
+  pub draw-applied : any 4 (λ i. getD f i false) ≡ false → g .dealer ≤ 3 → (by : List ℤ) → by ≡ tabulate 4 0 (λ i. shareOf (count 4 (λ j. getD r j false)) (getD r i false))
       → finished g by (g .sticks) (not (getD r (g .dealer) false)) (g .counter + 1) ≡ applied g (effectOf g (draw bits))
   unfolding finished applied effectOf drawGives
-  draw-applied h by r q p = rw (p, q, getD-tabulate false 4 (isReady bits) (g .dealer) (omega (arith, h)))
+  draw-applied a h by p = let t = some-fault false a in rw (p, q, getD-tabulate false 4 (isReady bits) (g .dealer) (omega (arith, h)), t)

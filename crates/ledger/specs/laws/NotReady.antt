@@ -1,0 +1,119 @@
+-- A draw in which a declared seat is not ready is a chombo; no booking is refused with 12.
+use mathlib.Core.Path.{_≡_, refl, sym, ap, _∙_}
+use mathlib.Core.Bool.{Bool, true, false, cond}
+use mathlib.Core.List.{List}
+use Prim.Native.Nat.{ℕ, _+_, _-_, _*_, _≤_, _<_}
+use native.Mathlib.Omega.{arith}
+use lib.Dec.{ltb}
+use lib.IntN.{pos, _+ℤ_, +ℤ-assoc}
+use lib.ListN.{length}
+use Rattle.tiles.specs.Below.{any}
+use Rattle.tiles.specs.laws.Below.{cond-le}
+use Rattle.hand.specs.declared.Hand.{Hand}
+use Rattle.hand.specs.Held.{descends, overFour}
+use Rattle.hand.specs.Refusals.{wrongFields, inRecord, wrongSituation, refusalOf}
+use Rattle.bits.specs.Bits.{bitsOf}
+use Rattle.hand_record.specs.Record.{refusedWith, soundAs, refusalIn, wrongLength, countIn, handIn, paddingOf, answerBy, judged, readOf}
+use Rattle.score.specs.declared.Scored.{Scored}
+use Rattle.score.specs.Named.{Named, reported, six, seven}
+use Rattle.score.specs.IsScore.{IsScore, eight, unread, read}
+use Rattle.score.specs.Score.{scoreOf, is-score}
+use Rattle.score.specs.laws.Z.{add-law, eq-parts}
+use Rattle.ledger.specs.declared.Game.{Game}
+use Rattle.ledger.specs.Booking.{Booking, riichi, win, draw, chombo}
+use Rattle.ledger.specs.Ledger.{scoreAt, isDeclared, declarations, notOpen, handFor, scoredFor, riichiMismatch, refusalFor, fineOf, backTo, chomboGives, chomboOf, isAtFault, effectOf, applied, after}
+use Rattle.ledger.specs.NotReady.{BookedAsChombo}
+use Rattle.ledger.specs.laws.Effect.{score-applied}
+use Rattle.ledger.specs.laws.Fair.{chombo-balanced}
+
+-- ---- what such a draw does
+
+module _ (l : Game) (bits : ℕ) where
+  applied-is : BookedAsChombo l bits (applied l (chomboOf l (isAtFault l bits)))
+  unfolding applied chomboGives
+  applied-is = record {
+    scores = λ i h. score-applied l (chomboOf l (isAtFault l bits)) i h ∙ sym (+ℤ-assoc (scoreAt l i) (fineOf (isAtFault l bits) i) (backTo l i));
+    sticks = refl;
+    dealer = refl;
+    wind = refl;
+    counter = refl;
+    hands = refl;
+    declared = refl;
+    over = refl;
+  }
+
+  pub booked-as-chombo : refusalFor l (draw bits) ≡ 0 → any 4 (isAtFault l bits) ≡ true → BookedAsChombo l bits (after l (draw bits))
+  unfolding after effectOf
+  booked-as-chombo e t = rw (e, t) applied-is
+
+-- ---- the four gifts and the sticks that stay are the sticks that were
+
+module _ (l : Game) (at : ℕ → Bool) where
+  pub with-sticks : declarations l ≤ l .sticks →
+      chomboGives l at 0 +ℤ chomboGives l at 1 +ℤ chomboGives l at 2 +ℤ chomboGives l at 3 +ℤ pos (1000 * (l .sticks - declarations l)) ≡ pos (1000 * l .sticks)
+  with-sticks h =
+      let x0 = chomboGives l at 0 in
+      let x1 = chomboGives l at 1 in
+      let x2 = chomboGives l at 2 in
+      let x3 = chomboGives l at 3 in
+      let k : ℕ = 1000 * (l .sticks - declarations l) in
+      eq-parts _ _ (omega (arith, chombo-balanced l at h, add-law x0 x1, add-law (x0 +ℤ x1) x2, add-law (x0 +ℤ x1 +ℤ x2) x3, add-law (x0 +ℤ x1 +ℤ x2 +ℤ x3) (pos k)))
+
+-- ---- Read's refusals are 5 at most, Score's 8
+
+refusal-le : (h : Hand) (padding : ℕ) → refusalOf h padding ≤ 5
+unfolding refusalOf
+refusal-le h padding =
+    cond-le (wrongFields h padding) 2 _ 5 (omega arith)
+    (cond-le (descends (h .held)) 3 _ 5 (omega arith) (cond-le (overFour (inRecord h)) 4 _ 5 (omega arith) (cond-le (wrongSituation h) 5 0 5 (omega arith) (omega arith))))
+
+answer-le : (h : Hand) (j : ℕ) → j ≤ 5 → refusalIn (answerBy h j .answer) ≤ 5
+unfolding answerBy
+answer-le h j l = go (ltb 0 j)
+  where
+    go : (b : Bool) → refusalIn (cond b (refusedWith j) (soundAs h) .answer) ≤ 5
+    go true = l
+    go false = omega arith
+
+read-le : (s : List ℕ) → refusalIn (readOf s .answer) ≤ 5
+unfolding readOf judged
+read-le s = go (wrongLength (length s) (countIn s))
+  where
+    go : (b : Bool) → refusalIn (cond b (refusedWith 1) (judged (countIn s) (bitsOf s)) .answer) ≤ 5
+    go true = omega arith
+    go false = answer-le (handIn (countIn s) (bitsOf s)) _ (refusal-le (handIn (countIn s) (bitsOf s)) (paddingOf (countIn s) (bitsOf s)))
+
+module _ (s : List ℕ) (dealer wind : ℕ) where
+  named-le : {h : Hand} {a : Scored} → Named h dealer wind a → a .refusal ≤ 8
+  named-le (reported r i) = omega arith
+  named-le (six n) = omega arith
+  named-le (seven q i n) = omega arith
+
+  answered-le : {a : Scored} → IsScore s dealer wind a → a .refusal ≤ 8
+  answered-le (eight e) = omega arith
+  answered-le (unread d w n e) = let same : refusalIn (readOf s .answer) ≡ n = ap refusalIn e in omega (arith, read-le s)
+  answered-le (read d w f e m) = named-le m
+
+  score-le : scoreOf s dealer wind .refusal ≤ 8
+  score-le = answered-le (is-score s dealer wind)
+
+-- ---- no refusal is 12
+
+abbrev Not12 : ℕ → Type 0
+Not12 n = n ≡ 12 → ⊥
+
+neither : (b : Bool) (n m : ℕ) → Not12 n → Not12 m → Not12 (cond b n m)
+neither true n m p q = p
+neither false n m p q = q
+
+module _ (l : Game) where
+  pub never-12 : (b : Booking) → Not12 (refusalFor l b)
+  unfolding refusalFor
+  never-12 (riichi seat) =
+      neither (ltb 3 seat) 8 _ (λ e. omega arith) (neither (notOpen l) 9 _ (λ e. omega arith) (neither (isDeclared l seat) 10 0 (λ e. omega arith) (λ e. omega arith)))
+  never-12 (win s) =
+      let v : ℕ = scoredFor l s .refusal in
+      neither (notOpen l) 9 _ (λ e. omega arith)
+      (neither (ltb 0 v) v _ (λ e. omega (arith, score-le s (l .dealer) (l .wind))) (neither (riichiMismatch l (handFor s)) 11 0 (λ e. omega arith) (λ e. omega arith)))
+  never-12 (draw bits) = neither (ltb 15 bits) 8 _ (λ e. omega arith) (neither (notOpen l) 9 0 (λ e. omega arith) (λ e. omega arith))
+  never-12 (chombo seat) = neither (ltb 3 seat) 8 _ (λ e. omega arith) (neither (notOpen l) 9 0 (λ e. omega arith) (λ e. omega arith))
