@@ -184,7 +184,7 @@ typedef struct {
     bool yaku[37];       /* yaku n at index n; index 0 is unused */
     uint32_t tried;      /* "how many readings it tried, those with no yaku and each place in equal groups counted":
                             up to the first with a yakuman, it included, or all */
-    int32_t changes[4];  /* points of seats 0 to 3, summing to 0; sticks left out */
+    int32_t changes[4];  /* points of seats 0 to 3, summing to 0; sticks and counters left out */
 } HbScored;
 
 /* What Waits gives: a refusal with all else zero, or 0, the waits and furiten. */
@@ -229,7 +229,8 @@ typedef struct {
     uint8_t declared[4];  /* not 0 where the seat has declared riichi in this hand */
     uint8_t dealer, wind, hands;
     uint8_t over;         /* not 0 where the game is marked over */
-    uint32_t counter;     /* repeat counters: "rises by one at each dealer's win and each draw, returns to 0 at a child's win" */
+    uint32_t counter;     /* repeat counters: "rises by one at each dealer's win and each draw, returns to 0 at a child's win, and
+                             isn't touched by a chombo" */
 } HbGame;
 
 /* What stands at an offset of a log: an entry, the end (end set, all else zero), or refusal 14 (all else zero). */
@@ -298,7 +299,7 @@ HbGame hb_fresh(void);
 /* Riichi of a seat; refusals 8, 9, 10 in order. */
 uint8_t hb_riichi(HbGame *game, uint8_t seat);
 
-/* Win by a record: what Score gives, and of the counters "A ron payer pays 300 more for each counter, and on tsumo each payer
+/* Win by a record: what Score gives, all sticks, and of the counters "A ron payer pays 300 more for each counter, and on tsumo each payer
  * pays 100 more"; refusals 9, 1 to 7, 11 in order. */
 uint8_t hb_win(HbGame *game, const uint8_t *record, size_t record_len);
 

@@ -83,7 +83,7 @@ eqZ a b = leZ a b && leZ b a
 abbrev pub isOver : Game → Bool
 isOver l = isSet (l .over) || eqb (l .hands) lastHand
 
--- "out of form (dealer over 3, wind over 1, over 200 hands, fewer sticks than declared seats, a score under the floor, or scores plus 1,000 times sticks not 120,000)";
+-- "out of form (dealer over 3, wind over 1, over 200 hands, fewer sticks than declared seats, a score under the floor below, or scores plus 1,000 times sticks not 120,000)";
 -- "The counter never exceeds the hands finished, and a game where it does is out of form" (02, S-5)
 unfoldable pub outOfForm : Game → Bool
 outOfForm l =

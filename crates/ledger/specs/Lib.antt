@@ -3,7 +3,7 @@
 -- Runs       a list of bookings, each lent the game as the last one left it
 -- Demand3    what demand 3 claims of such a list
 -- NotReady   what a draw does in which a declared seat is not ready
--- Claims     the theorems: demand 3, never below the floor
+-- Claims     the theorems: demand 3, never below the floor, repeat counters, declared yet not ready
 -- laws       what they stand on
 pub mod Booking
 pub mod Ledger

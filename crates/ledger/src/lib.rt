@@ -1,4 +1,4 @@
-// The game as one record. What its fields mean, the ledger and demand 3 are in specs/; crate `game` has the bookings.
+// The game as one record. What its fields mean, the ledger and demand 3 are in specs/; crates `game` and `wins` have the bookings.
 
 // Scores of seats 0 to 3; sticks on the table; for each seat 0, or another number where it has declared riichi in this hand; dealer;
 // wind, 0 East, 1 South; finished hands; 0, or another number where the game is marked over; repeat counters. Every byte pattern is a game.

@@ -1,5 +1,6 @@
-//! `tester COMMAND WORDS`: hands, readings, turned tables, waits, hands that are not ready, practice cards, claims, logs, games and damaged bytes, answered by the proved core and compared
-//! with the other scorer. Exit status 0: answered, refusals too; 1: the two differ; 2: bad input, told in one line.
+//! `tester COMMAND WORDS`: hands, readings, tables turned, suits renamed, slips, unfinished hands, practice cards, claims, logs,
+//! games and damaged bytes, answered by the proved core and compared with the other scorer. Exit status 0: answered, refusals too;
+//! 1: the two differ; 2: bad input, told in one line.
 
 mod answer;
 mod both;
