@@ -37,7 +37,10 @@ use denote.Exit.{yes}
 use Rattle.ledger.specs.declared.Game.{Game}
 use Rattle.ledger.proofs.Game as T
 use Rattle.ledger.proofs.Game.Laws as T′
-use Rattle.handset.proofs.Machine.{mach}
+
+-- a game's machine value
+abbrev mach : Game → Val
+mach = LL.val T.the-type T′.the-laws
 
 -- the MIR, over the callee's name
 abbrev pub show : Name → Fn
