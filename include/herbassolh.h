@@ -35,18 +35,24 @@ enum {
                                    the tiles of 4; first turn with ron, a meld or riichi" */
     HB_REFUSAL_NO_READING = 6,  /* "no reading" */
     HB_REFUSAL_NO_YAKU = 7,     /* "readings but none with a yaku" */
-    HB_REFUSAL_ARGUMENT = 8,    /* Score "dealer over 3 or wind over 1"; Riichi, Chombo "seat over 3"; Draw "over 15" */
+    HB_REFUSAL_ARGUMENT = 8,    /* Score "dealer over 3 or wind over 1"; Riichi, Chombo "seat over 3"; Draw "over 15"; Feed "a seat
+                                   over 3" */
     HB_REFUSAL_NOT_OPEN = 9,    /* "over (marked so, or 200 hands finished), or out of form (dealer over 3, wind over 1, over
                                    200 hands, fewer sticks than declared seats, a score under the floor below, or scores
                                    plus 1,000 times sticks not 120,000)"; "The counter never exceeds the hands finished, and a
-                                   game where it does is out of form"; "The floor of a score becomes" -15,740,000 */
+                                   game where it does is out of form"; "A game that holds a feeder over 3, or one equal to its
+                                   holder, is out of form"; "The floor of a score becomes" -15,740,000 */
     HB_REFUSAL_DECLARED = 10,   /* "declared already this hand" */
     HB_REFUSAL_RIICHI = 11,     /* "riichi field non-zero and winner not declared, or the reverse" */
     HB_REFUSAL_NOT_READY = 12,  /* "12 is never given now": a name for lines of older logs, "a declared seat not ready" */
     HB_REFUSAL_BUFFER = 13,     /* "buffer shorter than the record" */
-    HB_REFUSAL_ENTRY = 14,      /* "kind over 3, win argument not 0, m over 4, or bytes missing" */
+    HB_REFUSAL_ENTRY = 14,      /* "kind over 3, win argument not 0, m over 4, or bytes missing"; kind 5 is an entry too:
+                                   "argument 0, then a byte: holder 2 bits, feeder 2, yaku 1 (0 for 28), three zero bits; any other
+                                   form is 14" */
     HB_REFUSAL_DISCARD = 15,    /* "a discard over 33" */
     HB_REFUSAL_PAGE = 16,       /* "a page buffer under 150 bytes" */
+    HB_REFUSAL_FEED = 18,       /* "a holder who is also the feeder, a yaku other than those two, or the same holder and yaku named
+                                   twice in a hand" */
     HB_REFUSAL_CARDS = 19,      /* "a suit over 2, another size, or a buffer shorter than the whole list" */
     HB_REFUSAL_CLAIM = 22       /* "a claim of another length or with shape 3, a pair over 33, a group code that names no group,
                                    descending codes, a place over 4 - m or a padding bit set" */
@@ -118,10 +124,10 @@ enum { HB_MELD_CHI = 0, HB_MELD_PON = 1, HB_MELD_OPEN_KAN = 2, HB_MELD_CLOSED_KA
 enum { HB_ROUND_EAST = 0, HB_ROUND_SOUTH = 1 };
 
 /* Kinds of a log's entry. */
-enum { HB_KIND_RIICHI = 0, HB_KIND_WIN = 1, HB_KIND_DRAW = 2, HB_KIND_CHOMBO = 3 };
+enum { HB_KIND_RIICHI = 0, HB_KIND_WIN = 1, HB_KIND_DRAW = 2, HB_KIND_CHOMBO = 3, HB_KIND_FEED = 5 };
 
 /* Letters of a line of tally. */
-enum { HB_LETTER_RIICHI = 'R', HB_LETTER_WIN = 'W', HB_LETTER_DRAW = 'D', HB_LETTER_CHOMBO = 'C' };
+enum { HB_LETTER_RIICHI = 'R', HB_LETTER_WIN = 'W', HB_LETTER_DRAW = 'D', HB_LETTER_CHOMBO = 'C', HB_LETTER_FEED = 'P' };
 
 /* The length in bytes of a record with m melds, m at most 4: 13, 12, 11, 10, 8. */
 #define HB_RECORD_LENGTH(m) ((103 - 10 * (m) + 7) / 8)
@@ -231,6 +237,8 @@ typedef struct {
     uint8_t over;         /* not 0 where the game is marked over */
     uint32_t counter;     /* repeat counters: "rises by one at each dealer's win and each draw, returns to 0 at a child's win, and
                              isn't touched by a chombo" */
+    uint8_t feeders[8];   /* who feeds in this hand: place holder for yaku 28, place 4 + holder for yaku 29; 0 where nobody is named,
+                             else 1 + the feeder's seat */
 } HbGame;
 
 /* What stands at an offset of a log: an entry, the end (end set, all else zero), or refusal 14 (all else zero). */
@@ -300,7 +308,9 @@ HbGame hb_fresh(void);
 uint8_t hb_riichi(HbGame *game, uint8_t seat);
 
 /* Win by a record: what Score gives, all sticks, and of the counters "A ron payer pays 300 more for each counter, and on tsumo each payer
- * pays 100 more"; refusals 9, 1 to 7, 11 in order. */
+ * pays 100 more". Where the winner is the holder of a feed and its yaku is reported ("for 29, with four wind triplets, not three and a
+ * pair"), "the feeder pays the whole on tsumo, counters included. On ron the feeder and the discarder pay half each, the discarder paying
+ * the counters; if they are one seat it pays all." Refusals 9, 1 to 7, 11 in order. */
 uint8_t hb_win(HbGame *game, const uint8_t *record, size_t record_len);
 
 /* Draw; bits: four, seat 0 the most significant, set for ready. Where a declared seat is not ready it is a chombo of each such
@@ -311,13 +321,17 @@ uint8_t hb_draw(HbGame *game, uint8_t bits);
 /* Chombo of a seat; refusals 8, 9 in order. */
 uint8_t hb_chombo(HbGame *game, uint8_t seat);
 
-/* Next entry of a log from an offset. Its part is log[at] to log[at + length - 1], a win's record what follows the
+/* Feed: feeder gave holder what makes the yaku, "28 for three dragon triplets, or 29 for four wind triplets". "The booking lapses when
+ * the hand is finished"; a win, a draw and a chombo finish it. Refusals 8, 9, 18 in order. */
+uint8_t hb_feed(HbGame *game, uint8_t holder, uint8_t feeder, uint8_t yaku);
+
+/* Next entry of a log from an offset. Its part is log[at] to log[at + length - 1], a win's record or a feed's byte what follows the
  * header byte log[at]; the next offset is at + length. From the log's end on: end. Refusal 14 ends the walk. */
 HbNextEntry hb_next(const uint8_t *log, size_t log_len, size_t at);
 
 /* Books the entry that part begins with, such as log + at with the length that hb_next gave: its booking's refusal and the
  * game updated, or 14 and the game left where part begins with no whole entry. Refusals of an entry: 14; of a riichi 8, 9, 10,
- * a win 9, 2 to 7, 11, a draw 9, a chombo 8, 9, in order. */
+ * a win 9, 2 to 7, 11, a draw 9, a chombo 8, 9, a feed 9, 18, in order. */
 uint8_t hb_book(HbGame *game, const uint8_t *part, size_t part_len);
 
 /* A walk before a log's first entry, with a fresh game. */

@@ -31,7 +31,7 @@ static void sizes(void)
     CHECK(HB_UNFINISHED_LENGTH(0) == 11 && HB_UNFINISHED_LENGTH(1) == 9 && HB_UNFINISHED_LENGTH(2) == 8);
     CHECK(HB_UNFINISHED_LENGTH(3) == 7 && HB_UNFINISHED_LENGTH(4) == 6 && sizeof(HbWaits) == 36 && sizeof(HbReady) == 15);
     CHECK(sizeof(HbItems) == 10 && sizeof(HbScored) == 72 && sizeof(HbJudged) == 2);
-    CHECK(sizeof(HbGame) == 32 && sizeof(HbWalk) == 48 && sizeof(HbPrinted) == 56);
+    CHECK(sizeof(HbGame) == 40 && sizeof(HbWalk) == 56 && sizeof(HbPrinted) == 64);
 }
 
 /* A line of document 01's table: its number, record and score; from 101 on, hands that the table lacks. Points, and h and fu
@@ -732,6 +732,15 @@ static uint8_t book_win(HbGame *game, const uint8_t *record, size_t length)
     return refusal;
 }
 
+/* An entry of a feed by its byte, booked. */
+static uint8_t book_feed(HbGame *game, uint8_t byte)
+{
+    uint8_t entry[2] = {0x50, byte}, *part = exact(entry, 2);
+    uint8_t refusal = hb_book(game, part, 2);
+    free(part);
+    return refusal;
+}
+
 /* Each booking made once on a copy of a game, and each as an entry; whether all give this refusal and leave every byte. */
 static int all_refused(const HbGame *game, uint8_t refusal)
 {
@@ -740,6 +749,8 @@ static int all_refused(const HbGame *game, uint8_t refusal)
     same = same && hb_win(&copy, table[0].record, 13) == refusal && book_win(&copy, table[0].record, 13) == refusal;
     same = same && hb_draw(&copy, 15) == refusal && book_byte(&copy, 0x2f) == refusal;
     same = same && hb_chombo(&copy, 0) == refusal && book_byte(&copy, 0x30) == refusal;
+    same = same && hb_feed(&copy, 1, 3, HB_YAKU_DAISANGEN) == refusal && book_feed(&copy, 0x70) == refusal;
+    same = same && hb_feed(&copy, 1, 1, 0) == refusal && book_feed(&copy, 0x50) == refusal;
     return same && memcmp(&copy, game, sizeof copy) == 0;
 }
 
@@ -781,6 +792,9 @@ static void refused_bookings(void)
         CHECK_CASE(n, hb_riichi(&game, (uint8_t)n) == HB_REFUSAL_ARGUMENT);
         CHECK_CASE(n, hb_chombo(&game, (uint8_t)n) == HB_REFUSAL_ARGUMENT);
         CHECK_CASE(n, n <= 15 || hb_draw(&game, (uint8_t)n) == HB_REFUSAL_ARGUMENT);
+        CHECK_CASE(n, hb_feed(&game, (uint8_t)n, 0, HB_YAKU_DAISANGEN) == HB_REFUSAL_ARGUMENT);
+        CHECK_CASE(n, hb_feed(&game, 0, (uint8_t)n, HB_YAKU_DAISANGEN) == HB_REFUSAL_ARGUMENT);
+        CHECK_CASE(n, hb_feed(&game, (uint8_t)n, (uint8_t)n, 0) == HB_REFUSAL_ARGUMENT);
         CHECK_CASE(n, memcmp(&game, &fresh, sizeof game) == 0);
     }
     for (size_t n = 0; n < COUNT_OF(unsound); n++) {
@@ -796,6 +810,7 @@ static void refused_bookings(void)
     game = fresh, game.over = 1;
     CHECK(all_refused(&game, HB_REFUSAL_NOT_OPEN));
     CHECK(hb_riichi(&game, 4) == HB_REFUSAL_ARGUMENT && hb_win(&game, table[0].record, 3) == HB_REFUSAL_NOT_OPEN);
+    CHECK(hb_feed(&game, 4, 4, 0) == HB_REFUSAL_ARGUMENT && hb_feed(&game, 3, 3, 0) == HB_REFUSAL_NOT_OPEN);
     game = fresh, game.hands = 200;
     CHECK(all_refused(&game, HB_REFUSAL_NOT_OPEN));
     game = fresh, game.hands = 201;
@@ -820,6 +835,14 @@ static void refused_bookings(void)
     CHECK(all_refused(&game, HB_REFUSAL_NOT_OPEN));
     game = fresh, game.hands = 199, game.counter = UINT32_MAX;
     CHECK(all_refused(&game, HB_REFUSAL_NOT_OPEN));
+    for (int place = 0; place < 8; place++)
+        for (int feeder = 1; feeder < 256; feeder++) {
+            game = fresh, game.feeders[place] = (uint8_t)feeder;
+            if (feeder > 4 || feeder == place % 4 + 1)
+                CHECK_CASE(256 * place + feeder, all_refused(&game, HB_REFUSAL_NOT_OPEN));
+            else
+                CHECK_CASE(256 * place + feeder, hb_riichi(&game, 0) == 0 && game.feeders[place] == feeder);
+        }
 }
 
 /* Marks of a game that are neither 0 nor 1: they are set, a refused booking leaves them, an accepted one sets 0 or 1. */
@@ -875,6 +898,116 @@ static void counters(void)
         CHECK_CASE(hand, hb_riichi(&game, 1) == 0 && game.counter == (uint32_t)hand && hb_win(&game, thirteen_orphans, 13) == 0);
     CHECK(is_game(&game, lowest, 0, 0, HB_ROUND_EAST, 200) && game.over && game.counter == 200);
     CHECK(all_refused(&game, HB_REFUSAL_NOT_OPEN));
+}
+
+/* Hands of seat 1 on tsumo: three dragon triplets; four wind triplets, concealed and melded; three and a wind pair. */
+enum { DRAGONS, WINDS, MELDED_WINDS, THREE_WINDS };
+static const struct {
+    uint8_t length, record[13];
+} yakuman[] = {
+    {13, {0x20, 0x16, 0x84, 0x02, 0x10, 0x68, 0xa2, 0xfb, 0xef, 0xc1, 0x04, 0x10, 0xc2}},
+    {13, {0x20, 0x16, 0x78, 0x22, 0x8b, 0x6d, 0xb6, 0xe3, 0x8e, 0x3a, 0xeb, 0xaf, 0x3c}},
+    {8, {0x20, 0x00, 0x5a, 0x2d, 0xce, 0x6e, 0xaf, 0x2c}},
+    {13, {0x20, 0x16, 0x74, 0x1e, 0x82, 0x2d, 0xb6, 0xdb, 0x8e, 0x38, 0xeb, 0xaf, 0x3c}},
+};
+
+/* A win by one of them, of another seat: from a discarder, or on tsumo where it is 4. */
+static uint8_t yakuman_won(HbGame *game, size_t hand, uint8_t winner, uint8_t from)
+{
+    uint8_t *record = exact(yakuman[hand].record, yakuman[hand].length);
+    record[0] = (uint8_t)(from > 3 ? 32 * winner : 128 + 32 * winner + 8 * from);
+    uint8_t refusal = hb_win(game, record, yakuman[hand].length);
+    free(record);
+    return refusal;
+}
+
+/* Who pays a win with a feeder named: the feeder all on tsumo, half by ron; plainly where the feed is of another seat or yaku. Each is
+ * made in a game with two counters and a stick, which the winner takes. */
+static void fed_wins(void)
+{
+    static const uint8_t nobody[8] = {0};
+    static const struct {
+        uint8_t holder, feeder, yaku, hand, winner, from;
+        int32_t scores[4];
+    } cases[] = {
+        {1, 3, HB_YAKU_DAISANGEN, DRAGONS, 1, 4, {30000, 63600, 30000, -3600}},        /* a child's 32,000, 600 for counters */
+        {1, 3, HB_YAKU_DAISANGEN, DRAGONS, 1, 2, {30000, 63600, 13400, 13000}},        /* half and half, seat 2 the counters */
+        {1, 3, HB_YAKU_DAISANGEN, DRAGONS, 1, 3, {30000, 63600, 30000, -3600}},        /* one seat */
+        {1, 0, HB_YAKU_SUUSHIIHOU, WINDS, 1, 4, {-2600, 63600, 30000, 29000}},
+        {1, 0, HB_YAKU_SUUSHIIHOU, WINDS, 1, 3, {14000, 63600, 30000, 12400}},
+        {1, 0, HB_YAKU_SUUSHIIHOU, MELDED_WINDS, 1, 0, {-2600, 63600, 30000, 29000}},
+        {0, 2, HB_YAKU_SUUSHIIHOU, MELDED_WINDS, 0, 4, {79600, 30000, -18600, 29000}}, /* the dealer's 48,000 */
+        {0, 2, HB_YAKU_DAISANGEN, DRAGONS, 0, 1, {79600, 5400, 6000, 29000}},
+        {0, 2, HB_YAKU_DAISANGEN, DRAGONS, 0, 2, {79600, 30000, -18600, 29000}},
+        {1, 3, HB_YAKU_SUUSHIIHOU, THREE_WINDS, 1, 4, {13800, 63600, 21800, 20800}},   /* three winds and a pair: plainly */
+        {1, 3, HB_YAKU_SUUSHIIHOU, THREE_WINDS, 1, 2, {30000, 63600, -2600, 29000}},
+        {1, 3, HB_YAKU_SUUSHIIHOU, DRAGONS, 1, 4, {13800, 63600, 21800, 20800}},       /* the other yaku */
+        {1, 3, HB_YAKU_DAISANGEN, WINDS, 1, 2, {30000, 63600, -2600, 29000}},
+        {2, 3, HB_YAKU_DAISANGEN, DRAGONS, 1, 4, {13800, 63600, 21800, 20800}},        /* another holder */
+    };
+    for (size_t n = 0; n < COUNT_OF(cases); n++) {
+        uint8_t winner = cases[n].winner;
+        HbGame game = hb_fresh(), named, wanted;
+        game.hands = 2, game.counter = 2;
+        CHECK_CASE(n, hb_riichi(&game, 3) == 0);
+        wanted = game, wanted.feeders[cases[n].holder + (cases[n].yaku == HB_YAKU_DAISANGEN ? 0 : 4)] = cases[n].feeder + 1;
+        CHECK_CASE(n, hb_feed(&game, cases[n].holder, cases[n].feeder, cases[n].yaku) == 0);
+        CHECK_CASE(n, memcmp(&game, &wanted, sizeof game) == 0);
+        named = game;
+        CHECK_CASE(n, yakuman_won(&game, cases[n].hand, winner, cases[n].from) == 0);
+        CHECK_CASE(n, is_game(&game, cases[n].scores, 0, winner != 0, HB_ROUND_EAST, 3) && game.counter == (winner ? 0 : 3));
+        CHECK_CASE(n, memcmp(game.feeders, nobody, sizeof nobody) == 0);
+
+        /* lapsed: each end of the hand clears all places, and the same win is then paid plainly */
+        for (int end = 0; end < 4; end++) {
+            HbGame plain = named;
+            memcpy(plain.feeders, nobody, sizeof nobody);
+            HbGame *both[] = {&named, &plain};
+            HbGame after[2];
+            for (int k = 0; k < 2; k++) {
+                after[k] = *both[k];
+                uint8_t refusal = end == 0 ? hb_draw(&after[k], 9) : end == 1 ? hb_draw(&after[k], 8) : end == 2 ? hb_chombo(&after[k], 2)
+                                  : hb_win(&after[k], table[0].record, 13);
+                CHECK_CASE(n, refusal == 0 && memcmp(after[k].feeders, nobody, sizeof nobody) == 0);
+                CHECK_CASE(n, yakuman_won(&after[k], cases[n].hand, winner, cases[n].from) == 0);
+            }
+            CHECK_CASE(n, memcmp(&after[0], &after[1], sizeof after[0]) == 0);
+        }
+    }
+}
+
+/* Refusal 18, after 8 and 9: the holder himself, another yaku, or a holder and yaku named already; each leaves every byte. */
+static void refused_feeds(void)
+{
+    HbGame fresh = hb_fresh(), game = fresh, named;
+    for (int yaku = 0; yaku < 256; yaku++) {
+        for (uint8_t holder = 0; holder < 4; holder++) {
+            CHECK_CASE(yaku, hb_feed(&game, holder, holder, (uint8_t)yaku) == HB_REFUSAL_FEED);
+            if (yaku != HB_YAKU_DAISANGEN && yaku != HB_YAKU_SUUSHIIHOU)
+                CHECK_CASE(yaku, hb_feed(&game, holder, (uint8_t)((holder + 1) % 4), (uint8_t)yaku) == HB_REFUSAL_FEED);
+            CHECK_CASE(yaku, hb_feed(&game, (uint8_t)(holder + 4), holder, (uint8_t)yaku) == HB_REFUSAL_ARGUMENT);
+            CHECK_CASE(yaku, hb_feed(&game, holder, (uint8_t)(holder + 4), (uint8_t)yaku) == HB_REFUSAL_ARGUMENT);
+        }
+        CHECK_CASE(yaku, memcmp(&game, &fresh, sizeof game) == 0);
+    }
+    /* all eight places, named one after the other: none is free again, with whatever feeder, and riichi leaves them */
+    for (uint8_t place = 0; place < 8; place++) {
+        uint8_t holder = place % 4, yaku = (uint8_t)(HB_YAKU_DAISANGEN + place / 4);
+        CHECK_CASE(place, hb_feed(&game, holder, (uint8_t)((holder + 1 + place / 4) % 4), yaku) == 0);
+        named = game;
+        for (uint8_t feeder = 0; feeder < 4; feeder++) {
+            CHECK_CASE(place, hb_feed(&game, holder, feeder, yaku) == HB_REFUSAL_FEED);
+            CHECK_CASE(place, book_feed(&game, (uint8_t)(64 * holder + 16 * feeder + 8 * (place / 4))) == HB_REFUSAL_FEED);
+        }
+        CHECK_CASE(place, memcmp(&game, &named, sizeof game) == 0);
+    }
+    CHECK(hb_riichi(&game, 1) == 0 && memcmp(game.feeders, named.feeders, sizeof named.feeders) == 0);
+    CHECK(hb_win(&game, table[6].record, 12) == HB_REFUSAL_NO_YAKU && memcmp(game.feeders, named.feeders, sizeof named.feeders) == 0);
+    CHECK(hb_draw(&game, 16) == HB_REFUSAL_ARGUMENT && memcmp(game.feeders, named.feeders, sizeof named.feeders) == 0);
+    game.over = 1, named = game;
+    CHECK(all_refused(&game, HB_REFUSAL_NOT_OPEN));
+    CHECK(hb_feed(&game, 0, 1, HB_YAKU_DAISANGEN) == HB_REFUSAL_NOT_OPEN && hb_feed(&game, 0, 4, 0) == HB_REFUSAL_ARGUMENT);
+    CHECK(memcmp(&game, &named, sizeof game) == 0);
 }
 
 /* Draws in which declared seats are not ready: a chombo of each. Each is made in a game with an older stick, two counters and the
@@ -967,7 +1100,18 @@ static void entries(void)
     }
     for (int kind = 4; kind < 16; kind++) {
         log[0] = (uint8_t)(16 * kind);
-        CHECK_CASE(kind, no_entry(hb_next(log, 15, 0), HB_REFUSAL_ENTRY));
+        CHECK_CASE(kind, kind == HB_KIND_FEED || no_entry(hb_next(log, 15, 0), HB_REFUSAL_ENTRY));
+    }
+    for (int byte = 0; byte < 256; byte++) {
+        uint8_t feed[] = {0x50, (uint8_t)byte, 0x00}, *alone = exact(feed, 1);
+        HbNextEntry entry = hb_next(feed, 3, 0);
+        CHECK_CASE(byte, byte % 8 ? no_entry(entry, HB_REFUSAL_ENTRY) : is_entry(entry, HB_KIND_FEED, 0, HB_LETTER_FEED, 2));
+        CHECK_CASE(byte, no_entry(hb_next(alone, 1, 0), HB_REFUSAL_ENTRY));
+        free(alone);
+        for (int argument = 1; argument < 16; argument++) {
+            feed[0] = (uint8_t)(0x50 + argument);
+            CHECK_CASE(argument, no_entry(hb_next(feed, 3, 0), HB_REFUSAL_ENTRY));
+        }
     }
     for (int argument = 1; argument < 16; argument++) {
         log[0] = (uint8_t)(0x10 + argument);
@@ -993,9 +1137,15 @@ static void booked_entries(void)
     memcpy(riichi_entry + 1, with_riichi, 13);
     CHECK(hb_riichi(&games[1], 1) == 0);
     games[2].over = 1;
+    CHECK(hb_feed(&games[1], 2, 0, HB_YAKU_SUUSHIIHOU) == 0);
     for (size_t n = 0; n < 3; n++) {
         HbGame after;
         uint8_t refusal;
+        for (int byte = 0; byte < 256; byte += 8) {
+            uint8_t feed[] = {0x50, (uint8_t)byte, 0x07};
+            after = games[n], refusal = hb_feed(&after, (uint8_t)(byte / 64), (uint8_t)(byte / 16 % 4), (uint8_t)(28 + byte / 8 % 2));
+            CHECK_CASE(byte, books_as(feed, 2, games[n], refusal, after) && books_as(feed, 3, games[n], refusal, after));
+        }
         for (uint8_t argument = 0; argument < 16; argument++) {
             uint8_t header[] = {argument, (uint8_t)(0x20 + argument), (uint8_t)(0x30 + argument)};
             after = games[n], refusal = hb_riichi(&after, argument);
@@ -1043,11 +1193,17 @@ static void refused_entries(void)
         memcpy(part, win_entry, 14);
         for (int header = 0x11; header < 256; header++) {
             part[0] = (uint8_t)header;
-            if (header < 0x20 || header >= 0x40)
+            if (header < 0x20 || (header >= 0x40 && header != 0x50))
                 CHECK_CASE(header, books_as(part, 14, *each[n], HB_REFUSAL_ENTRY, *each[n]));
         }
         part[0] = 0x10, part[3] = 0x66, part[4] = 0x82; /* m 5 */
         CHECK_CASE(n, books_as(part, 14, *each[n], HB_REFUSAL_ENTRY, *each[n]));
+        part[0] = 0x50;
+        CHECK_CASE(n, books_as(part, 1, *each[n], HB_REFUSAL_ENTRY, *each[n]));
+        for (int byte = 0; byte < 256; byte++) {
+            part[1] = (uint8_t)byte; /* a zero bit of a feed set */
+            CHECK_CASE(byte, byte % 8 == 0 || books_as(part, 2, *each[n], HB_REFUSAL_ENTRY, *each[n]));
+        }
     }
 }
 
@@ -1132,7 +1288,7 @@ static void starts(void)
     CHECK(memcmp(&walk.game, &fresh, sizeof fresh) == 0 && walk.at == 0 && walk.entry == 1);
 }
 
-/* Document 01's log 01 24, one with a win, refused bookings and a bad entry at its end, and one with a counter. */
+/* Document 01's log 01 24, one with a win, refused bookings and a bad entry at its end, one with a counter, and one with feeds. */
 static void logs(void)
 {
     static const int32_t after[] = {29000, 32000, 29000, 29000};
@@ -1141,7 +1297,8 @@ static void logs(void)
     static const char more[] = "1 W 0 30000 32000 30000 28000 0\n2 R 8 30000 32000 30000 28000 0\n"
                                "3 C 0 33000 23000 33000 31000 0\n";
     static const char counted[] = "1 D 0 30000 30000 30000 30000 0\n2 W 0 30000 32300 30000 27700 0\n";
-    uint8_t text[HB_LINE_MAX], log[17];
+    static const char fed[] = "1 P 0 30000 30000 30000 30000 0\n2 W 0 30000 62000 30000 -2000 0\n3 P 18 30000 62000 30000 -2000 0\n";
+    uint8_t text[HB_LINE_MAX], log[18];
     HbPrinted printed = hb_lines(hb_start(), example, 2, text, sizeof text);
     CHECK(printed.written == sizeof lines - 1 && memcmp(text, lines, sizeof lines - 1) == 0);
     CHECK(is_game(&printed.walk.game, after, 1, 1, HB_ROUND_EAST, 1) && printed.walk.at == 2 && printed.walk.entry == 3);
@@ -1156,15 +1313,20 @@ static void logs(void)
 
     log[0] = 0x2f, memcpy(log + 1, win_entry, 14);
     CHECK(tally(log, 15, 2 * HB_LINE_MAX, all) == sizeof counted - 1 && memcmp(all, counted, sizeof counted - 1) == 0);
+
+    log[0] = 0x50, log[1] = 0x70, log[2] = 0x10, memcpy(log + 3, yakuman[DRAGONS].record, 13), log[16] = 0x50, log[17] = 0x50;
+    CHECK(tally(log, 18, 3 * HB_LINE_MAX, all) == sizeof fed - 1 && memcmp(all, fed, sizeof fed - 1) == 0);
 }
 
 /* A log of many entries, to the game's end and past it, and a bad one last. Gives its length. */
-enum { ROUNDS = 120, PER_ROUND = 20 };
+enum { ROUNDS = 120, PER_ROUND = 22, ENTRIES = 8 };
 static size_t many(uint8_t *log)
 {
     size_t length = 0;
     for (int round = 0; round < ROUNDS; round++) {
         log[length++] = (uint8_t)(round % 5);        /* riichi, of seat 4 refused */
+        log[length++] = 0x50;                        /* feed, of a seat to itself refused */
+        log[length++] = (uint8_t)(round * 8);
         memcpy(log + length, win_entry, 14);         /* refused after a riichi of seat 1 */
         length += 14;
         log[length++] = 0x01;
@@ -1180,15 +1342,15 @@ static size_t many(uint8_t *log)
 /* The log of many entries into buffers of many lengths, from none to all of the text, and the walk handed back and forth. */
 static void many_lines(void)
 {
-    static const size_t rooms[] = {HB_LINE_MAX, HB_LINE_MAX + 1, 100, 333, 1024, 4096, 7 * ROUNDS * HB_LINE_MAX};
-    static uint8_t whole[7 * ROUNDS * HB_LINE_MAX], text[7 * ROUNDS * HB_LINE_MAX], bytes[ROUNDS * PER_ROUND + 1];
+    static const size_t rooms[] = {HB_LINE_MAX, HB_LINE_MAX + 1, 100, 333, 1024, 4096, ENTRIES * ROUNDS * HB_LINE_MAX};
+    static uint8_t whole[ENTRIES * ROUNDS * HB_LINE_MAX], text[ENTRIES * ROUNDS * HB_LINE_MAX], bytes[ROUNDS * PER_ROUND + 1];
     size_t length = many(bytes), used = 0, entries = 0, line;
     CHECK(length == sizeof bytes);
     uint8_t *log = exact(bytes, length);
     HbWalk last = hb_start(), walk;
     while ((line = step(&last, log, length, whole + used, sizeof whole - used)) != 0)
         used += line, entries++;
-    CHECK(entries == 7 * ROUNDS && last.at == length - 1 && last.entry == 7 * ROUNDS + 1 && last.game.over == 1);
+    CHECK(entries == ENTRIES * ROUNDS && last.at == length - 1 && last.entry == ENTRIES * ROUNDS + 1 && last.game.over == 1);
     for (size_t n = 0; n < COUNT_OF(rooms); n++)
         CHECK_CASE(rooms[n], tally(log, length, rooms[n], text) == used && memcmp(text, whole, used) == 0);
 
@@ -1228,7 +1390,8 @@ static void walks_by_value(void)
 {
     static const uint8_t log[] = {0x01, 0x24};
     static const char line[] = "4000000000 D 9 1 -2 2147483647 -2147483648 4294967295\n";
-    const HbGame odd = {{1, -2, INT32_MAX, INT32_MIN}, UINT32_MAX, {6, 0x87, 0, 0xff}, 10, 11, 12, 0, 0xa1b2c3d4};
+    const HbGame odd = {{1, -2, INT32_MAX, INT32_MIN}, UINT32_MAX, {6, 0x87, 0, 0xff}, 10, 11, 12, 0, 0xa1b2c3d4,
+                        {21, 0, 23, 0xfe, 25, 26, 0x80, 28}};
     const HbWalk before = {odd, 1, 4000000000u}, after = {odd, 2, 4000000001u};
     uint8_t text[HB_LINE_MAX];
     HbPrinted printed = hb_lines(before, log, 2, text, sizeof text);
@@ -1328,6 +1491,8 @@ int main(void)
     refused_bookings();
     marks();
     counters();
+    fed_wins();
+    refused_feeds();
     not_ready();
     ends();
     entries();

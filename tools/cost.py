@@ -1,12 +1,13 @@
 #!/usr/bin/env python3
-"""cost.py [--stack | --waits | --ready]: what one Score costs, in instructions (valgrind --tool=callgrind) and in bytes of stack (frames of the compiled program).
+"""cost.py [--stack | --waits | --ready | --bookings]: what one Score costs, in instructions (valgrind --tool=callgrind) and in bytes of stack (frames of the compiled program).
 
 It runs the program `vectors` (made by `rt check vectors floor`) on hands of crates/vectors/stdin. A figure is that of one entry: reading
 54 bytes, Score, and comparing. Mean: over the first 10,000 entries. Costliest found: the hands are measured in blocks, and those of the
 three costliest blocks one by one, so a costly hand among cheap ones can be missed.
 Stack: Score's own frame is inlined into its caller. The program `floor` has it, with Win, in the frame of its main, so that frame stands
 in for it; under it five frames of the search, the judge, and the largest other frame of the scorer, called there or not.
-Slip: what hb_slip takes beyond hb_score, by a C program over the archive (`rt staticlib handset`). Waits: what hb_waits takes, by
+Slip: what hb_slip takes beyond hb_score, by a C program over the archive (`rt staticlib handset`). Bookings: what hb_win takes beyond
+hb_score, of a yakuman that was fed too, and what hb_feed takes, by another, with the copy of the game. Waits: what hb_waits takes, by
 another, over hands drawn from a wall, hands of one suit and hands one tile short of groups, 1,000 each from a fixed seed, and over
 hands of 3 to 5 neighbouring numbers, the widest searches that a climb over hands found. Ready: what hb_ready takes, over 100 of each of
 those sets, and the frame of hb_ready in that program, with the one under it; what the C library takes is left out.
@@ -90,6 +91,34 @@ def slips():
         for line, record in ((1, "b81e640210620a31661a9a6bb0"), (9, "201e60000005965acb2cc30d34")):
             each = {s: (run(1001, s, record)[0] - run(1, s, record)[0]) // 1000 for s in "01"}
             print(f"slip of line {line}: {each['1'] - each['0']} instructions beyond its Score, {each['0']}")
+
+
+BOOKINGS = """#include <stdlib.h>
+#include "herbassolh.h"
+int main(int argc, char **argv) {
+    uint8_t record[13];
+    for (int i = 0; i < 13; i++) { char two[3] = {argv[3][2 * i], argv[3][2 * i + 1]}; record[i] = strtol(two, 0, 16); }
+    HbGame start = hb_fresh();
+    if (argc > 4) hb_feed(&start, 1, 3, 28);
+    for (int n = atoi(argv[1]), what = atoi(argv[2]); n > 0; n--) {
+        HbGame game = start;
+        if (what == 0 ? hb_score(record, 13, 0, 0).refusal : what == 1 ? hb_win(&game, record, 13) : hb_feed(&game, 2, 3, 29)) return 1;
+    }
+    return 0;
+}
+"""
+
+
+def bookings():
+    """What booking a win takes beyond its Score, for line 1 of the table of hands and for three dragon triplets that were fed; what a feed takes."""
+    with tempfile.TemporaryDirectory() as d:
+        run = compiled(d, BOOKINGS)
+
+        def each(what, *words):
+            return (run(1001, what, *words)[0] - run(1, what, *words)[0]) // 1000
+        for name, words in (("line 1", ["b81e640210620a31661a9a6bb0"]), ("a yakuman that was fed", ["201684021068a2fbefc10410c2", "fed"])):
+            print(f"win of {name}: {each(1, *words) - each(0, *words)} instructions beyond its Score")
+        print(f"feed: {each(2, '00' * 13)} instructions")
 
 
 WAITS = """#include "herbassolh.h"
@@ -251,6 +280,8 @@ if "--waits" in sys.argv:
     waits()
 elif "--ready" in sys.argv:
     ready()
+elif "--bookings" in sys.argv:
+    bookings()
 elif "--stack" not in sys.argv:
     base = instructions([])
     first = entries[:10000]
@@ -259,6 +290,7 @@ elif "--stack" not in sys.argv:
     suit = [e for e in entries if one_suit(e)]
     print(f"costliest found of {len(suit)} one-suit hands: {worst(suit, base, 20):.0f} instructions")
     slips()
+    bookings()
     waits()
     ready()
     cards()

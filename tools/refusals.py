@@ -17,8 +17,8 @@ import tree
 
 PAGE = "docs/REFUSALS.md"
 HEADER = "include/herbassolh.h"
-BOOKINGS = ("Riichi", "Win", "Draw", "Chombo")
-LEFT_OUT = [("Win", 1), ("Draw", 8)]  # of an entry's booking
+BOOKINGS = ("Riichi", "Win", "Draw", "Chombo", "Feed")
+LEFT_OUT = [("Win", 1), ("Draw", 8), ("Feed", 8)]  # of an entry's booking
 
 
 def plain(text):

@@ -1,9 +1,10 @@
-//! The game and its four bookings (01, The game; 02, S-5 and S-7).
+//! The game and its five bookings (01, The game; 02, S-5, S-7 and S-8).
 
 use crate::booking::Booking;
 use crate::codec::read;
+use crate::fed::{self, DRAGONS, WINDS};
 use crate::record::{Hand, RON};
-use crate::score::score;
+use crate::score::{score, Scored};
 
 /// No score of an open game is under this (02, S-5).
 pub const FLOOR: i32 = -15_740_000;
@@ -24,13 +25,15 @@ pub struct Game {
     pub hands: u8,
     pub over: bool,
     pub counter: u32,
+    /// 1 + the seat that feeds a holder, 0 for none: place 0 + holder for the dragons, 4 + holder for the winds (02, S-8).
+    pub feeders: [u8; 8],
 }
 
 impl Game {
     /// A game at its start (01, The game).
     pub fn fresh() -> Game {
         let (sticks, declared) = (0, [false; 4]);
-        Game { scores: [30_000; 4], sticks, declared, dealer: 0, wind: 0, hands: 0, over: false, counter: 0 }
+        Game { scores: [30_000; 4], sticks, declared, dealer: 0, wind: 0, hands: 0, over: false, counter: 0, feeders: [0; 8] }
     }
 
     /// The number of declared seats (01, The game).
@@ -43,8 +46,13 @@ impl Game {
         self.scores.iter().map(|&score| score as i64).sum::<i64>() + STICK * self.sticks as i64
     }
 
-    /// Each way to be out of form (01, The game, refusal 9; 02, S-5).
-    pub fn form_faults(&self) -> [bool; 7] {
+    /// The seat that is named as the feeder of a holder's yaku, none if there is none (02, S-8).
+    pub fn feeder(&self, holder: u8, yaku: u8) -> Option<u8> {
+        self.feeders[place(holder, yaku)].checked_sub(1)
+    }
+
+    /// Each way to be out of form (01, The game, refusal 9; 02, S-5 and S-8).
+    pub fn form_faults(&self) -> [bool; 8] {
         [
             self.dealer > 3,
             self.wind > 1,
@@ -53,6 +61,7 @@ impl Game {
             self.scores.iter().any(|&score| score < FLOOR),
             self.total() != TOTAL,
             self.counter > self.hands as u32,
+            (0..4).any(|holder| [DRAGONS, WINDS].iter().any(|&yaku| self.feeder(holder, yaku).is_some_and(|seat| seat > 3 || seat == holder))),
         ]
     }
 
@@ -96,9 +105,10 @@ impl Game {
         self.finish(false);
     }
 
-    /// Finishes a hand and clears declarations (01, The game).
+    /// Finishes a hand, clears declarations and lets feeders lapse (01, The game; 02, S-8).
     fn finish(&mut self, passes: bool) {
         self.declared = [false; 4];
+        self.feeders = [0; 8];
         self.hands += 1;
         if passes {
             self.pass();
@@ -107,6 +117,11 @@ impl Game {
             self.over = true;
         }
     }
+}
+
+/// Where the feeder of a holder's yaku stands (02, S-8).
+fn place(holder: u8, yaku: u8) -> usize {
+    holder as usize + if yaku == DRAGONS { 0 } else { 4 }
 }
 
 /// Whether a seat is ready: four bits, seat 0 first (01, Draw).
@@ -132,17 +147,28 @@ pub fn riichi(game: &mut Game, seat: u8) -> u8 {
     0
 }
 
-/// Has each payer of a win pay more for the counters: 300 each by ron, 100 each on tsumo (02, S-5).
-fn pay_counters(game: &mut Game, hand: &Hand) {
-    let by_ron = hand.how == RON;
-    let more = if by_ron { 300 } else { 100 } * game.counter as i64;
-    for payer in (0..4).filter(|&seat| if by_ron { seat == hand.discarder } else { seat != hand.winner }) {
-        game.pay(payer as usize, -more);
-        game.pay(hand.winner as usize, more);
+/// Who feeds the yaku that a win is reported with, none if nobody is named (02, S-8).
+pub fn liable(game: &Game, hand: &Hand) -> Option<u8> {
+    game.feeder(hand.winner, fed::yaku(hand, game.dealer, game.wind)?)
+}
+
+/// What each payer pays for a win: Score's payments, and for the counters 300 by ron or 100 each on tsumo; of a win that was fed
+/// the feeder all on tsumo, and half by ron, the discarder half and the counters (01, Win; 02, S-5 and S-8).
+fn payments(game: &Game, hand: &Hand, scored: &Scored) -> Vec<(u8, i64)> {
+    let gain = scored.changes[hand.winner as usize] as i64;
+    let counter = game.counter as i64;
+    match (hand.how == RON, liable(game, hand)) {
+        (true, None) => vec![(hand.discarder, gain + 300 * counter)],
+        (true, Some(feeder)) => vec![(feeder, gain / 2), (hand.discarder, gain / 2 + 300 * counter)],
+        (false, Some(feeder)) => vec![(feeder, gain + 300 * counter)],
+        (false, None) => {
+            let others = (0..4).filter(|&seat| seat != hand.winner);
+            others.map(|seat| (seat, -scored.changes[seat as usize] as i64 + 100 * counter)).collect()
+        }
     }
 }
 
-/// Books a win; gives the refusal, 0 if accepted (01, Win).
+/// Books a win; gives the refusal, 0 if accepted (01, Win; 02, S-5 and S-8).
 pub fn win(game: &mut Game, record: &[u8]) -> u8 {
     if !game.is_open() {
         return 9;
@@ -159,10 +185,10 @@ pub fn win(game: &mut Game, record: &[u8]) -> u8 {
     if (hand.riichi != 0) != game.declared[winner] {
         return 11;
     }
-    for (seat, &change) in scored.changes.iter().enumerate() {
-        game.pay(seat, change as i64);
+    for (payer, points) in payments(game, &hand, &scored) {
+        game.pay(payer as usize, -points);
+        game.pay(winner, points);
     }
-    pay_counters(game, &hand);
     game.pay(winner, STICK * game.sticks as i64);
     game.sticks = 0;
     game.counter = if hand.winner == game.dealer { game.counter + 1 } else { 0 };
@@ -209,12 +235,28 @@ pub fn chombo(game: &mut Game, seat: u8) -> u8 {
     0
 }
 
-/// Books any of the four (01, The game).
+/// Books who fed whom with which yaku; gives the refusal, 0 if accepted (02, S-8).
+pub fn feed(game: &mut Game, holder: u8, feeder: u8, yaku: u8) -> u8 {
+    if holder > 3 || feeder > 3 {
+        return 8;
+    }
+    if !game.is_open() {
+        return 9;
+    }
+    if holder == feeder || ![DRAGONS, WINDS].contains(&yaku) || game.feeder(holder, yaku).is_some() {
+        return 18;
+    }
+    game.feeders[place(holder, yaku)] = feeder + 1;
+    0
+}
+
+/// Books any of the five (01, The game; 02, S-8).
 pub fn book(game: &mut Game, booking: &Booking) -> u8 {
     match booking {
         Booking::Riichi(seat) => riichi(game, *seat),
         Booking::Win(record) => win(game, record),
         Booking::Draw(bits) => draw(game, *bits),
         Booking::Chombo(seat) => chombo(game, *seat),
+        Booking::Feed { holder, feeder, yaku } => feed(game, *holder, *feeder, *yaku),
     }
 }

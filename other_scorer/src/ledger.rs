@@ -1,9 +1,11 @@
-//! The ledger: a second bookkeeping, from the bookings' arguments alone (01, Ledger; 02, S-5 and S-7).
+//! The ledger: a second bookkeeping, from the bookings' arguments alone (01, Ledger; 02, S-5, S-7 and S-8).
 //! It shares only the scoring of a win with the game.
 
-use std::collections::BTreeSet;
+use std::collections::{BTreeMap, BTreeSet};
 
-use crate::booking::Booking::{self, Chombo, Draw, Riichi, Win};
+use crate::booking::Booking::{self, Chombo, Draw, Feed, Riichi, Win};
+use crate::codec::read;
+use crate::fed;
 use crate::score::score;
 
 #[derive(Clone, Debug, PartialEq, Eq)]
@@ -16,6 +18,8 @@ pub struct Ledger {
     pub hands: u32,
     pub over: bool,
     pub counter: i64,
+    /// The feeder of each holder and yaku that are named (02, S-8).
+    pub fed: BTreeMap<(u8, u8), u8>,
 }
 
 /// The seats set in a draw's four bits, seat 0 first (01, Draw).
@@ -43,7 +47,7 @@ impl Ledger {
     /// The ledger before any booking (01, Ledger).
     pub fn fresh() -> Ledger {
         let (scores, declared) = ([30_000; 4], BTreeSet::new());
-        Ledger { scores, sticks: 0, declared, dealer: 0, wind: 0, hands: 0, over: false, counter: 0 }
+        Ledger { scores, sticks: 0, declared, dealer: 0, wind: 0, hands: 0, over: false, counter: 0, fed: BTreeMap::new() }
     }
 
     /// Whether the ledger's game is closed: over, or out of form (01, The game, refusal 9).
@@ -53,6 +57,7 @@ impl Ledger {
             && self.hands <= 200
             && self.declared.len() as i64 <= self.sticks
             && self.counter <= self.hands as i64
+            && self.fed.iter().all(|((holder, _), feeder)| *feeder <= 3 && feeder != holder)
             && self.scores.iter().all(|&score| -15_740_000 <= score)
             && self.scores.iter().sum::<i64>() + 1000 * self.sticks == 120_000;
         self.over || self.hands == 200 || !in_form
@@ -70,6 +75,10 @@ impl Ledger {
             },
             Draw(bits) => vec![(8, *bits > 15), (9, closed)],
             Chombo(seat) => vec![(8, *seat > 3), (9, closed)],
+            Feed { holder, feeder, yaku } => {
+                let unfit = holder == feeder || *yaku < 28 || *yaku > 29 || self.fed.contains_key(&(*holder, *yaku));
+                vec![(8, *holder.max(feeder) > 3), (9, closed), (18, unfit)]
+            }
         };
         met.into_iter().find(|(_, holds)| *holds).map_or(0, |(number, _)| number)
     }
@@ -85,12 +94,32 @@ impl Ledger {
         each * self.counter
     }
 
+    /// Who answers for the yaku that an accepted win is reported with, none where it is paid plainly (02, S-8).
+    fn answerable(&self, record: &[u8]) -> Option<u8> {
+        let yaku = fed::yaku(&read(record).ok()?, self.dealer, self.wind)?;
+        self.fed.get(&(winner(record), yaku)).copied()
+    }
+
+    /// What an accepted win gives or costs a seat, sticks left out: Score's change and the counters; of the payers of a win that
+    /// was fed, the feeder the whole, or half where there is a discarder, who has the other half and the counters (02, S-5 and S-8).
+    fn paid(&self, record: &[u8], seat: u8) -> i64 {
+        let changes = score(record, self.dealer, self.wind).changes.map(i64::from);
+        let feeder = self.answerable(record).filter(|_| seat != winner(record));
+        let Some(feeder) = feeder else { return changes[seat as usize] + self.added(record, seat) };
+        let whole = changes[winner(record) as usize];
+        let share = |payer: u8, points: i64| if payer == seat { -points } else { 0 };
+        match discarder(record) {
+            None => share(feeder, whole + 300 * self.counter),
+            Some(payer) => share(feeder, whole / 2) + share(payer, whole / 2 + 300 * self.counter),
+        }
+    }
+
     /// The seats of which an accepted booking is a chombo: one, or those declared and not ready at a draw (01, Ledger; 02, S-7).
     fn faulty(&self, booking: &Booking) -> BTreeSet<u8> {
         match booking {
             Chombo(seat) => BTreeSet::from([*seat]),
             Draw(bits) => &self.declared - &ready(*bits),
-            Riichi(_) | Win(_) => BTreeSet::new(),
+            Riichi(_) | Win(_) | Feed { .. } => BTreeSet::new(),
         }
     }
 
@@ -100,16 +129,14 @@ impl Ledger {
         3000 * faulty.len() as i64 - 12_000 * faulty.contains(&seat) as i64 + back
     }
 
-    /// What an accepted booking gives or costs a seat (01, Ledger; 02, S-5 and S-7).
+    /// What an accepted booking gives or costs a seat (01, Ledger; 02, S-5, S-7 and S-8).
     fn moved(&self, booking: &Booking, seat: u8) -> i64 {
         let faulty = self.faulty(booking);
         match booking {
             Riichi(own) if *own == seat => -1000,
-            Riichi(_) => 0,
-            Win(record) => {
-                let change = score(record, self.dealer, self.wind).changes[seat as usize] as i64 + self.added(record, seat);
-                if winner(record) == seat { change + 1000 * self.sticks } else { change }
-            }
+            Riichi(_) | Feed { .. } => 0,
+            Win(record) if winner(record) == seat => self.paid(record, seat) + 1000 * self.sticks,
+            Win(record) => self.paid(record, seat),
             Draw(bits) if faulty.is_empty() => {
                 let ready = ready(*bits);
                 match ready.len() as i64 {
@@ -127,6 +154,7 @@ impl Ledger {
         match booking {
             Riichi(_) => self.sticks + 1,
             Win(_) => 0,
+            Feed { .. } => self.sticks,
             Draw(_) if self.faulty(booking).is_empty() => self.sticks,
             Draw(_) | Chombo(_) => self.sticks - self.declared.len() as i64,
         }
@@ -138,7 +166,7 @@ impl Ledger {
             Win(record) if winner(record) != self.dealer => 0,
             Win(_) => self.counter + 1,
             Draw(_) if self.faulty(booking).is_empty() => self.counter + 1,
-            Riichi(_) | Draw(_) | Chombo(_) => self.counter,
+            Riichi(_) | Draw(_) | Chombo(_) | Feed { .. } => self.counter,
         }
     }
 
@@ -147,7 +175,7 @@ impl Ledger {
         match booking {
             Win(record) => winner(record) != self.dealer,
             Draw(bits) if self.faulty(booking).is_empty() => !ready(*bits).contains(&self.dealer),
-            Riichi(_) | Draw(_) | Chombo(_) => false,
+            Riichi(_) | Draw(_) | Chombo(_) | Feed { .. } => false,
         }
     }
 
@@ -167,7 +195,12 @@ impl Ledger {
             next.declared.insert(*seat);
             return (next, 0);
         }
+        if let Feed { holder, feeder, yaku } = booking {
+            next.fed.insert((*holder, *yaku), *feeder);
+            return (next, 0);
+        }
         next.declared.clear();
+        next.fed.clear();
         next.hands += 1;
         let deal = 4 * self.wind + self.dealer + self.passes(booking) as u8;
         next.over = deal == 8 || next.hands == 200;

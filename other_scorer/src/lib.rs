@@ -22,6 +22,7 @@ pub mod yaku;
 pub mod yakuman;
 
 pub mod booking;
+pub mod fed;
 pub mod game;
 pub mod ledger;
 pub mod log;

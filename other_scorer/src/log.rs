@@ -1,13 +1,15 @@
-//! Walking a log, and the lines of program tally (01, Log).
+//! Walking a log, and the lines of program tally (01, Log; 02, S-8).
 
 use crate::booking::Booking;
 use crate::codec::{length, meld_count};
+use crate::fed::{DRAGONS, WINDS};
 use crate::game::{book, Game};
 
 pub const RIICHI: u8 = 0;
 pub const WIN: u8 = 1;
 pub const DRAW: u8 = 2;
 pub const CHOMBO: u8 = 3;
+pub const FEED: u8 = 5;
 
 /// Program tally reads no bytes past this (01, Log).
 pub const LONGEST: usize = 65_536;
@@ -20,10 +22,11 @@ pub enum Next<'a> {
     Bad(u8),
 }
 
-/// The ways to meet refusal 14 in words, by the number that `size` gives (01, Next entry).
-pub const ENTRY_FAULTS: [&str; 4] = ["kind over 3", "win argument not 0", "m over 4", "bytes missing"];
+/// The ways to meet refusal 14 in words, by the number that `size` gives (01, Next entry; 02, S-8).
+pub const ENTRY_FAULTS: [&str; 6] =
+    ["no such kind", "win argument not 0", "m over 4", "bytes missing", "feed argument not 0", "a zero bit of a feed set"];
 
-/// The length of the entry that a non-empty stretch starts with; the error is how it is bad (01, Next entry).
+/// The length of the entry that a non-empty stretch starts with; the error is how it is bad (01, Next entry; 02, S-8).
 pub fn size(rest: &[u8]) -> Result<usize, usize> {
     let size = match (rest[0] >> 4, rest[0] & 15) {
         (RIICHI | DRAW | CHOMBO, _) => 1,
@@ -32,6 +35,11 @@ pub fn size(rest: &[u8]) -> Result<usize, usize> {
             m => 1 + length(m),
         },
         (WIN, _) => return Err(1),
+        (FEED, 0) => match rest.get(1).ok_or(3usize)? % 8 {
+            0 => 2,
+            _ => return Err(5),
+        },
+        (FEED, _) => return Err(4),
         _ => return Err(0),
     };
     if size <= rest.len() { Ok(size) } else { Err(3) }
@@ -49,12 +57,16 @@ pub fn next(log: &[u8], offset: usize) -> Next<'_> {
     }
 }
 
-/// The booking of an entry; a win's record follows the header (01, Log).
+/// The booking of an entry; a win's record, or a feed's byte, follows the header (01, Log; 02, S-8).
 pub fn booking(kind: u8, argument: u8, part: &[u8]) -> Booking {
     match kind {
         RIICHI => Booking::Riichi(argument),
         WIN => Booking::Win(part[1..].to_vec()),
         DRAW => Booking::Draw(argument),
+        FEED => {
+            let (seats, yaku) = (part[1] / 16, if part[1] % 16 / 8 == 0 { DRAGONS } else { WINDS });
+            Booking::Feed { holder: seats / 4, feeder: seats % 4, yaku }
+        }
         _ => Booking::Chombo(argument),
     }
 }
@@ -75,13 +87,14 @@ pub fn bookings(log: &[u8]) -> (Vec<Booking>, u8) {
     }
 }
 
-/// The letter of a booking (01, Log).
+/// The letter of a booking (01, Log; 02, S-8).
 pub fn letter(booking: &Booking) -> char {
     match booking {
         Booking::Riichi(_) => 'R',
         Booking::Win(_) => 'W',
         Booking::Draw(_) => 'D',
         Booking::Chombo(_) => 'C',
+        Booking::Feed { .. } => 'P',
     }
 }
 

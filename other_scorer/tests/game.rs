@@ -1,7 +1,8 @@
-//! The four bookings: refusals in their order, points, deal, wind and mark (01, The game), the counter (02, S-5) and seats that are not ready (02, S-7).
+//! The five bookings: refusals in their order, points, deal, wind and mark (01, The game), the counter (02, S-5), seats that are not
+//! ready (02, S-7) and feeders (02, S-8).
 
 use other_scorer::codec::pack;
-use other_scorer::game::{book, chombo, draw, riichi, win, FLOOR};
+use other_scorer::game::{book, chombo, draw, feed, riichi, win, FLOOR};
 use other_scorer::notation::parse;
 use other_scorer::{Booking, Game};
 
@@ -59,6 +60,10 @@ fn not_open() -> Vec<Game> {
         Game { counter: 1, ..fresh },
         Game { counter: 200, hands: 199, ..fresh },
         Game { counter: u32::MAX, hands: 199, ..fresh },
+        Game { feeders: [0, 0, 5, 0, 0, 0, 0, 0], ..fresh },
+        Game { feeders: [0, 0, 0, 0, 0, 0, 0, 255], ..fresh },
+        Game { feeders: [1, 0, 0, 0, 0, 0, 0, 0], ..fresh },
+        Game { feeders: [2, 3, 4, 1, 2, 3, 3, 1], ..fresh },
         Game { scores: [30_000, 30_000, 30_000, 30_001], ..fresh },
         Game { scores: [29_000, 30_000, 30_000, 30_000], ..fresh },
         Game { sticks: 1, ..fresh },
@@ -311,4 +316,116 @@ fn counters_are_paid_by_the_ron_payer_or_by_each_on_tsumo() {
         assert_eq!(book(&mut game, &Booking::Win(win)), 0);
         assert_eq!((game.scores, game.counter), (scores, counter));
     }
+}
+
+/// A booking of who fed whom.
+fn fed(holder: u8, feeder: u8, yaku: u8) -> Booking {
+    Booking::Feed { holder, feeder, yaku }
+}
+
+const DRAGONS: &str = "234mPPPFFFCC99p+C";
+const WINDS: &str = "EEESSSWWWNN99p+N";
+const THREE_WINDS: &str = "EEESSSWWNN789p+W";
+
+/// A yakuman won by a seat, from another or by tsumo.
+fn yakuman(tiles: &str, seat: u8, from: Option<u8>) -> Booking {
+    let how = from.map_or("tsumo".to_string(), |from| format!("ron={from}"));
+    Booking::Win(record(&[tiles, &format!("seat={seat}"), &how, "indicator=5s"]))
+}
+
+#[test]
+fn feed_refuses_8_9_18() {
+    let named = after(&[fed(1, 3, 28)]);
+    for game in not_open().into_iter().chain([Game { over: true, ..named }]) {
+        for (holder, feeder) in [(4, 0), (0, 4), (4, 4), (255, 1), (1, 255)] {
+            assert_eq!(number(&game, fed(holder, feeder, 28)), 8);
+            assert_eq!(number(&game, fed(holder, feeder, 27)), 8);
+        }
+        for booking in [fed(2, 3, 28), fed(2, 2, 28), fed(2, 3, 30), fed(1, 3, 28)] {
+            assert_eq!(number(&game, booking), 9);
+        }
+    }
+    for yaku in 0..=255 {
+        let fits = yaku == 28 || yaku == 29;
+        assert_eq!(number(&Game::fresh(), fed(2, 0, yaku)), if fits { 0 } else { 18 });
+        assert_eq!(number(&Game::fresh(), fed(2, 2, yaku)), 18);
+    }
+    // Named already, with whatever feeder; another holder, or the other yaku, is free.
+    for (booking, refusal) in [(fed(1, 3, 28), 18), (fed(1, 0, 28), 18), (fed(1, 3, 29), 0), (fed(2, 3, 28), 0), (fed(3, 1, 28), 0)] {
+        assert_eq!(number(&named, booking), refusal);
+    }
+}
+
+#[test]
+fn a_feed_names_its_place_alone() {
+    let mut game = Game::fresh();
+    assert_eq!((feed(&mut game, 1, 3, 28), feed(&mut game, 0, 2, 29), riichi(&mut game, 2)), (0, 0, 0));
+    assert_eq!(game, Game { feeders: [0, 4, 0, 0, 3, 0, 0, 0], ..after(&[Booking::Riichi(2)]) });
+}
+
+#[test]
+fn the_feeder_pays_on_tsumo_and_half_by_ron() {
+    let start = Game { counter: 2, hands: 2, ..Game::fresh() };
+    let (dragons, winds) = (28, 29);
+    for (tiles, yaku, feeder, seat, from, scores) in [
+        // A child's 32,000 and 600 for two counters.
+        (DRAGONS, dragons, 3, 1, None, [30_000, 62_600, 30_000, -2600]),
+        (WINDS, winds, 0, 1, None, [-2600, 62_600, 30_000, 30_000]),
+        (DRAGONS, dragons, 3, 1, Some(2), [30_000, 62_600, 13_400, 14_000]),
+        (WINDS, winds, 0, 1, Some(3), [14_000, 62_600, 30_000, 13_400]),
+        (DRAGONS, dragons, 3, 1, Some(3), [30_000, 62_600, 30_000, -2600]),
+        // The dealer's 48,000.
+        (WINDS, winds, 2, 0, None, [78_600, 30_000, -18_600, 30_000]),
+        (DRAGONS, dragons, 2, 0, Some(1), [78_600, 5400, 6000, 30_000]),
+        (WINDS, winds, 2, 0, Some(2), [78_600, 30_000, -18_600, 30_000]),
+        // Paid plainly: the other yaku, another holder, three winds and a pair.
+        (DRAGONS, winds, 3, 1, None, [13_800, 62_600, 21_800, 21_800]),
+        (WINDS, dragons, 3, 1, Some(2), [30_000, 62_600, -2600, 30_000]),
+        (DRAGONS, dragons, 3, 2, None, [13_800, 21_800, 62_600, 21_800]),
+        (THREE_WINDS, winds, 3, 1, None, [13_800, 62_600, 21_800, 21_800]),
+        (THREE_WINDS, winds, 3, 1, Some(2), [30_000, 62_600, -2600, 30_000]),
+    ] {
+        let mut game = start;
+        let holder = if seat == 0 { 0 } else { 1 };
+        assert_eq!((book(&mut game, &fed(holder, feeder, yaku)), book(&mut game, &yakuman(tiles, seat, from))), (0, 0));
+        assert_eq!((game.scores, game.feeders), (scores, [0; 8]), "{tiles} {yaku} {feeder} {seat} {from:?}");
+        assert_eq!((game.dealer, game.counter, game.hands), if seat == 0 { (0, 3, 3) } else { (1, 0, 3) });
+    }
+}
+
+#[test]
+fn the_winner_of_a_fed_hand_takes_all_sticks() {
+    let start = [Booking::Riichi(3), Booking::Draw(1), Booking::Riichi(0), fed(2, 1, 28), Booking::Riichi(3), yakuman(DRAGONS, 2, None)];
+    let game = after(&start);
+    assert_eq!((game.scores, game.sticks), ([28_000, 29_000 - 32_300, 29_000 + 32_300 + 3000, 31_000], 0));
+}
+
+#[test]
+fn melded_triplets_and_kans_are_fed_too() {
+    let mut game = after(&[fed(3, 0, 29)]);
+    let winds = record(&["5s+5s", "pon=EEE", "kan=SSSS", "ankan=WWWW", "pon=NNN", "seat=3", "ron=2", "indicator=1m"]);
+    assert_eq!((win(&mut game, &winds), game.scores), (0, [14_000, 30_000, 14_000, 62_000]));
+    let mut game = after(&[fed(3, 0, 28)]);
+    let dragons = record(&["44s67p+5p", "pon=PPP", "kan=FFFF", "ankan=CCCC", "seat=3", "tsumo", "indicator=1m"]);
+    assert_eq!((win(&mut game, &dragons), game.scores), (0, [-2000, 30_000, 30_000, 62_000]));
+}
+
+#[test]
+fn feeders_lapse_at_each_end_of_a_hand() {
+    let plain = after(&[Booking::Chombo(0), yakuman(WINDS, 0, None)]);
+    assert_eq!(plain.scores, [21_000 + 48_000, 33_000 - 16_000, 33_000 - 16_000, 33_000 - 16_000]);
+    for end in [Booking::Chombo(0), Booking::Draw(0b1000), Booking::Draw(0b1111), Booking::Win(pinfu(0, 3, &[]))] {
+        let mut game = after(&[fed(0, 1, 29), fed(2, 1, 29)]);
+        assert_eq!(game.feeders, [0, 0, 0, 0, 2, 0, 2, 0]);
+        assert_eq!((book(&mut game, &end), game.feeders), (0, [0; 8]));
+        let before = game.scores;
+        let more = 16_000 + 100 * game.counter as i32;
+        assert_eq!(book(&mut game, &yakuman(WINDS, 0, None)), 0);
+        assert_eq!(game.scores, [before[0] + 3 * more, before[1] - more, before[2] - more, before[3] - more]);
+    }
+    let mut game = after(&[fed(0, 1, 29), Booking::Riichi(2)]);
+    assert_eq!((game.feeders[4], draw(&mut game, 0), game.feeders), (2, 0, [0; 8]));
+    let mut game = after(&[fed(0, 1, 29), fed(0, 2, 28)]);
+    assert_eq!((book(&mut game, &yakuman(WINDS, 0, None)), game.feeders), (0, [0; 8]));
+    assert_eq!(number(&game, fed(0, 1, 29)), 0);
 }

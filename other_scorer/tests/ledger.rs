@@ -1,8 +1,12 @@
-//! The game against the ledger over random lists of bookings (01, Ledger).
+//! The game against the ledger over random lists of bookings (01, Ledger; 02, S-5, S-7 and S-8).
 
 mod chance;
+#[path = "chance/cases.rs"]
+mod cases;
 #[path = "chance/games.rs"]
 mod games;
+
+use std::collections::BTreeMap;
 
 use other_scorer::game::book;
 use other_scorer::rng::Rng;
@@ -19,6 +23,7 @@ fn ledger(game: &Game) -> Ledger {
         hands: game.hands as u32,
         over: game.over,
         counter: game.counter as i64,
+        fed: (0..4).flat_map(|holder| [28, 29].map(|yaku| ((holder, yaku), game.feeder(holder, yaku)))).filter_map(|(key, seat)| Some((key, seat?))).collect(),
     }
 }
 
@@ -26,10 +31,18 @@ fn ledger(game: &Game) -> Ledger {
 #[derive(Default)]
 struct Reached {
     bookings: usize,
-    numbers: [usize; 13],
+    numbers: [usize; 19],
     by_deal: usize,
     by_hands: usize,
     unready: [usize; 4],
+    met: BTreeMap<&'static str, usize>,
+}
+
+impl Reached {
+    /// The cases of feeders that were met fewer times than this.
+    fn short(&self, least: usize) -> Vec<&'static str> {
+        cases::CASES.into_iter().filter(|case| self.met.get(case).is_none_or(|&count| count < least)).collect()
+    }
 }
 
 /// Books a random list on a game and on a ledger, comparing after each booking.
@@ -52,6 +65,7 @@ fn compare(rng: &mut Rng, start: Game, length: usize, keep: bool, reached: &mut 
         }
         reached.bookings += 1;
         reached.numbers[number as usize] += 1;
+        cases::met(&before, &booking, number).into_iter().for_each(|case| *reached.met.entry(case).or_default() += 1);
         if let (Booking::Draw(bits), 0) = (&booking, number) {
             let unready = before.unready(*bits).len();
             if unready > 0 {
@@ -74,13 +88,14 @@ fn compare(rng: &mut Rng, start: Game, length: usize, keep: bool, reached: &mut 
 fn fresh_games() {
     let mut rng = Rng::new(21);
     let mut reached = Reached::default();
-    while reached.bookings < 150_000 {
+    while reached.bookings < 200_000 {
         let keep = rng.percent(40);
-        let length = if keep { 700 } else { 60 };
+        let length = if keep { 800 } else { 70 };
         compare(&mut rng, Game::fresh(), length, keep, &mut reached);
     }
-    let missing: Vec<usize> = (0..13).filter(|&n| reached.numbers[n] == 0).collect();
-    assert_eq!(missing, [12], "refusals not reached");
+    let missing: Vec<usize> = (0..19).filter(|&n| reached.numbers[n] == 0).collect();
+    assert_eq!(missing, [12, 13, 14, 15, 16, 17], "refusals not reached");
+    assert_eq!(reached.short(50), ["feeders out of form alone"], "{:?}", reached.met);
     assert!(reached.unready.iter().all(|&count| count > 0), "{:?}", reached.unready);
     assert!(reached.by_deal > 100 && reached.by_hands > 20);
 }
@@ -89,13 +104,14 @@ fn fresh_games() {
 fn games_of_any_value() {
     let mut rng = Rng::new(22);
     let mut reached = Reached::default();
-    while reached.bookings < 150_000 {
+    while reached.bookings < 200_000 {
         let kind = if rng.percent(80) { games::in_form } else { games::disturbed };
         let start = kind(&mut rng);
         let (length, keep) = (1 + rng.below(8), rng.percent(50));
         compare(&mut rng, start, length, keep, &mut reached);
     }
     assert!(reached.unready.iter().all(|&count| count > 10), "{:?}", reached.unready);
-    assert!((0..12).all(|n| reached.numbers[n] > 20) && reached.numbers[12] == 0, "{:?}", reached.numbers);
+    assert!((0..12).chain([18]).all(|n| reached.numbers[n] > 20) && reached.numbers[12] == 0, "{:?}", reached.numbers);
+    assert_eq!(reached.short(50), [""; 0], "{:?}", reached.met);
     assert!(reached.by_deal > 100 && reached.by_hands > 100);
 }

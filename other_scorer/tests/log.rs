@@ -1,10 +1,10 @@
-//! Walking a log and the lines of program tally (01, Log).
+//! Walking a log and the lines of program tally (01, Log; 02, S-8).
 
 use other_scorer::booking::Booking;
 use other_scorer::codec::pack;
 use other_scorer::deal::themed;
 use other_scorer::example::{example, survey::survey, End};
-use other_scorer::log::{bookings, next, tally_lines, Next, LONGEST, WIN};
+use other_scorer::log::{bookings, next, tally_lines, Next, FEED, LONGEST, WIN};
 use other_scorer::rng::Rng;
 use other_scorer::Ledger;
 
@@ -54,7 +54,7 @@ fn bad_headers_and_melds() {
     for header in 0..=255u8 {
         let mut log = [0; 20];
         log[0] = header;
-        let bad = header >> 4 > 3 || header >> 4 == 1 && header & 15 != 0;
+        let bad = header >> 4 > 5 || header >> 4 == 4 || [1, 5].contains(&(header >> 4)) && header & 15 != 0;
         assert_eq!(next(&log, 0) == Next::Bad(14), bad, "{header:02x}");
     }
     for m in 0..8u8 {
@@ -66,6 +66,28 @@ fn bad_headers_and_melds() {
         match (next(&log, 0), size) {
             (Next::Entry { part, .. }, Some(&size)) => assert_eq!(part.len(), size),
             (other, _) => assert_eq!((other, m > 4), (Next::Bad(14), true)),
+        }
+    }
+}
+
+#[test]
+fn the_byte_of_a_feed() {
+    for byte in 0..=255u8 {
+        let log = [0x50, byte, 0x50];
+        let (holder, feeder, yaku) = (byte >> 6, byte >> 4 & 3, 28 + (byte >> 3 & 1));
+        if byte & 7 != 0 {
+            assert_eq!(next(&log, 0), Next::Bad(14), "{byte:02x}");
+            continue;
+        }
+        assert_eq!(next(&log, 0), Next::Entry { kind: FEED, argument: 0, part: &log[..2] });
+        let booking = Booking::Feed { holder, feeder, yaku };
+        assert_eq!(booking.bytes(), log[..2]);
+        assert_eq!(bookings(&log), (vec![booking], 14));
+        let refusal = if holder == feeder { 18 } else { 0 };
+        assert_eq!(tally_lines(&log), format!("1 P {refusal} 30000 30000 30000 30000 0\n"));
+        assert_eq!(next(&log[..1], 0), Next::Bad(14));
+        for argument in 1..16 {
+            assert_eq!(next(&[0x50 | argument, byte], 0), Next::Bad(14));
         }
     }
 }
@@ -109,7 +131,7 @@ fn examples_cover_everything_and_agree_with_the_ledger() {
         for (at, booking) in list.iter().enumerate() {
             let (next, number) = ledger.after(booking);
             let ([a, b, c, d], sticks) = (next.scores, next.sticks);
-            let letter = ['R', 'W', 'D', 'C'][(booking.bytes()[0] >> 4) as usize];
+            let letter = ['R', 'W', 'D', 'C', '?', 'P'][(booking.bytes()[0] >> 4) as usize];
             lines += &format!("{} {letter} {number} {a} {b} {c} {d} {sticks}\n", at + 1);
             ledger = next;
         }

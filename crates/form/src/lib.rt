@@ -1,4 +1,4 @@
-// Whether a game is open (01, The game, refusal 9; 02, S-5): marked over, at its last hand, or out of form. Any value of the struct may be given.
+// Whether a game is open (01, The game, refusal 9; 02, S-5 and S-8): marked over, at its last hand, or out of form. Any value of the struct may be given.
 ghost use mathlib.Core.Path.{_≡_};
 ghost use mathlib.Core.Bool.{false};
 ghost use Prim.Native.Nat.{_≤_};
@@ -6,7 +6,7 @@ ghost use lib.IntN.{pos};
 ghost use lib.ListN.{getD};
 ghost use lib.Signed.{ltZ};
 ghost use Rattle.tiles.specs.Below.{any, count, tabulate};
-ghost use Rattle.ledger.specs.Ledger.{pointsInPlay, floor, isSet, mark, eqZ, notOpen};
+ghost use Rattle.ledger.specs.Ledger.{pointsInPlay, floor, isSet, mark, eqZ, wrongFeeder, notOpen};
 ghost use Rattle.ledger.specs.laws.Form.{sumOf};
 use ledger::FLOOR;
 use ledger::Game;
@@ -34,6 +34,20 @@ pub fn count_true(b: [bool; 4]) -> u32
     (mark(b[0]) + mark(b[1]) + mark(b[2]) + mark(b[3])) as u32
 }
 
+// A feeder is over 3, or its own holder.
+fn any_wrong(f: [u8; 8]) -> bool
+    ensures { λ r. ⌜ r ≡ any 8 (λ i. wrongFeeder i (getD f i 0)) ⌝ }
+{
+    ((4 < f[0]) | (f[0] == 1))
+        | ((4 < f[1]) | (f[1] == 2))
+        | ((4 < f[2]) | (f[2] == 3))
+        | ((4 < f[3]) | (f[3] == 4))
+        | ((4 < f[4]) | (f[4] == 1))
+        | ((4 < f[5]) | (f[5] == 2))
+        | ((4 < f[6]) | (f[6] == 3))
+        | ((4 < f[7]) | (f[7] == 4))
+}
+
 // A score is under the floor.
 fn any_low(s: [i32; 4]) -> bool
     ensures { λ r. ⌜ r ≡ any 4 (λ i. ltZ (getD s i (pos 0)) floor) ⌝ }
@@ -58,11 +72,13 @@ pub fn not_open(g: Game) -> bool
 {
     let s = g.scores;
     let d = g.declared;
+    let f = g.feeders;
     let out = (3 < g.dealer)
         | (1 < g.wind)
         | (LAST_HAND < g.hands)
         | (g.sticks < count_true(set_marks(d)))
         | ((g.hands as u32) < g.counter)
+        | any_wrong(f)
         | any_low(s)
         | !balanced(s, g.sticks);
     ((0 < g.over) | (g.hands == LAST_HAND)) | out

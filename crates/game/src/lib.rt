@@ -1,11 +1,12 @@
-// The game: riichi, draw and chombo by value. Any value of the struct may be given; no sum wraps.
+// The game: riichi, draw, chombo and a named feeder by value. Any value of the struct may be given; no sum wraps.
 ghost use mathlib.Core.Path.{_≡_};
 ghost use mathlib.Core.Bool.{false, _&&_, not};
+ghost use Prim.Native.Nat.{_≤_};
 ghost use lib.Dec.{eqb};
 ghost use lib.ListN.{getD};
 ghost use Rattle.tiles.specs.Below.{any, tabulate};
 ghost use Rattle.ledger.specs.Booking as Booking;
-ghost use Rattle.ledger.specs.Ledger.{isSet, fresh, isReady};
+ghost use Rattle.ledger.specs.Ledger.{isSet, fresh, isReady, wrongFeed};
 ghost use Rattle.ledger.specs.Runs.{Booked};
 use ledger::Game;
 
@@ -21,6 +22,7 @@ pub fn fresh_game() -> Game
 {
     let scores = [30000i32, 30000, 30000, 30000];
     let declared = [0u8, 0, 0, 0];
+    let feeders = [0u8, 0, 0, 0, 0, 0, 0, 0];
     Game {
         scores,
         sticks: 0,
@@ -30,6 +32,7 @@ pub fn fresh_game() -> Game
         hands: 0,
         over: 0,
         counter: 0,
+        feeders,
     }
 }
 
@@ -154,6 +157,49 @@ pub fn chombo(g: Game, seat: u8) -> Outcome
         };
     }
     let h = moves::penalise(g, only(seat));
+    Outcome {
+        refusal: 0,
+        game: h,
+    }
+}
+
+// The feeder cannot be named: the holder is the feeder, the yaku is neither 28 nor 29, or the holder has a feeder for it already.
+fn wrong_feed(g: Game, holder: u8, feeder: u8, yaku: u8) -> bool
+    requires { ⌜ holder ≤ 3 ⌝ }
+    ensures { λ r. ⌜ r ≡ wrongFeed g holder feeder yaku ⌝ }
+{
+    if (holder == feeder) | !((yaku == 28) | (yaku == 29)) {
+        return true;
+    }
+    let f = g.feeders;
+    let i = (4 * (yaku - 28) + holder) as usize;
+    0 < f[i]
+}
+
+// Feed: the feeder of a holder's yaku, 28 or 29, is named for this hand. Refused with 8, a seat over 3; 9, a game that is not open;
+// 18, a holder who is the feeder, another yaku, or one that is named already.
+pub fn feed(g: Game, holder: u8, feeder: u8, yaku: u8) -> Outcome
+    ensures { λ r. ⌜ Booked g (Booking.feed holder feeder yaku) (r .refusal) (r .game) ⌝ }
+{
+    if (3 < holder) | (3 < feeder) {
+        return Outcome {
+            refusal: 8,
+            game: g,
+        };
+    }
+    if form::not_open(g) {
+        return Outcome {
+            refusal: 9,
+            game: g,
+        };
+    }
+    if wrong_feed(g, holder, feeder, yaku) {
+        return Outcome {
+            refusal: 18,
+            game: g,
+        };
+    }
+    let h = moves::name_feeder(g, holder, feeder, yaku);
     Outcome {
         refusal: 0,
         game: h,

@@ -161,6 +161,16 @@ pub extern "C" fn hb_chombo(g: &mut Game, seat: u8) -> u8
     b.refusal
 }
 
+// The feeder of a holder's yaku, 28 or 29, named for this hand.
+#[no_mangle]
+pub extern "C" fn hb_feed(g: &mut Game, holder: u8, feeder: u8, yaku: u8) -> u8
+    ensures { λ r. ⌜ Booked (now (g .entry)) (Booking.feed holder feeder yaku) r (now (g .exit)) ⌝ }
+{
+    let b = game::feed(*g, holder, feeder, yaku);
+    *g = b.game;
+    b.refusal
+}
+
 // Next entry of a log from an offset: its kind, argument, letter and length, header included. Where there is none all is zero but the refusal, 14, or `end`.
 #[no_mangle]
 pub extern "C" fn hb_next(s: &[u8], at: usize) -> NextEntry

@@ -1,4 +1,4 @@
--- The bookings (01, The game).
+-- The bookings (01, The game; 02, S-8).
 use mathlib.Core.List.{List}
 use Prim.Native.Nat.{ℕ}
 
@@ -8,3 +8,5 @@ pub data Booking : Type 0 where
   win : List ℕ → Booking
   draw : ℕ → Booking
   chombo : ℕ → Booking
+  -- "A new booking names holder, feeder and yaku" (02, S-8)
+  feed : ℕ → ℕ → ℕ → Booking

@@ -6,19 +6,29 @@ use Prim.Native.Nat.{ℕ, _*_, _≤_, _<_}
 use lib.Dec.{eqb}
 use lib.IntN.{pos, negℤ, _+ℤ_}
 use lib.Signed.{ltZ}
+use lib.ListN.{getD}
 use Rattle.tiles.specs.Below.{any}
+use Rattle.hand_record.specs.Record.{IsSound}
+use Rattle.hand_record.specs.Claims.{sound}
+use Rattle.reading.specs.declared.Reading.{Reading}
+use Rattle.groups.specs.Tests.{winds}
+use Rattle.score.specs.Named.{groupsOf, IsReadingOf, scoredAs}
 use Rattle.ledger.specs.declared.Game.{Game}
 use Rattle.ledger.specs.Booking.{Booking, draw}
-use Rattle.ledger.specs.Ledger.{fresh, scoreAt, declarations, floor, outOfForm, refusalFor, repeatGives, fineOf, chomboGives, chomboOf, isAtFault, after, ledgerFrom, ledger}
+use Rattle.ledger.specs.Ledger.{fresh, scoreAt, declarations, feederAt, floor, outOfForm, notOpen, handFor, refusalFor, settles, repeatGives, wholeOf, fedPays, wonBy, holdsFourWinds, fineOf, chomboGives, chomboOf, isAtFault, effectOf, after, ledgerFrom, ledger}
 use Rattle.ledger.specs.Runs.{Runs, Every}
 pub use Rattle.ledger.specs.Runs.{refusalsFrom}
-pub use Rattle.ledger.specs.Demand3.{BestWithCounters, OfWin, Demand3}
+pub use Rattle.ledger.specs.Demand3.{changeBy, fedBy, BestWithCounters, OfWin, Demand3}
 pub use Rattle.ledger.specs.NotReady.{BookedAsChombo}
+pub use Rattle.ledger.specs.Article67.{Article67}
 use Rattle.ledger.specs.laws.Demand3 as laws
 use Rattle.ledger.specs.laws.Lists as lists
 use Rattle.ledger.specs.laws.Repeat as repeat
 use Rattle.ledger.specs.laws.Fines as fines
 use Rattle.ledger.specs.laws.NotReady as not-ready
+use Rattle.ledger.specs.laws.Fed as fed
+use Rattle.ledger.specs.laws.Tiles as tiles
+use Rattle.ledger.specs.laws.Winds as by-tiles
 
 -- demand 3
 pub demand-3 : (bs : List Booking) (ns : List ℕ) (g : Game) → Runs fresh bs ns g → Demand3 bs ns g
@@ -35,13 +45,13 @@ never-below-floor = laws.never-below-floor
 -- ---- repeat counters (02, S-5)
 
 -- "this addition": the four sum to 0
-pub addition-sums-zero : (winner discarder : ℕ) (ron : Bool) (n : ℕ) → winner ≤ 3 →
-    repeatGives winner discarder ron n 0 +ℤ repeatGives winner discarder ron n 1 +ℤ repeatGives winner discarder ron n 2 +ℤ repeatGives winner discarder ron n 3 ≡ pos 0
-addition-sums-zero winner discarder ron n = repeat.added-zero discarder ron n winner
+pub addition-sums-zero : (winner payer : ℕ) (alone : Bool) (n : ℕ) → winner ≤ 3 →
+    repeatGives winner payer alone n 0 +ℤ repeatGives winner payer alone n 1 +ℤ repeatGives winner payer alone n 2 +ℤ repeatGives winner payer alone n 3 ≡ pos 0
+addition-sums-zero winner payer alone n = repeat.added-zero payer alone n winner
 
 -- the winner gets 300 for each counter, by ron and by tsumo (000, article 50)
-pub winner-gets-300 : (winner discarder : ℕ) (ron : Bool) (n : ℕ) → winner ≤ 3 → discarder ≤ 3 → (ron ≡ true → winner ≡ discarder → ⊥)
-    → repeatGives winner discarder ron n winner ≡ pos (300 * n)
+pub winner-gets-300 : (winner payer : ℕ) (alone : Bool) (n : ℕ) → winner ≤ 3 → payer ≤ 3 → (alone ≡ true → winner ≡ payer → ⊥)
+    → repeatGives winner payer alone n winner ≡ pos (300 * n)
 winner-gets-300 = repeat.winner-added
 
 -- "which is equal for every reading of the tiles, so the best one stays best"
@@ -76,3 +86,42 @@ chombo-of-one = fines.of-one
 
 pub chombo-of-four : (i : ℕ) → i < 4 → fineOf (λ j. true) i ≡ pos 0
 chombo-of-four = fines.of-four
+
+-- ---- who fed the dragons (02, S-8)
+
+-- "and so is the sum on the table": what article 67 gives and takes sums to 0
+pub article-67-sums-zero : (winner discarder feeder : ℕ) (ron : Bool) (whole : ℕ) → winner ≤ 3 →
+    let gives = settles winner (fedPays winner discarder feeder ron whole) in gives 0 +ℤ gives 1 +ℤ gives 2 +ℤ gives 3 ≡ pos 0
+article-67-sums-zero winner discarder feeder ron whole h = fed.fed-zero discarder feeder ron whole winner h
+
+-- who pays it: what `wonBy` and `addedBy` give each seat of a win that was fed, n being the counters
+pub article-67 : (winner discarder feeder : ℕ) (ron dealers : Bool) (n : ℕ) → winner ≤ 3 → discarder ≤ 3 → feeder ≤ 3
+    → (winner ≡ feeder → ⊥) → (ron ≡ true → winner ≡ discarder → ⊥)
+    → Article67 winner discarder feeder ron (wholeOf dealers) (300 * n)
+    (λ i. settles winner (fedPays winner discarder feeder ron (wholeOf dealers)) i +ℤ repeatGives winner (cond ron discarder feeder) true n i)
+article-67 = fed.article-67
+
+-- "The winner's gain is what it was, so the choice of reading is too": whatever reading is reported, and whoever fed it
+pub winner-as-before : (l : Game) (s : List ℕ) (r : Reading) → notOpen l ≡ false → IsSound s →
+    let winner = handFor s .fields .winner in wonBy l s (fedBy l s r) (changeBy l s r) winner ≡ changeBy l s r winner
+winner-as-before l s r o i = tiles.winner-won l s o (sound s .0 i) r
+
+-- "with four wind triplets, not three and a pair": by the tiles, as the ledger has it, and in every reading with 29
+pub winds-of-reading : (s : List ℕ) (dealer wind : ℕ) (r : Reading) → IsSound s → IsReadingOf (handFor s) r
+    → getD (scoredAs (handFor s) dealer wind r .yaku) 29 false ≡ true
+    → holdsFourWinds (handFor s) ≡ eqb (winds (groupsOf (handFor s) r)) 4
+winds-of-reading s dealer wind r i = by-tiles.winds-by-tiles s (sound s .0 i) dealer wind r
+
+-- 28 and 29 are never both reported, so that no other feeder is passed over
+pub never-both : (s : List ℕ) (dealer wind : ℕ) (r : Reading)
+    → let yaku = scoredAs (handFor s) dealer wind r .yaku in getD yaku 28 false ≡ true → getD yaku 29 false ≡ true → ⊥
+never-both s dealer wind r = by-tiles.not-both (handFor s) dealer wind r
+
+-- "The booking lapses when the hand is finished"
+pub feeders-lapse : (l : Game) (b : Booking) → refusalFor l b ≡ 0 → effectOf l b .finishes ≡ true → (place : ℕ) → feederAt (after l b) place ≡ 0
+feeders-lapse = fed.feeders-lapse
+
+-- and not before: who is named stays so, and nobody is named in that place again
+pub feeders-stay : (l : Game) (b : Booking) → refusalFor l b ≡ 0 → effectOf l b .finishes ≡ false
+    → (place : ℕ) → (feederAt l place ≡ 0 → ⊥) → feederAt (after l b) place ≡ feederAt l place
+feeders-stay = fed.feeders-stay

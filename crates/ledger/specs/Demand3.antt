@@ -1,7 +1,7 @@
 -- Demand 3: what is claimed of the bookings of a list, booked one after the other from a fresh game.
 use mathlib.Core.Path.{_≡_}
 use mathlib.Core.Logic.{_⊎_, _↔_}
-use mathlib.Core.Bool.{true, false, cond}
+use mathlib.Core.Bool.{true, false, _&&_, cond}
 use mathlib.Core.List.{List}
 use Prim.Native.Nat.{ℕ, _*_, _≤_, _<_}
 use lib.Dec.{eqb}
@@ -10,10 +10,11 @@ use lib.ListN.{getD}
 use lib.Signed.{leZ}
 use Rattle.hand_record.specs.Record.{IsSound}
 use Rattle.reading.specs.declared.Reading.{Reading}
-use Rattle.score.specs.Named.{IsReadingOf, ReadsWithYaku, IsReported, gainIn, scoredAs}
+use Rattle.groups.specs.Tests.{winds}
+use Rattle.score.specs.Named.{groupsOf, IsReadingOf, ReadsWithYaku, IsReported, gainIn, scoredAs}
 use Rattle.ledger.specs.declared.Game.{Game}
 use Rattle.ledger.specs.Booking.{Booking, win}
-use Rattle.ledger.specs.Ledger.{startingScore, pointsInPlay, fresh, scoreAt, totalOf, notOpen, handFor, riichiMismatch, refusalFor, addedFor, after, ledger, givenFrom}
+use Rattle.ledger.specs.Ledger.{startingScore, pointsInPlay, fresh, scoreAt, totalOf, notOpen, handFor, riichiMismatch, refusalFor, wonBy, addedBy, fedIn, after, ledger, givenFrom}
 use Rattle.ledger.specs.Runs.{Every}
 
 -- ---- a win with record s that got the refusal n; l is "the ledger as the win meets it"
@@ -35,9 +36,19 @@ module _ (l : Game) (s : List ℕ) where
   abbrev pub sticksTo : ℕ → ℤ
   sticksTo i = cond (eqb i (handFor s .fields .winner)) (pos (1000 * l .sticks)) (pos 0)
 
-  -- each score moved by "document 01's plus this addition" (02, S-5): its change in r, what the counters add, and the sticks
+  -- "If the holder then wins with that yaku reported (for 29, with four wind triplets, not three and a pair)" (02, S-8), r being reported: 0, or 1 + the feeder
+  abbrev pub fedBy : Reading → ℕ
+  fedBy r =
+      let yaku = scoredAs (handFor s) (l .dealer) (l .wind) r .yaku in
+      fedIn l (handFor s .fields .winner) (getD yaku 28 false) (getD yaku 29 false && eqb (winds (groupsOf (handFor s) r)) 4)
+
+  -- what r gives or takes of seat i: its change, "compared with article 67" (02, S-8), and what the counters add (02, S-5)
+  abbrev pub paidIn : Reading → ℕ → ℤ
+  paidIn r i = wonBy l s (fedBy r) (changeBy r) i +ℤ addedBy l s (fedBy r) i
+
+  -- each score moved by what r gives or takes, and the sticks
   abbrev pub PaidBy : Reading → Type 0
-  PaidBy r = (i : ℕ) → i < 4 → scoreAt (after l (win s)) i ≡ scoreAt l i +ℤ changeBy r i +ℤ addedFor l s i +ℤ sticksTo i
+  PaidBy r = (i : ℕ) → i < 4 → scoreAt (after l (win s)) i ≡ scoreAt l i +ℤ paidIn r i +ℤ sticksTo i
 
   -- accepted exactly when no refusal meets it (01, Win): the game was open, the record sound, a reading of its tiles has a yaku, and riichi field and declaration agree
   abbrev pub AcceptedWhen : ℕ → Type 0
@@ -47,9 +58,9 @@ module _ (l : Game) (s : List ℕ) where
   abbrev pub PaidByBest : ℕ → Type 0
   PaidByBest n = n ≡ 0 → (r : Reading) × IsReported (handFor s) (l .dealer) (l .wind) r × PaidBy r × ((q : Reading) → HasYaku q → gainBy q ≤ gainBy r)
 
-  -- the winner's gain in r with the counters
+  -- what r gives the winner with the counters
   abbrev pub gainWithCounters : Reading → ℤ
-  gainWithCounters r = changeBy r (handFor s .fields .winner) +ℤ addedFor l s (handFor s .fields .winner)
+  gainWithCounters r = paidIn r (handFor s .fields .winner)
 
   -- accepted: paid by the reported reading, and no reading with a yaku gives the winner more with the counters: "equal for every reading of the tiles, so the best one
   -- stays best" (02, S-5)

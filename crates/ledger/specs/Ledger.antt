@@ -1,20 +1,20 @@
--- The ledger (01, The game and its paragraph "Ledger"; 02, S-5 and S-7): kept from the bookings' arguments alone, with the game's fields.
+-- The ledger (01, The game and its paragraph "Ledger"; 02, S-5, S-7 and S-8): kept from the bookings' arguments alone, with the game's fields.
 -- The game's numbers; its fields; refusals; what an accepted booking does, as one structure; the fields after it; the ledger of a list.
 use mathlib.Core.Bool.{Bool, true, false, _&&_, _||_, not, cond}
 use mathlib.Core.List.{List, [], _∷_}
 use Prim.Native.Nat.{ℕ, _+_, _-_, _*_, _/_, _%_, _^_}
-use lib.Dec.{ltb, eqb}
+use lib.Dec.{ltb, leb, eqb}
 use lib.IntN.{ℤ, pos, negℤ, _+ℤ_}
 use lib.Signed.{ltZ, leZ}
-use lib.ListN.{getD}
-use Rattle.tiles.specs.Below.{any, count, sum, tabulate}
+use lib.ListN.{getD, set, replicate}
+use Rattle.tiles.specs.Below.{all, any, count, sum, tabulate}
 use Rattle.hand.specs.declared.Hand.{Hand}
-use Rattle.hand.specs.Hand.{isRon}
+use Rattle.hand.specs.Hand.{isRon, handTally}
 use Rattle.hand_record.specs.Record.{handOf, readOf}
 use Rattle.score.specs.declared.Scored.{Scored}
 use Rattle.score.specs.Score.{scoreOf}
 use Rattle.ledger.specs.declared.Game.{Game}
-use Rattle.ledger.specs.Booking.{Booking, riichi, win, draw, chombo}
+use Rattle.ledger.specs.Booking.{Booking, riichi, win, draw, chombo, feed}
 
 -- ---- the game's numbers, each named once
 
@@ -44,7 +44,7 @@ isSet n = ltb 0 n
 abbrev pub mark : Bool → ℕ
 mark b = cond b 1 0
 
--- "scores (30,000 each at first); all but the scores are 0 or unset at first"; "The game holds a counter, 0 at first" (02, S-5)
+-- "scores (30,000 each at first); all but the scores are 0 or unset at first"; "The game holds a counter, 0 at first" (02, S-5); no feeder is named
 unfoldable pub fresh : Game
 fresh = record {
   scores = tabulate 4 0 (λ i. startingScore);
@@ -55,6 +55,7 @@ fresh = record {
   hands = 0;
   over = mark false;
   counter = 0;
+  feeders = replicate 8 0;
 }
 
 -- the score of seat i ("Seats 0 to 3")
@@ -68,6 +69,14 @@ isDeclared l i = isSet (getD (l .declared) i 0)
 -- how many "declared seats" there are
 abbrev pub declarations : Game → ℕ
 declarations l = count 4 (isDeclared l)
+
+-- the place of a holder's yaku, 28 or 29, among the feeders (02, S-8): by holder, 28's before 29's
+abbrev pub feederPlace : ℕ → ℕ → ℕ
+feederPlace holder yaku = 4 * (yaku - 28) + holder
+
+-- what the game holds at that place: 0 where no feeder is named, 1 + the feeder where one is
+abbrev pub feederAt : Game → ℕ → ℕ
+feederAt l place = getD (l .feeders) place 0
 
 -- "scores plus 1,000 times sticks"
 unfoldable pub totalOf : Game → ℤ
@@ -83,8 +92,13 @@ eqZ a b = leZ a b && leZ b a
 abbrev pub isOver : Game → Bool
 isOver l = isSet (l .over) || eqb (l .hands) lastHand
 
+-- at a place "a feeder over 3, or one equal to its holder" (02, S-8), n being 0 or 1 + the feeder
+abbrev pub wrongFeeder : ℕ → ℕ → Bool
+wrongFeeder place n = ltb (1 + 3) n || eqb n (1 + place % 4)
+
 -- "out of form (dealer over 3, wind over 1, over 200 hands, fewer sticks than declared seats, a score under the floor below, or scores plus 1,000 times sticks not 120,000)";
--- "The counter never exceeds the hands finished, and a game where it does is out of form" (02, S-5)
+-- "The counter never exceeds the hands finished, and a game where it does is out of form" (02, S-5);
+-- "A game that holds a feeder over 3, or one equal to its holder, is out of form" (02, S-8)
 unfoldable pub outOfForm : Game → Bool
 outOfForm l =
     ltb 3 (l .dealer)
@@ -92,6 +106,7 @@ outOfForm l =
     || ltb lastHand (l .hands)
     || ltb (l .sticks) (declarations l)
     || ltb (l .hands) (l .counter)
+    || any 8 (λ i. wrongFeeder i (feederAt l i))
     || any 4 (λ i. ltZ (scoreAt l i) floor)
     || not (eqZ (totalOf l) pointsInPlay)
 
@@ -115,6 +130,10 @@ riichiMismatch l h = cond (ltb 0 (h .fields .riichi)) (not (isDeclared l (h .fie
 abbrev pub isReady : ℕ → ℕ → Bool
 isReady bits i = eqb (bits / 2 ^ (3 - i) % 2) 1
 
+-- 18: "a holder who is also the feeder, a yaku other than those two, or the same holder and yaku named twice in a hand" (02, S-8)
+abbrev pub wrongFeed : Game → ℕ → ℕ → ℕ → Bool
+wrongFeed l holder feeder yaku = eqb holder feeder || not (eqb yaku 28 || eqb yaku 29) || isSet (feederAt l (feederPlace holder yaku))
+
 -- "Where refusals meet a booking by the ledger's fields, the first listed is its number"; 0 where none does. Of a draw "12 is never given now" (02, S-7)
 unfoldable pub refusalFor : Game → Booking → ℕ
 refusalFor l (riichi seat) = cond (ltb 3 seat) 8 (cond (notOpen l) 9 (cond (isDeclared l seat) 10 0))
@@ -124,11 +143,12 @@ refusalFor l (win s) =
     (cond (riichiMismatch l (handFor s)) 11 0))
 refusalFor l (draw bits) = cond (ltb 15 bits) 8 (cond (notOpen l) 9 0)
 refusalFor l (chombo seat) = cond (ltb 3 seat) 8 (cond (notOpen l) 9 0)
+refusalFor l (feed holder feeder yaku) = cond (ltb 3 holder || ltb 3 feeder) 8 (cond (notOpen l) 9 (cond (wrongFeed l holder feeder yaku) 18 0))
 
 -- ---- what an accepted booking does
 
 -- what it gives each seat, or takes; the sticks that it leaves on the table; the seats that are declared after it; whether it finishes the hand; whether the deal passes;
--- the counter that it leaves
+-- the counter and the feeders that it leaves
 pub record Effect : Type 0 where
   pub gives : ℕ → ℤ
   pub sticks : ℕ
@@ -136,34 +156,81 @@ pub record Effect : Type 0 where
   pub finishes : Bool
   pub passes : Bool
   pub counter : ℕ
+  pub feeders : List ℕ
 
--- "Win, draw and chombo each finish a hand and clear declarations"
+-- "Win, draw and chombo each finish a hand and clear declarations"; "The booking lapses when the hand is finished" (02, S-8)
 abbrev pub finishing : (ℕ → ℤ) → ℕ → Bool → ℕ → Effect
-finishing gives sticks passes counter = record { gives = gives; sticks = sticks; declared = λ i. false; finishes = true; passes = passes; counter = counter }
+finishing gives sticks passes counter = record { gives = gives; sticks = sticks; declared = λ i. false; finishes = true; passes = passes; counter = counter; feeders = replicate 8 0 }
+
+-- the hand goes on: the deal and the counter stay
+abbrev pub going : Game → (ℕ → ℤ) → ℕ → (ℕ → Bool) → List ℕ → Effect
+going l gives sticks declared feeders = record { gives = gives; sticks = sticks; declared = declared; finishes = false; passes = false; counter = l .counter; feeders = feeders }
 
 -- "riichi costs the seat 1,000"
 unfoldable pub riichiGives : ℕ → ℕ → ℤ
 riichiGives seat i = cond (eqb i seat) (negℤ (pos 1000)) (pos 0)
 
--- "A ron payer pays 300 more for each counter, and on tsumo each payer pays 100 more" (02, S-5): what seat i pays more for n counters
+-- the winner gets what the others pay, p being what each seat pays
+unfoldable pub settles : ℕ → (ℕ → ℕ) → ℕ → ℤ
+settles winner p i = cond (eqb i winner) (pos (sum 4 p)) (negℤ (pos (p i)))
+
+-- "A ron payer pays 300 more for each counter, and on tsumo each payer pays 100 more" (02, S-5):
+-- what seat i pays more for n counters, one seat paying them alone or not
 unfoldable pub repeatPays : ℕ → ℕ → Bool → ℕ → ℕ → ℕ
-repeatPays winner discarder ron n i = cond (eqb i winner) 0 (cond ron (cond (eqb i discarder) (300 * n) 0) (100 * n))
+repeatPays winner payer alone n i = cond (eqb i winner) 0 (cond alone (cond (eqb i payer) (300 * n) 0) (100 * n))
 
 -- "this addition" (02, S-5): the winner gets what the others pay more
-unfoldable pub repeatGives : ℕ → ℕ → Bool → ℕ → ℕ → ℤ
-repeatGives winner discarder ron n i = cond (eqb i winner) (pos (sum 4 (repeatPays winner discarder ron n))) (negℤ (pos (repeatPays winner discarder ron n i)))
+abbrev pub repeatGives : ℕ → ℕ → Bool → ℕ → ℕ → ℤ
+repeatGives winner payer alone n = settles winner (repeatPays winner payer alone n)
 
--- what it gives seat i at a win; no reading enters it
-abbrev pub addedFor : Game → List ℕ → ℕ → ℤ
-addedFor l s = repeatGives (handFor s .fields .winner) (handFor s .fields .discarder) (isRon (handFor s .fields)) (l .counter)
+-- what a yakuman gives the winner: "Yakuman 8,000"; "ron, 4A to a child, 6A to the dealer", and on tsumo "children A, dealer 2A" or "2A each",
+-- the same in all (01, Fu and points)
+abbrev pub wholeOf : Bool → ℕ
+wholeOf dealers = cond dealers 48000 32000
 
--- "A win gives the four changes of the reported reading, and the winner 1,000 a stick"; "document 01's plus this addition" (02, S-5)
-unfoldable pub winGives : Game → List ℕ → ℕ → ℤ
-winGives l s i = getD (scoredFor l s .changes) i (pos 0) +ℤ addedFor l s i +ℤ cond (eqb i (handFor s .fields .winner)) (pos (1000 * l .sticks)) (pos 0)
+-- "the feeder pays the whole on tsumo .. On ron the feeder and the discarder pay half each ..; if they are one seat it pays all" (02, S-8; 004, article 67):
+-- what seat i pays of the whole
+unfoldable pub fedPays : ℕ → ℕ → ℕ → Bool → ℕ → ℕ → ℕ
+fedPays winner discarder feeder ron whole i =
+    cond (eqb i winner) 0 (cond ron (cond (eqb i feeder) (whole / 2) 0 + cond (eqb i discarder) (whole / 2) 0) (cond (eqb i feeder) whole 0))
 
 -- "dealer's win"; any other is "a child's win"
 abbrev pub isDealersWin : Game → List ℕ → Bool
 isDealersWin l s = eqb (handFor s .fields .winner) (l .dealer)
+
+-- a win with record s; fed is 0 where nobody fed its yaku, and 1 + the feeder where one did
+module _ (l : Game) (s : List ℕ) (fed : ℕ) where
+  -- what seat i gets or pays of the winner's gain: its change c, or by article 67 where the yaku was fed
+  abbrev pub wonBy : (ℕ → ℤ) → ℕ → ℤ
+  wonBy c i =
+      let f = handFor s .fields in
+      cond (isSet fed) (settles (f .winner) (fedPays (f .winner) (f .discarder) (fed - 1) (isRon f) (wholeOf (isDealersWin l s))) i) (c i)
+
+  -- what the counters give it: "the feeder pays the whole on tsumo, counters included. On ron .. the discarder paying the counters" (02, S-8);
+  -- on a tsumo that nobody fed all pay them, and `fed - 1` is not read
+  abbrev pub addedBy : ℕ → ℤ
+  addedBy = let f = handFor s .fields in repeatGives (f .winner) (cond (isRon f) (f .discarder) (fed - 1)) (isRon f || isSet fed) (l .counter)
+
+-- "If the holder then wins with that yaku reported (for 29, with four wind triplets, not three and a pair)" (02, S-8): 0, or 1 + the feeder that is named
+abbrev pub fedIn : Game → ℕ → Bool → Bool → ℕ
+fedIn l winner dragons winds = cond dragons (feederAt l (feederPlace winner 28)) (cond winds (feederAt l (feederPlace winner 29)) 0)
+
+-- each wind is held three times or more; with 29 reported these are "four wind triplets", as `winds-of-reading` of Claims says
+abbrev pub holdsFourWinds : Hand → Bool
+holdsFourWinds h = all 4 (λ w. leb 3 (getD (handTally h) (27 + w) 0))
+
+-- by what is reported of record s
+abbrev pub fedFor : Game → List ℕ → ℕ
+fedFor l s =
+    let yaku = scoredFor l s .yaku in
+    fedIn l (handFor s .fields .winner) (getD yaku 28 false) (getD yaku 29 false && holdsFourWinds (handFor s))
+
+-- "A win gives the four changes of the reported reading, and the winner 1,000 a stick"; "document 01's plus this addition" (02, S-5);
+-- "compared with article 67" (02, S-8)
+unfoldable pub winGives : Game → List ℕ → ℕ → ℤ
+winGives l s i =
+    wonBy l s (fedFor l s) (λ j. getD (scoredFor l s .changes) j (pos 0)) i +ℤ addedBy l s (fedFor l s) i
+    +ℤ cond (eqb i (handFor s .fields .winner)) (pos (1000 * l .sticks)) (pos 0)
 
 -- "r ready": how many seats
 abbrev pub readySeats : ℕ → ℕ
@@ -203,14 +270,16 @@ isAtFault l bits i = isDeclared l i && not (isReady bits i)
 
 -- riichi "adds a stick and declares the seat"; a win "leaving none"; "A draw in which a declared seat isn't ready" is "a chombo" of "each such seat" (02, S-7);
 -- "The deal passes on a child's win or a draw with the dealer not ready";
--- the counter "rises by one at each dealer's win and each draw, returns to 0 at a child's win, and isn't touched by a chombo" (02, S-5)
+-- the counter "rises by one at each dealer's win and each draw, returns to 0 at a child's win, and isn't touched by a chombo" (02, S-5);
+-- feed "names holder, feeder and yaku" (02, S-8)
 unfoldable pub effectOf : Game → Booking → Effect
-effectOf l (riichi seat) = record { gives = riichiGives seat; sticks = l .sticks + 1; declared = λ i. eqb i seat || isDeclared l i; finishes = false; passes = false; counter = l .counter }
+effectOf l (riichi seat) = going l (riichiGives seat) (l .sticks + 1) (λ i. eqb i seat || isDeclared l i) (l .feeders)
 effectOf l (win s) = finishing (winGives l s) 0 (not (isDealersWin l s)) (cond (isDealersWin l s) (l .counter + 1) 0)
 effectOf l (draw bits) =
     cond (any 4 (isAtFault l bits)) (chomboOf l (isAtFault l bits))
     (finishing (drawGives bits) (l .sticks) (not (isReady bits (l .dealer))) (l .counter + 1))
 effectOf l (chombo seat) = chomboOf l (λ i. eqb i seat)
+effectOf l (feed holder feeder yaku) = going l (λ i. pos 0) (l .sticks) (isDeclared l) (set (l .feeders) (feederPlace holder yaku) (1 + feeder))
 
 -- ---- the fields after it
 
@@ -245,6 +314,7 @@ applied l e = record {
   hands = handsAfter l (e .finishes);
   over = mark (overAfter l e);
   counter = e .counter;
+  feeders = e .feeders;
 }
 
 -- ---- the ledger after any booking, and after a list

@@ -4,12 +4,15 @@ pub mod Sums
 pub mod Effect
 pub mod Accepted
 pub mod Refusals
+pub mod Settles
 pub mod Repeat
+pub mod Fed
 pub mod Fines
 pub mod Fair
 pub mod Kept
 pub mod Lists
 pub mod NotReady
+pub mod Winds
 pub mod Tiles
 pub mod Demand3
 pub mod Examples

@@ -1,7 +1,8 @@
 // The game as one record. What its fields mean, the ledger and demand 3 are in specs/; crates `game` and `wins` have the bookings.
 
 // Scores of seats 0 to 3; sticks on the table; for each seat 0, or another number where it has declared riichi in this hand; dealer;
-// wind, 0 East, 1 South; finished hands; 0, or another number where the game is marked over; repeat counters. Every byte pattern is a game.
+// wind, 0 East, 1 South; finished hands; 0, or another number where the game is marked over; repeat counters; for each seat as the holder of yaku 28,
+// then of 29, 0, or 1 + the feeder that is named in this hand. Every byte pattern is a game.
 #[repr(C)]
 pub struct Game {
     pub scores: [i32; 4],
@@ -12,6 +13,7 @@ pub struct Game {
     pub hands: u8,
     pub over: u8,
     pub counter: u32,
+    pub feeders: [u8; 8],
 }
 
 // "200 hands finished", "scores plus 1,000 times sticks" (01, The game), "The floor of a score" (02, S-5): `lastHand`, `pointsInPlay`, `floor` of specs/Ledger.

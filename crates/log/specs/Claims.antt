@@ -1,13 +1,13 @@
--- The theorems of the log (01, Log; "Before the batch is burned": "a walk saying "end" with bytes left" falls by them).
+-- The theorems of the log (01, Log; 02, S-8; "Before the batch is burned": "a walk saying "end" with bytes left" falls by them).
 use mathlib.Core.Path.{_≡_}
 use mathlib.Core.Bool.{true, false}
 use mathlib.Core.Logic.{_⊎_, _↔_}
 use mathlib.Core.List.{List, _∷_}
-use Prim.Native.Nat.{ℕ, _+_, _≤_, _<_}
+use Prim.Native.Nat.{ℕ, _+_, _*_, _-_, _≤_, _<_}
 use native.Mathlib.Omega.{arith}
-use lib.ListN.{length, take, drop}
+use lib.ListN.{length, getD, take, drop}
 use Rattle.hand_record.specs.Record.{countIn, wrongLength}
-use Rattle.log.specs.Kinds.{kindIn, argumentIn, isBroken}
+use Rattle.log.specs.Kinds.{kindIn, argumentIn, isBroken, holderIn, feederIn, yakuIn, isOtherForm}
 use Rattle.log.specs.Log.{partAt, refusalAt, partsOf, laid, stopOf}
 use Rattle.log.specs.laws.Next as next
 use Rattle.log.specs.laws.Walk as laws
@@ -16,8 +16,8 @@ use Rattle.log.specs.laws.Walk as laws
 pub end-only-at-end : (log : List ℕ) (at : ℕ) → ((length (partAt log at) ≡ 0) × (refusalAt log at ≡ 0)) ↔ (length log ≤ at)
 end-only-at-end log at = laws.end-exactly log at
 
--- "Refusal 14: kind over 3, win argument not 0, m over 4, or bytes missing": there and nowhere else
-pub bad-only-when-named : (log : List ℕ) (at : ℕ) → let s = drop at log in (refusalAt log at ≡ 14) ↔ ((at < length log) × ((3 < kindIn s) ⊎ ((kindIn s ≡ 1) × ((argumentIn s ≡ 0 → ⊥) ⊎ (isBroken (drop 1 s) ≡ true)))))
+-- "Refusal 14: kind over 3, win argument not 0, m over 4, or bytes missing"; S-8: of kind 5 "any other form is 14": there and nowhere else
+pub bad-only-when-named : (log : List ℕ) (at : ℕ) → let s = drop at log in (refusalAt log at ≡ 14) ↔ ((at < length log) × (((3 < kindIn s) × (kindIn s ≡ 5 → ⊥)) ⊎ ((kindIn s ≡ 1) × ((argumentIn s ≡ 0 → ⊥) ⊎ (isBroken (drop 1 s) ≡ true))) ⊎ ((kindIn s ≡ 5) × ((argumentIn s ≡ 0 → ⊥) ⊎ (isOtherForm (drop 1 s) ≡ true)))))
 bad-only-when-named log at = laws.bad-exactly log at
 
 -- "it returns an empty part"
@@ -28,8 +28,8 @@ bad-empty log at h = laws.bad-part log at h
 pub part-inside : (log : List ℕ) (at : ℕ) → 0 < length (partAt log at) → at + length (partAt log at) ≤ length log
 part-inside log at h = omega (arith, h, next.part-inside log at)
 
--- "kind 4 bits (0 riichi, 1 win, 2 draw, 3 chombo), argument 4"; "kind over 3" is refused
-pub kind-and-argument : (log : List ℕ) (at : ℕ) → 0 < length (partAt log at) → (kindIn (partAt log at) ≤ 3) × (argumentIn (partAt log at) ≤ 15)
+-- "kind 4 bits (0 riichi, 1 win, 2 draw, 3 chombo), argument 4"; S-8: "kind 5"; any other is refused
+pub kind-and-argument : (log : List ℕ) (at : ℕ) → 0 < length (partAt log at) → ((kindIn (partAt log at) ≤ 3) ⊎ (kindIn (partAt log at) ≡ 5)) × (argumentIn (partAt log at) ≤ 15)
 unfolding partAt
 kind-and-argument log at h = (next.part-kind (drop at log) h, omega arith)
 
@@ -37,6 +37,15 @@ kind-and-argument log at h = (next.part-kind (drop at log) h, omega arith)
 pub win-record : (log : List ℕ) (at : ℕ) → 0 < length (partAt log at) → kindIn (partAt log at) ≡ 1 → (argumentIn (partAt log at) ≡ 0) × (wrongLength (length (drop 1 (partAt log at))) (countIn (drop 1 (partAt log at))) ≡ false)
 unfolding partAt
 win-record log at h w = next.part-win (drop at log) h w
+
+-- S-8: "argument 0, then a byte: holder 2 bits, feeder 2, yaku 1 (0 for 28), three zero bits": one byte follows the header, and it is these fields,
+-- each of as many bits, and no other bit
+pub feed-byte : (log : List ℕ) (at : ℕ) → 0 < length (partAt log at) → kindIn (partAt log at) ≡ 5
+    → let s = drop 1 (partAt log at) in
+    (argumentIn (partAt log at) ≡ 0) × (length s ≡ 1) × (getD s 0 0 ≡ 64 * holderIn s + 16 * feederIn s + 8 * (yakuIn s - 28))
+    × (getD s 0 0 < 256 → holderIn s ≤ 3) × (feederIn s ≤ 3) × (28 ≤ yakuIn s) × (yakuIn s ≤ 29)
+unfolding partAt
+feed-byte log at h w = let f = next.part-feed (drop at log) h w in let e = next.feed-ends (drop 1 (partAt log at)) in (f .0, f .1, f .2, e .0, e .1, e .2, e .3)
 
 -- the walk's parts are those that "Next entry hands back", one after the other
 pub parts-follow : (log : List ℕ) (at : ℕ) → 0 < length (partAt log at) → partsOf (drop at log) ≡ partAt log at ∷ partsOf (drop (at + length (partAt log at)) log)

@@ -1,4 +1,4 @@
--- The kinds of a log's entries (01, Log): the number, the letter and the length of each, in this one place.
+-- The kinds of a log's entries (01, Log; 02, S-8): the number, the letter and the length of each, in this one place.
 use mathlib.Core.Bool.{Bool, _||_, cond}
 use mathlib.Core.List.{List, [], _∷_}
 use Prim.Native.Nat.{ℕ, _+_, _/_, _%_}
@@ -19,9 +19,13 @@ drawKind = 2
 abbrev pub chomboKind : ℕ
 chomboKind = 3
 
--- "letter R W D C"
+-- S-8: "In the log it is kind 5"
+abbrev pub feedKind : ℕ
+feedKind = 5
+
+-- "letter R W D C"; S-8: "letter P"
 abbrev pub letterOf : ℕ → ℕ
-letterOf kind = cond (eqb kind riichiKind) 82 (cond (eqb kind winKind) 87 (cond (eqb kind drawKind) 68 67))
+letterOf kind = cond (eqb kind riichiKind) 82 (cond (eqb kind winKind) 87 (cond (eqb kind drawKind) 68 (cond (eqb kind feedKind) 80 67)))
 
 -- "Header byte: kind 4 bits": that of an entry's bytes
 abbrev pub kindIn : List ℕ → ℕ
@@ -39,15 +43,38 @@ isBroken s = ltb (length s) 4 || ltb 4 (countIn s) || ltb (length s) (lengthOf (
 unfoldable pub recordLength : List ℕ → ℕ
 recordLength s = cond (isBroken s) 0 (lengthOf (countIn s))
 
+-- S-8: "then a byte: holder 2 bits, feeder 2, yaku 1 (0 for 28), three zero bits", the first of the bytes after the header
+abbrev pub holderIn : List ℕ → ℕ
+holderIn s = getD s 0 0 / 64
+
+abbrev pub feederIn : List ℕ → ℕ
+feederIn s = getD s 0 0 / 16 % 4
+
+abbrev pub yakuIn : List ℕ → ℕ
+yakuIn s = 28 + getD s 0 0 / 8 % 2
+
+-- no byte follows, or one of its "three zero bits" is set: "any other form"
+abbrev pub isOtherForm : List ℕ → Bool
+isOtherForm s = ltb (length s) 1 || ltb 0 (getD s 0 0 % 8)
+
+-- ---- how long an entry is, by its argument and the bytes after its header; 0 where it is bad
+
 -- a header and the n bytes that follow it; 0 stays 0
 abbrev pub withHeader : ℕ → ℕ
 withHeader n = cond (eqb n 0) 0 (n + 1)
 
--- how many bytes an entry of a kind has, by its argument and the bytes after its header: of a win "argument 0 and its record follows", of the others the header alone;
--- 0 where it is bad: "kind over 3, win argument not 0, m over 4, or bytes missing"
+-- "A win has argument 0 and its record follows"; bad: "win argument not 0, m over 4, or bytes missing"
+abbrev pub winLength : ℕ → List ℕ → ℕ
+winLength argument rest = cond (eqb argument 0) (withHeader (recordLength rest)) 0
+
+-- S-8: "argument 0, then a byte"; bad: "any other form is 14"
+abbrev pub feedLength : ℕ → List ℕ → ℕ
+feedLength argument rest = cond (eqb argument 0) (cond (isOtherForm rest) 0 2) 0
+
+-- of a kind: of riichi, draw and chombo the header alone; bad: "kind over 3" other than S-8's
 unfoldable pub lengthBy : ℕ → ℕ → List ℕ → ℕ
 lengthBy kind argument rest =
-    cond (eqb kind riichiKind) 1 (cond (eqb kind winKind) (cond (eqb argument 0) (withHeader (recordLength rest)) 0) (cond (eqb kind drawKind) 1 (cond (eqb kind chomboKind) 1 0)))
+    cond (eqb kind riichiKind) 1 (cond (eqb kind winKind) (winLength argument rest) (cond (eqb kind drawKind) 1 (cond (eqb kind chomboKind) 1 (cond (eqb kind feedKind) (feedLength argument rest) 0))))
 
 -- how many bytes the entry has that bytes start with, "from its header on"; 0 where there is none
 unfoldable pub entryLength : List ℕ → ℕ

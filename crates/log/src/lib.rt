@@ -1,13 +1,13 @@
-// The log (01, Log): the kinds of its entries, and Next entry. The public calls take all input.
+// The log (01, Log; 02, S-8): the kinds of its entries, and Next entry. The public calls take all input.
 ghost use mathlib.Core.Path.{_≡_};
-ghost use Prim.Native.Nat.{_/_, _%_, _≤_};
+ghost use Prim.Native.Nat.{_+_, _/_, _%_, _≤_};
 ghost use lib.ListN.{length};
 ghost use Rattle.hand_record.specs.Record.{countIn};
-ghost use Rattle.log.specs.Kinds.{letterOf, recordLength, entryLength};
+ghost use Rattle.log.specs.Kinds.{letterOf, recordLength, winLength, feedLength, lengthBy, entryLength};
 ghost use Rattle.log.specs.Log.{partAt, refusalAt};
 use hand_record::LENGTHS;
 
-// The kinds by their numbers. Each one's letter stands in `letter`, its length in `entry_length`.
+// The kinds by their numbers. Each one's letter stands in `letter`, its length in `length_by`.
 pub const RIICHI: u8 = 0;
 
 pub const WIN: u8 = 1;
@@ -15,6 +15,8 @@ pub const WIN: u8 = 1;
 pub const DRAW: u8 = 2;
 
 pub const CHOMBO: u8 = 3;
+
+pub const FEED: u8 = 5;
 
 // The kind that a header byte names.
 pub fn kind(header: u8) -> u8
@@ -30,6 +32,27 @@ pub fn argument(header: u8) -> u8
     header % 16
 }
 
+// Who holds the triplets, by the byte after a feed's header: its first 2 bits.
+pub fn holder(byte: u8) -> u8
+    ensures { λ r. ⌜ r ≡ byte / 64 ⌝ }
+{
+    byte / 64
+}
+
+// Who fed them: its next 2 bits.
+pub fn feeder(byte: u8) -> u8
+    ensures { λ r. ⌜ r ≡ byte / 16 % 4 ⌝ }
+{
+    byte / 16 % 4
+}
+
+// Which yaku they are, 28 or 29: the bit after these.
+pub fn yaku(byte: u8) -> u8
+    ensures { λ r. ⌜ r ≡ 28 + byte / 8 % 2 ⌝ }
+{
+    28 + byte / 8 % 2
+}
+
 // The letter that `tally` prints for a kind.
 pub fn letter(kind: u8) -> u8
     ensures { λ r. ⌜ r ≡ letterOf kind ⌝ }
@@ -42,6 +65,9 @@ pub fn letter(kind: u8) -> u8
     }
     if kind == DRAW {
         return b'D';
+    }
+    if kind == FEED {
+        return b'P';
     }
     b'C'
 }
@@ -72,6 +98,52 @@ fn record_length(s: &[u8]) -> usize
     n
 }
 
+// How many bytes a win has, its header included, by its argument and the bytes after the header; 0 where it is bad.
+fn win_length(argument: u8, rest: &[u8]) -> usize
+    ensures { λ r. ⌜ r ≡ winLength argument (now (rest .entry)) ⌝ }
+{
+    if argument != 0 {
+        return 0;
+    }
+    let n = record_length(rest);
+    if n == 0 {
+        return 0;
+    }
+    n + 1
+}
+
+// The same of a feed: one byte follows, with its last three bits zero.
+fn feed_length(argument: u8, rest: &[u8]) -> usize
+    ensures { λ r. ⌜ r ≡ feedLength argument (now (rest .entry)) ⌝ }
+{
+    if 0 < argument {
+        return 0;
+    }
+    if rest.len() < 1 {
+        return 0;
+    }
+    if 0 < rest[0] % 8 {
+        return 0;
+    }
+    2
+}
+
+// The same of a kind.
+fn length_by(kind: u8, argument: u8, rest: &[u8]) -> usize
+    ensures { λ r. ⌜ r ≡ lengthBy kind argument (now (rest .entry)) ⌝ }
+{
+    if kind == WIN {
+        return win_length(argument, rest);
+    }
+    if kind == FEED {
+        return feed_length(argument, rest);
+    }
+    if CHOMBO < kind {
+        return 0;
+    }
+    1
+}
+
 // How many bytes the entry has that bytes start with, 0 where there is none.
 fn entry_length(s: &[u8]) -> usize
     ensures { λ r. ⌜ r ≡ entryLength (now (s .entry)) ⌝ }
@@ -80,21 +152,7 @@ fn entry_length(s: &[u8]) -> usize
         return 0;
     }
     let header = s[0];
-    let k = kind(header);
-    if k == WIN {
-        if argument(header) != 0 {
-            return 0;
-        }
-        let n = record_length(&s[1..]);
-        if n == 0 {
-            return 0;
-        }
-        return n + 1;
-    }
-    if CHOMBO < k {
-        return 0;
-    }
-    1
+    length_by(kind(header), argument(header), &s[1..])
 }
 
 // Next entry: the part of the log that the entry at an offset takes, its header first. The part is empty where there is no entry;

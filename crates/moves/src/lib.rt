@@ -1,12 +1,12 @@
-// How an accepted booking moves the game (01, The game; 02, S-5 and S-7): a hand is finished, by a chombo too, or a seat puts its stick. The game is open, so that no sum wraps.
+// How an accepted booking moves the game (01, The game; 02, S-5, S-7 and S-8): a hand is finished, by a chombo too, a seat puts its stick, or a feeder is named. The game is open, so that no sum wraps.
 ghost use mathlib.Core.Path.{_≡_};
 ghost use mathlib.Core.Bool.{false, _||_};
-ghost use Prim.Native.Nat.{_≤_};
+ghost use Prim.Native.Nat.{_+_, _≤_};
 ghost use lib.Dec.{eqb};
-ghost use lib.ListN.{getD};
+ghost use lib.ListN.{getD, set};
 ghost use Rattle.tiles.specs.Below.{tabulate};
 ghost use Rattle.ledger.specs.Booking as Booking;
-ghost use Rattle.ledger.specs.Ledger.{isSet, mark, isLast, dealerAfter, windAfter, chomboOf, effectOf, applied};
+ghost use Rattle.ledger.specs.Ledger.{isSet, mark, feederPlace, isLast, dealerAfter, windAfter, chomboOf, effectOf, applied};
 ghost use Rattle.ledger.specs.laws.Form.{Open};
 ghost use Rattle.ledger.specs.laws.Sums.{Small, paid};
 ghost use Rattle.moves.specs.laws.Steps.{finished};
@@ -54,7 +54,7 @@ fn next_wind(g: Game, passes: bool) -> u8
     if passes & (g.dealer == 3) { 1 } else { g.wind }
 }
 
-// The hand is finished: what it gives is paid, declarations are cleared, the deal passes or stays; the sticks and the counter are those given.
+// The hand is finished: what it gives is paid, declarations and feeders are cleared, the deal passes or stays; the sticks and the counter are those given.
 pub fn finish(g: Game, by: [i32; 4], sticks: u32, passes: bool, counter: u32) -> Game
     requires { ⌜ Open g × Small by ⌝ }
     ensures { λ r. ⌜ r ≡ finished g by sticks passes counter ⌝ }
@@ -62,6 +62,7 @@ pub fn finish(g: Game, by: [i32; 4], sticks: u32, passes: bool, counter: u32) ->
     let s = g.scores;
     let scores = pay(s, by);
     let declared = [0u8, 0, 0, 0];
+    let feeders = [0u8, 0, 0, 0, 0, 0, 0, 0];
     let hands = g.hands + 1;
     Game {
         scores,
@@ -72,6 +73,7 @@ pub fn finish(g: Game, by: [i32; 4], sticks: u32, passes: bool, counter: u32) ->
         hands,
         over: mark((passes & is_last(g)) | (hands == LAST_HAND)),
         counter,
+        feeders,
     }
 }
 
@@ -107,6 +109,7 @@ pub fn put_stick(g: Game, seat: u8) -> Game
     let scores = pay(s, payments::stakes(seat));
     let d = g.declared;
     let declared = declare(d, seat);
+    let feeders = g.feeders;
     Game {
         scores,
         sticks: g.sticks + 1,
@@ -116,5 +119,53 @@ pub fn put_stick(g: Game, seat: u8) -> Game
         hands: g.hands,
         over: 0,
         counter: g.counter,
+        feeders,
+    }
+}
+
+// The marks, each 0 or 1.
+fn marks(d: [u8; 4]) -> [u8; 4]
+    ensures { λ r. ⌜ r ≡ tabulate 4 0 (λ i. mark (isSet (getD d i 0))) ⌝ }
+{
+    [
+        mark(0 < d[0]),
+        mark(0 < d[1]),
+        mark(0 < d[2]),
+        mark(0 < d[3]),
+    ]
+}
+
+// The feeders with the one of the holder's yaku set.
+fn named(f: [u8; 8], holder: u8, feeder: u8, yaku: u8) -> [u8; 8]
+    requires { ⌜ (holder ≤ 3) × (feeder ≤ 3) × (28 ≤ yaku) × (yaku ≤ 29) ⌝ }
+    ensures { λ r. ⌜ r ≡ set f (feederPlace holder yaku) (1 + feeder) ⌝ }
+{
+    let mut n = f;
+    let i = (4 * (yaku - 28) + holder) as usize;
+    n[i] = 1 + feeder;
+    n
+}
+
+// The holder's yaku has a feeder from now on.
+pub fn name_feeder(g: Game, holder: u8, feeder: u8, yaku: u8) -> Game
+    requires { ⌜ Open g × (holder ≤ 3) × (feeder ≤ 3) × (28 ≤ yaku) × (yaku ≤ 29) ⌝ }
+    ensures { λ r. ⌜ r ≡ applied g (effectOf g (Booking.feed holder feeder yaku)) ⌝ }
+{
+    let s = g.scores;
+    let scores = pay(s, [0i32, 0, 0, 0]);
+    let d = g.declared;
+    let declared = marks(d);
+    let f = g.feeders;
+    let feeders = named(f, holder, feeder, yaku);
+    Game {
+        scores,
+        sticks: g.sticks,
+        declared,
+        dealer: g.dealer,
+        wind: g.wind,
+        hands: g.hands,
+        over: 0,
+        counter: g.counter,
+        feeders,
     }
 }

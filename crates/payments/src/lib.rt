@@ -1,7 +1,7 @@
-// What a riichi, a draw, a chombo and a win give each of the four seats, or take (01, Ledger; 02, S-5 and S-7). No sum wraps.
+// What a riichi, a draw, a chombo and a win give each of the four seats, or take (01, Ledger; 02, S-5, S-7 and S-8). No sum wraps.
 ghost use mathlib.Core.Path.{_≡_};
-ghost use mathlib.Core.Bool.{false, cond};
-ghost use Prim.Native.Nat.{_*_, _≤_};
+ghost use mathlib.Core.Bool.{true, false, _||_, cond};
+ghost use Prim.Native.Nat.{_+_, _-_, _*_, _/_, _≤_};
 ghost use lib.Dec.{eqb};
 ghost use lib.IntN.{pos, negℤ, _+ℤ_};
 ghost use lib.ListN.{getD};
@@ -9,7 +9,7 @@ ghost use Rattle.tiles.specs.Below.{count, tabulate};
 ghost use Rattle.hand.specs.Hand.{isRon};
 ghost use Rattle.hand.specs.Refusals.{wrongDiscarder};
 ghost use Rattle.score.specs.laws.Z.{Within};
-ghost use Rattle.ledger.specs.Ledger.{lastHand, shareOf, fineOf, repeatGives};
+ghost use Rattle.ledger.specs.Ledger.{lastHand, isSet, settles, repeatGives, wholeOf, fedPays, shareOf, fineOf};
 ghost use Rattle.ledger.specs.laws.Bounds.{amount, mostChange, mostSticks};
 ghost use Rattle.ledger.specs.laws.Fines.{finedBy};
 ghost use Rattle.ledger.specs.laws.Sums.{Small, Changes};
@@ -102,34 +102,126 @@ pub fn penalties(f: [bool; 4], d: [bool; 4]) -> [i32; 4]
     ]
 }
 
-// What n repeat counters give a seat that wins, or does not, by ron or not, and has discarded the winning tile, or has not.
-fn addition(wins: bool, ron: bool, discards: bool, n: u32) -> i32
+// What a seat pays that owes an amount, or does not.
+fn due(owes: bool, amount: u32) -> u32
+    ensures { λ r. ⌜ (r ≡ cond owes amount 0) × (r ≤ amount) ⌝ }
+{
+    if owes { amount } else { 0 }
+}
+
+// An amount that is taken.
+fn less(amount: u32) -> i32
+    requires { ⌜ amount ≤ mostChange ⌝ }
+    ensures { λ r. ⌜ (r ≡ negℤ (pos amount)) × Within r mostChange ⌝ }
+{
+    -(amount as i32)
+}
+
+// What n repeat counters give a seat that wins, or does not, where one seat pays them alone or all do, and it is that one or not.
+fn addition(wins: bool, alone: bool, pays: bool, n: u32) -> i32
     requires { ⌜ n ≤ lastHand ⌝ }
-    ensures { λ r. ⌜ (r ≡ cond wins (pos (300 * n)) (negℤ (pos (cond ron (cond discards (300 * n) 0) (100 * n))))) × Within r mostChange ⌝ }
+    ensures { λ r. ⌜ (r ≡ cond wins (pos (300 * n)) (negℤ (pos (cond alone (cond pays (300 * n) 0) (100 * n))))) × Within r mostChange ⌝ }
 {
     if wins {
         (300 * n) as i32
-    } else if ron {
-        if discards { -((300 * n) as i32) } else { 0 }
+    } else if alone {
+        less(due(pays, 300 * n))
     } else {
-        -((100 * n) as i32)
+        less(100 * n)
     }
 }
 
-// What n repeat counters give each seat at a win: the payers pay more, and the winner gets it.
-pub fn additions(f: Fields, n: u32) -> [i32; 4]
-    requires { ⌜ (f .winner ≤ 3) × (f .discarder ≤ 3) × (wrongDiscarder f ≡ false) × (n ≤ lastHand) ⌝ }
-    ensures { λ r. ⌜ (r ≡ tabulate 4 0 (repeatGives (f .winner) (f .discarder) (isRon f) n)) × Changes r ⌝ }
+// What n repeat counters give each seat at a win: the payer alone, or all others, pay more, and the winner gets it.
+fn additions(winner: u8, payer: u8, alone: bool, n: u32) -> [i32; 4]
+    requires { ⌜ (winner ≤ 3) × (payer ≤ 3) × (alone ≡ true → winner ≡ payer → ⊥) × (n ≤ lastHand) ⌝ }
+    ensures { λ r. ⌜ (r ≡ tabulate 4 0 (repeatGives winner payer alone n)) × Changes r ⌝ }
+{
+    [
+        addition(0 == winner, alone, 0 == payer, n),
+        addition(1 == winner, alone, 1 == payer, n),
+        addition(2 == winner, alone, 2 == payer, n),
+        addition(3 == winner, alone, 3 == payer, n),
+    ]
+}
+
+// What a yakuman gives the winner, the dealer or a child.
+fn whole_of(dealers: bool) -> u32
+    ensures { λ r. ⌜ (r ≡ wholeOf dealers) × (r ≤ 48000) ⌝ }
+{
+    if dealers { 48000 } else { 32000 }
+}
+
+// What a seat pays of the whole by article 67, by ron or not, that feeds or not, and discards or not.
+fn owed(ron: bool, feeds: bool, discards: bool, whole: u32) -> u32
+    requires { ⌜ whole ≤ 48000 ⌝ }
+    ensures { λ r. ⌜ (r ≡ cond ron (cond feeds (whole / 2) 0 + cond discards (whole / 2) 0) (cond feeds whole 0)) × (r ≤ whole) ⌝ }
+{
+    let half = whole / 2;
+    if ron {
+        due(feeds, half) + due(discards, half)
+    } else {
+        due(feeds, whole)
+    }
+}
+
+// What article 67 gives a seat that wins, or does not.
+fn liability(wins: bool, owes: u32, whole: u32) -> i32
+    requires { ⌜ (owes ≤ 48000) × (whole ≤ 48000) ⌝ }
+    ensures { λ r. ⌜ (r ≡ cond wins (pos whole) (negℤ (pos owes))) × Within r mostChange ⌝ }
+{
+    if wins { whole as i32 } else { less(owes) }
+}
+
+// What article 67 gives each seat: feeder and discarder pay the winner the whole.
+fn liabilities(f: Fields, feeder: u8, dealers: bool) -> [i32; 4]
+    requires { ⌜ (f .winner ≤ 3) × (f .discarder ≤ 3) × (wrongDiscarder f ≡ false) × (feeder ≤ 3) × (f .winner ≡ feeder → ⊥) ⌝ }
+    ensures { λ r. ⌜ (r ≡ tabulate 4 0 (settles (f .winner) (fedPays (f .winner) (f .discarder) feeder (isRon f) (wholeOf dealers)))) × Changes r ⌝ }
 {
     let ron = f.how == 1;
     let w = f.winner;
     let d = f.discarder;
+    let whole = whole_of(dealers);
     [
-        addition(0 == w, ron, 0 == d, n),
-        addition(1 == w, ron, 1 == d, n),
-        addition(2 == w, ron, 2 == d, n),
-        addition(3 == w, ron, 3 == d, n),
+        liability(0 == w, owed(ron, 0 == feeder, 0 == d, whole), whole),
+        liability(1 == w, owed(ron, 1 == feeder, 1 == d, whole), whole),
+        liability(2 == w, owed(ron, 2 == feeder, 2 == d, whole), whole),
+        liability(3 == w, owed(ron, 3 == feeder, 3 == d, whole), whole),
     ]
+}
+
+// What each seat gets or pays of the winner's gain: the changes c, or by article 67 where the yaku was fed; fed is 0, or 1 + the feeder.
+pub fn won(f: Fields, c: [i32; 4], fed: u8, dealers: bool) -> [i32; 4]
+    requires { ⌜ (f .winner ≤ 3) × (f .discarder ≤ 3) × (wrongDiscarder f ≡ false) × (fed ≤ 4) × (fed ≡ 1 + f .winner → ⊥) × Changes c ⌝ }
+    ensures { λ r. ⌜ (r ≡ cond (isSet fed) (tabulate 4 0 (settles (f .winner) (fedPays (f .winner) (f .discarder) (fed - 1) (isRon f) (wholeOf dealers)))) c) × Changes r ⌝ }
+{
+    if 0 < fed {
+        return liabilities(f, fed - 1, dealers);
+    }
+    c
+}
+
+// The feeder that fed names, 0 where it names none.
+fn feeder_of(fed: u8) -> u8
+    ensures { λ r. ⌜ r ≡ fed - 1 ⌝ }
+{
+    if 0 < fed { fed - 1 } else { 0 }
+}
+
+// Who pays the counters, where one seat does: the discarder on ron, else the feeder.
+fn payer_of(ron: bool, discarder: u8, feeder: u8) -> u8
+    ensures { λ r. ⌜ r ≡ cond ron discarder feeder ⌝ }
+{
+    if ron { discarder } else { feeder }
+}
+
+// What n repeat counters give each seat at a win: all others pay them on tsumo, the discarder alone on ron, and the feeder alone on tsumo of a yaku that was fed.
+pub fn added(f: Fields, fed: u8, n: u32) -> [i32; 4]
+    requires { ⌜ (f .winner ≤ 3) × (f .discarder ≤ 3) × (wrongDiscarder f ≡ false) × (fed ≤ 4) × (fed ≡ 1 + f .winner → ⊥) × (n ≤ lastHand) ⌝ }
+    ensures { λ r. ⌜ (r ≡ tabulate 4 0 (repeatGives (f .winner) (cond (isRon f) (f .discarder) (fed - 1)) (isRon f || isSet fed) n)) × Changes r ⌝ }
+{
+    let ron = f.how == 1;
+    let payer = payer_of(ron, f.discarder, feeder_of(fed));
+    additions(f.winner, payer, ron | (0 < fed), n)
 }
 
 // What a win gives a seat: its change, what the counters add, and the sticks if it wins.

@@ -1,6 +1,9 @@
-// A log booked into a game, entry by entry, and where a walk over it stands (01, Log). The public calls take all input.
+// A log booked into a game, entry by entry, and where a walk over it stands (01, Log; 02, S-8). The public calls take all input.
 ghost use mathlib.Core.Path.{_≡_};
+ghost use lib.ListN.{getD};
+ghost use Rattle.ledger.specs.Booking as Booking;
 ghost use Rattle.ledger.specs.Runs.{Booked};
+ghost use Rattle.log.specs.Kinds.{holderIn, feederIn, yakuIn};
 ghost use Rattle.play.specs.Play.{bookingBy, noEntry, stepOf, BookedPart, started};
 use game::Outcome;
 use ledger::Game;
@@ -19,7 +22,28 @@ pub struct Step {
     pub game: Game,
 }
 
-// The booking of a kind, with its argument and, of a win, its record.
+// The first of some bytes, 0 where there is none.
+fn first(s: &[u8]) -> u8
+    ensures { λ r. ⌜ r ≡ getD (now (s .entry)) 0 0 ⌝ }
+{
+    if s.len() == 0 {
+        return 0;
+    }
+    s[0]
+}
+
+// A feeder named by the byte after the header.
+fn book_feed(g: Game, s: &[u8]) -> Outcome
+    ensures { λ r. ⌜ Booked g (Booking.feed (holderIn (now (s .entry))) (feederIn (now (s .entry))) (yakuIn (now (s .entry)))) (r .refusal) (r .game) ⌝ }
+{
+    let b = first(s);
+    let holder = log::holder(b);
+    let feeder = log::feeder(b);
+    let yaku = log::yaku(b);
+    game::feed(g, holder, feeder, yaku)
+}
+
+// The booking of a kind, with its argument and the bytes after the header: of a win its record, of a named feeder who and for what.
 fn book(g: Game, kind: u8, argument: u8, s: &[u8]) -> Outcome
     ensures { λ r. ⌜ Booked g (bookingBy kind argument (now (s .entry))) (r .refusal) (r .game) ⌝ }
 {
@@ -31,6 +55,9 @@ fn book(g: Game, kind: u8, argument: u8, s: &[u8]) -> Outcome
     }
     if kind == log::DRAW {
         return game::draw(g, argument);
+    }
+    if kind == log::FEED {
+        return book_feed(g, s);
     }
     game::chombo(g, argument)
 }

@@ -45,6 +45,7 @@ impl Games {
             Booking::Win(record) => archive::win(game, record),
             Booking::Draw(bits) => archive::draw(game, *bits),
             Booking::Chombo(seat) => archive::chombo(game, *seat),
+            Booking::Feed { holder, feeder, yaku } => archive::feed(game, *holder, *feeder, *yaku),
         };
         self.settle(differences, before, booking, got, input);
         got

@@ -160,6 +160,7 @@ pub struct Game {
     pub hands: u8,
     pub over: u8,
     pub counter: u32,
+    pub feeders: [u8; 8],
 }
 
 #[repr(C)]
@@ -234,6 +235,7 @@ extern "C" {
     fn hb_win(game: &mut Game, record: *const u8, len: usize) -> u8;
     fn hb_draw(game: &mut Game, bits: u8) -> u8;
     fn hb_chombo(game: &mut Game, seat: u8) -> u8;
+    fn hb_feed(game: &mut Game, holder: u8, feeder: u8, yaku: u8) -> u8;
     fn hb_next(log: *const u8, len: usize, at: usize) -> NextEntry;
     fn hb_book(game: &mut Game, part: *const u8, len: usize) -> u8;
     fn hb_start() -> Walk;
@@ -307,6 +309,11 @@ pub fn draw(game: &mut Game, bits: u8) -> u8 {
 /// Chombo.
 pub fn chombo(game: &mut Game, seat: u8) -> u8 {
     unsafe { hb_chombo(game, seat) }
+}
+
+/// Feed.
+pub fn feed(game: &mut Game, holder: u8, feeder: u8, yaku: u8) -> u8 {
+    unsafe { hb_feed(game, holder, feeder, yaku) }
 }
 
 /// Next entry.

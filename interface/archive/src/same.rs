@@ -1,5 +1,7 @@
 //! The other scorer's answers in the archive's form.
 
+use std::collections::BTreeMap;
+
 use other_scorer::game::book;
 use other_scorer::log::{booking, letter, next, Next};
 use other_scorer::record::Meld;
@@ -137,6 +139,7 @@ pub fn game(game: &other_scorer::Game) -> archive::Game {
         hands: game.hands,
         over: game.over as u8,
         counter: game.counter,
+        feeders: game.feeders,
     }
 }
 
@@ -151,7 +154,14 @@ pub fn to_other_game(game: &archive::Game) -> other_scorer::Game {
         hands: game.hands,
         over: game.over != 0,
         counter: game.counter,
+        feeders: game.feeders,
     }
+}
+
+/// The feeder of each holder and yaku that are named: 1 + its seat stands at the holder's place, for yaku 29 four further (02, S-8).
+fn named(feeders: &[u8; 8]) -> BTreeMap<(u8, u8), u8> {
+    let places = (0u8..).zip(feeders).filter(|(_, &feeder)| feeder > 0);
+    places.map(|(place, feeder)| ((place % 4, 28 + place / 4), feeder - 1)).collect()
 }
 
 /// The archive's game as a ledger (01, Ledger).
@@ -165,6 +175,7 @@ pub fn ledger(game: &archive::Game) -> other_scorer::Ledger {
         hands: game.hands as u32,
         over: game.over != 0,
         counter: game.counter as i64,
+        fed: named(&game.feeders),
     }
 }
 

@@ -4,13 +4,13 @@ use archive::{same, Games, Walk};
 use other_scorer::damage::noise;
 use other_scorer::example::{example, End};
 use other_scorer::game::book;
-use other_scorer::log::{booking, next, tally_lines, Next, LONGEST};
+use other_scorer::log::{booking, next, size, tally_lines, Next, FEED, LONGEST};
 use other_scorer::notation::hex::to_hex as hex;
 use other_scorer::rng::Rng;
 use other_scorer::{Booking, Game};
 
 use crate::report::Report;
-use crate::{buffers, chance, games, lines};
+use crate::{buffers, cases, chance, games, lines};
 
 /// Bookings made past the end of a game, and tried in all.
 const PAST: usize = 12;
@@ -19,6 +19,9 @@ const TRIED: usize = 2000;
 /// The bookings of a chain in a game of any state.
 const CHAIN: usize = 10;
 
+/// So many logs meet every case.
+const ENOUGH: usize = 64;
+
 /// The section that a booking's refusals are counted in.
 fn section(booking: &Booking) -> &'static str {
     match booking {
@@ -26,12 +29,15 @@ fn section(booking: &Booking) -> &'static str {
         Booking::Win(_) => "Win by refusal",
         Booking::Draw(_) => "Draw by refusal",
         Booking::Chombo(_) => "Chombo by refusal",
+        Booking::Feed { .. } => "Feed by refusal",
     }
 }
 
-/// Counts a booking by its refusal, a win that was paid by whether there were counters, and an accepted draw by its seats at fault.
+/// Counts a booking by its refusal and the cases it meets, a win that was paid by whether there were counters, and an accepted draw
+/// by its seats at fault.
 fn note(report: &mut Report, before: &Game, booking: &Booking, refusal: u8) {
     report.count(section(booking), refusal);
+    cases::met(before, booking, refusal).into_iter().for_each(|case| report.meet(case));
     match (booking, refusal) {
         (Booking::Win(_), 0) => report.count("wins paid (1 with counters)", before.counter > 0),
         (Booking::Draw(bits), 0) => report.count("draws by seats declared, not ready", before.unready(*bits).len() as u8),
@@ -69,16 +75,18 @@ fn played(rng: &mut Rng, keep: bool) -> Vec<u8> {
     log
 }
 
-/// Entries of one byte with any argument, and wins of any bytes.
+/// Entries of one byte with any argument, feeds, mostly in form, and wins of any bytes; at times a feed's first byte last.
 fn sown(rng: &mut Rng) -> Vec<u8> {
     let mut log = Vec::new();
     for _ in 0..rng.below(80) {
         match rng.below(8) {
             0 => log.extend(Booking::Win(noise(rng)).bytes()),
             1 => log.push(rng.next() as u8),
+            2 => log.extend([0x50 | rng.pick(&[0, 0, 0, 1, 8]), rng.next() as u8 & rng.pick(&[0xf8, 0xf8, 0xf8, 0xff])]),
             _ => log.push(rng.pick(&[0x00, 0x20, 0x30]) | rng.within(0, 15)),
         }
     }
+    log.extend(rng.percent(20).then_some(0x50));
     log
 }
 
@@ -126,11 +134,25 @@ fn make(rng: &mut Rng, index: usize) -> Vec<u8> {
     log
 }
 
+/// The ways in which an entry of a feed is bad.
+const DAMAGED: [&str; 3] = ["feed in a log: bytes missing", "feed in a log: argument not 0", "feed in a log: a zero bit set"];
+
+/// How the feed that a stretch begins with is bad (02, S-8).
+fn damaged_feed(rest: &[u8]) -> Option<&'static str> {
+    match size(rest) {
+        Ok(_) => None,
+        Err(fault) => Some(DAMAGED[fault - 3]),
+    }
+}
+
 /// Compares the entry at every offset of a log and at some past its end.
 fn compare_entries(report: &mut Report, log: &[u8]) {
     let last = log.len() + 2;
     for at in (0..=last).chain([usize::MAX - 16, usize::MAX - 1, usize::MAX]) {
         let wanted = same::entry(log, at);
+        if let Some(case) = log.get(at..).filter(|rest| rest.first().is_some_and(|header| header >> 4 == FEED)).and_then(damaged_feed) {
+            report.meet(case);
+        }
         match (wanted.refusal, wanted.end) {
             (0, 0) => report.count("entries by kind", wanted.kind),
             (0, _) => report.count("no entry (0 end, 14 refused)", 0u8),
@@ -225,6 +247,9 @@ fn compare_chain(report: &mut Report, rng: &mut Rng) {
 
 /// Compares so many random logs, and ten chains of bookings for each.
 pub fn run(report: &mut Report, rng: &mut Rng, count: usize) {
+    if count >= ENOUGH {
+        cases::CASES.iter().chain(&DAMAGED).for_each(|case| report.need(case));
+    }
     for index in 0..count {
         let log = make(rng, index);
         report.count("logs (1 over 65,536 bytes)", log.len() > LONGEST);

@@ -1,5 +1,6 @@
 //! Compares the linked archive with the other scorer: `compare COUNT SEED [LOGS]`.
-//! COUNT hands, LOGS logs (a thousandth of COUNT, at least 64, where not given). Exit 1 if anything differs.
+//! COUNT hands, LOGS logs (a thousandth of COUNT, at least 64, where not given). Exit 1 if anything differs, or a case that 64 logs
+//! have to meet was not met.
 
 mod buffers;
 mod cards;
@@ -13,9 +14,11 @@ mod slips;
 mod turns;
 mod waits;
 
-// The generators of random bookings and games that the other scorer's own tests use.
+// The generators of random bookings and games that the other scorer's own tests use, and the cases that these have to meet.
 #[path = "../../../other_scorer/tests/chance/mod.rs"]
 mod chance;
+#[path = "../../../other_scorer/tests/chance/cases.rs"]
+mod cases;
 #[path = "../../../other_scorer/tests/chance/games.rs"]
 mod games;
 
@@ -24,7 +27,7 @@ use std::{env, process::ExitCode, time::Instant};
 use report::Report;
 use other_scorer::rng::Rng;
 
-/// Runs the comparison; whether nothing differs.
+/// Runs the comparison; whether nothing differs and all is met.
 fn run(count: usize, seed: u64, logs: usize) -> bool {
     let mut report = Report::default();
     let mut rng = Rng::new(seed);
@@ -39,7 +42,7 @@ fn run(count: usize, seed: u64, logs: usize) -> bool {
     report.print()
 }
 
-/// Exit code 0: nothing differs; 1: something does; 2: wrong arguments.
+/// Exit code 0: nothing differs; 1: something does, or is not met; 2: wrong arguments.
 fn main() -> ExitCode {
     let numbers: Result<Vec<usize>, _> = env::args().skip(1).map(|word| word.parse()).collect();
     let (count, seed, logs) = match numbers.as_deref() {

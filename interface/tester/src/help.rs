@@ -139,6 +139,7 @@ A text of bookings gives the bytes of a log; the bytes of a log, or hexadecimal 
   win 234567m345p67s22s+8s seat=1 ron=3     as for `tester hand`, or win HEX; dealer and wind are the game's
   draw 0 2                                  seats 0 and 2 are ready; draw alone: nobody
   chombo 3
+  feed holder=1 feeder=3 yaku=28            seat 3 feeds seat 1's three dragon triplets; 29: four wind triplets
   bytes 40 ff                               these bytes as they are
   # a comment
 
@@ -152,12 +153,14 @@ pub const TALLY: &str = "\
 tester tally FILE|-|HEX [--words] [--bytes] [--plain]
 
 The game of a log, text or bytes as for `tester log`: a line for each entry with the deal it was made in (E1 to S4),
-its refusal (0 accepted), the scores, sticks and counter after it. Bytes past 65,536 are not read.
+its refusal (0 accepted), the scores, sticks and counter after it, and the feeders named (3 to 1 28: seat 3 feeds yaku 28
+to seat 1), if there are any. Bytes past 65,536 are not read.
 
-  --words    why an entry was refused, or whose chombo a draw was, below it
+  --words    why an entry was refused, whose chombo a draw was, or who fed a win and pays for it, below it
   --bytes    FILE holds the bytes of a log, even if they look like text
 
-For scripts: the lines of the program tally; with --words the refusal, or whose chombo a draw was, at the end of its line.
+For scripts: the lines of the program tally; with --words the refusal, whose chombo a draw was, or who fed a win, at the end of
+its line.
 ";
 
 pub const DAMAGE: &str = "\
@@ -169,5 +172,5 @@ Tries every change of one bit, every cut, and every swap of two bytes; HAND as f
 
   random=N   N random changes instead; seed=N for others than those of seed 1
 
-For scripts: kind of change, number tried, and how often each of the refusals 0 to 14 was met.
+For scripts: kind of change, number tried, and how often each of the refusals 0 to 18 was met.
 ";

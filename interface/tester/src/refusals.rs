@@ -1,8 +1,11 @@
 //! Each refusal in words, and which of its conditions was met, worked out by the other scorer.
 
 use other_scorer::codec::{length, length_fault, meld_count, unpack, LENGTH_FAULTS};
+use other_scorer::fed;
+use other_scorer::game::liable;
 use other_scorer::log::{size, ENTRY_FAULTS};
 use other_scorer::notation::text;
+use other_scorer::record::RON;
 use other_scorer::score::valued;
 use other_scorer::sound::{field_faults, situation_faults, FIELD_FAULTS, SITUATION_FAULTS};
 use other_scorer::{unfinished, Booking, Game};
@@ -10,7 +13,7 @@ use other_scorer::{unfinished, Booking, Game};
 use crate::names::count;
 
 /// The highest refusal of a record or a log.
-pub const LAST: u8 = 14;
+pub const LAST: u8 = 18;
 
 /// A refusal in words (01, each at its place); docs/REFUSALS.md has the same.
 pub fn refusal(number: u8) -> &'static str {
@@ -32,6 +35,7 @@ pub fn refusal(number: u8) -> &'static str {
         14 => "the log's entry is bad or cut",
         15 => "a discard is no kind",
         16 => "the page is shorter than a slip",
+        18 => "the feed does not fit, or is named already",
         19 => "no such suit or size, or the buffer is shorter than the list",
         22 => "the claim is faulty",
         _ => "no refusal of documents 01 and 02",
@@ -112,7 +116,7 @@ pub fn of_unfinished(refusal: u8, bytes: &[u8], discards: &[u8]) -> Vec<String> 
     }
 }
 
-/// The conditions met by the refusal of a booking in a game (01, The game).
+/// The conditions met by the refusal of a booking in a game (01, The game; 02, S-8).
 pub fn of_booking(refusal: u8, booking: &Booking, game: &Game) -> Vec<String> {
     match (refusal, booking) {
         (9, _) if game.hands == 200 => vec!["200 hands are finished".into()],
@@ -123,6 +127,11 @@ pub fn of_booking(refusal: u8, booking: &Booking, game: &Game) -> Vec<String> {
             0 => vec![format!("seat {} has declared, the record has no riichi", hand.winner)],
             _ => vec![format!("the record has riichi, seat {} has not declared", hand.winner)],
         }),
+        (18, Booking::Feed { holder, feeder, .. }) if holder == feeder => vec![format!("seat {holder} is holder and feeder")],
+        (18, Booking::Feed { holder, yaku, .. }) => {
+            let feeder = game.feeder(*holder, *yaku).map(|seat| format!("seat {seat} is named for yaku {yaku} of seat {holder}"));
+            feeder.into_iter().collect()
+        }
         (_, Booking::Win(record)) => of_record(refusal, record, game.dealer, game.wind),
         _ => Vec::new(),
     }
@@ -133,6 +142,19 @@ pub fn of_draw(booking: &Booking, game: &Game) -> Option<String> {
     let Booking::Draw(bits) = booking else { return None };
     let seats: Vec<String> = game.unready(*bits).iter().map(|seat| format!("seat {seat}")).collect();
     (!seats.is_empty()).then(|| format!("a chombo, declared and not ready: {}", seats.join("; ")))
+}
+
+/// Who pays an accepted win that was fed, by article 67 (02, S-8).
+pub fn of_win(booking: &Booking, game: &Game) -> Option<String> {
+    let Booking::Win(record) = booking else { return None };
+    let hand = unpack(record).ok()?.0;
+    let (feeder, yaku) = (liable(game, &hand)?, fed::yaku(&hand, game.dealer, game.wind)?);
+    let pays = match hand.how {
+        RON if hand.discarder == feeder => "pays all, as the discarder too".to_string(),
+        RON => format!("pays half, seat {} the other half and the counters", hand.discarder),
+        _ => "pays the whole, with the counters".to_string(),
+    };
+    Some(format!("seat {feeder} fed yaku {yaku} to seat {} and {pays}", hand.winner))
 }
 
 /// The condition met by refusal 14 at the start of a stretch of a log (01, Next entry).

@@ -8,12 +8,12 @@ use crate::input;
 use crate::log::entries;
 use crate::names::{count, points, wind};
 use crate::page::{table, Page};
-use crate::refusals::{of_booking, of_draw, of_entry, sentence};
+use crate::refusals::{of_booking, of_draw, of_entry, of_win, sentence};
 use crate::text;
 use crate::walk::{whole, Step, Walk};
 use crate::words::{Bad, Words};
 
-/// The game of a log, entry by entry; with --words also why an entry is refused, or that a draw was a chombo.
+/// The game of a log, entry by entry; with --words also why an entry is refused, that a draw was a chombo, or that a win was fed.
 pub fn run(core: &mut Core, mut words: Words) -> Result<String, Bad> {
     let (plain, raw, why) = (words.take_flag("--plain"), words.take_flag("--bytes"), words.take_flag("--words"));
     let log = input::log(core, &words, raw)?.bytes;
@@ -46,11 +46,11 @@ pub fn run(core: &mut Core, mut words: Words) -> Result<String, Bad> {
     Ok(page.finish())
 }
 
-/// Why an entry was refused, or what an accepted draw was besides one.
+/// Why an entry was refused, or what an accepted draw was besides one, or who pays a win that was fed.
 fn remark(step: &Step) -> Option<String> {
     let before = &step.before.other;
     match step.refusal {
-        0 => of_draw(&step.booking, before),
+        0 => of_draw(&step.booking, before).or_else(|| of_win(&step.booking, before)),
         refusal => Some(sentence(refusal, &of_booking(refusal, &step.booking, before))),
     }
 }
@@ -68,15 +68,27 @@ fn deal(game: &Game) -> String {
     format!("{}{}", wind(game.wind), game.dealer + 1)
 }
 
-/// A line for each entry, after a line of heads.
+/// The feeders named in a game: the feeder, the holder and the yaku of each.
+fn feeders(game: &Game) -> String {
+    let named = (0..4).flat_map(|holder| [28, 29].map(|yaku| (holder, yaku)));
+    let each = named.filter_map(|(holder, yaku)| Some(format!("{} to {holder} {yaku}", game.feeder(holder, yaku)?)));
+    each.collect::<Vec<_>>().join(", ")
+}
+
+/// A line for each entry, after a line of heads; a column for the feeders where one is named.
 fn listing(walk: &Walk) -> Vec<String> {
-    let heads = ["entry", "deal", "refusal", "seat 0", "seat 1", "seat 2", "seat 3", "sticks", "counter", "booking"];
-    let mut rows = vec![heads.map(String::from).to_vec()];
+    let fed = walk.steps.iter().any(|step| step.after.archive.feeders != [0; 8]);
+    let mut heads = vec!["entry", "deal", "refusal", "seat 0", "seat 1", "seat 2", "seat 3", "sticks", "counter"];
+    heads.extend(fed.then_some("fed"));
+    heads.push("booking");
+    let mut rows = vec![heads.into_iter().map(String::from).collect()];
     for (n, step) in (1..).zip(&walk.steps) {
         let game = &step.after.archive;
         let mut row = vec![n.to_string(), deal(&step.before.other), step.refusal.to_string()];
         row.extend(game.scores.map(|score| points(score as i64)));
-        row.extend([game.sticks.to_string(), game.counter.to_string(), text::line(&step.booking)]);
+        row.extend([game.sticks.to_string(), game.counter.to_string()]);
+        row.extend(fed.then(|| feeders(&step.after.other)));
+        row.push(text::line(&step.booking));
         rows.push(row);
     }
     table(&rows, &[0, 1, 2, 3, 4, 5, 6, 7, 8])

@@ -25,9 +25,9 @@ fn entry(core: &mut Core, mut words: Words) -> Result<Vec<u8>, Bad> {
     let first = words.texts().first().map(|word| word.to_ascii_lowercase());
     let kind = match first.as_deref() {
         None => return Ok(Vec::new()),
-        Some(kind @ ("riichi" | "win" | "draw" | "chombo" | "bytes")) => kind,
+        Some(kind @ ("riichi" | "win" | "draw" | "chombo" | "feed" | "bytes")) => kind,
         Some(_) => {
-            let why = "a line begins with riichi, win, draw, chombo or bytes (--bytes if the file is no text)";
+            let why = "a line begins with riichi, win, draw, chombo, feed or bytes (--bytes if the file is no text)";
             return Err(words.bad(0, why));
         }
     };
@@ -37,6 +37,7 @@ fn entry(core: &mut Core, mut words: Words) -> Result<Vec<u8>, Bad> {
         "chombo" => Booking::Chombo(argument(&words)?),
         "draw" => Booking::Draw(ready(&words)?),
         "win" => Booking::Win(record(core, &words)?),
+        "feed" => feed(words)?,
         _ => return input::bytes(&words).unwrap_or_else(|| Err(words.bad(0, "hexadecimal digits are needed"))),
     };
     Ok(booking.bytes())
@@ -67,6 +68,23 @@ fn ready(words: &Words) -> Result<u8, Bad> {
     Ok(bits)
 }
 
+/// Who fed whom with which yaku; the holder himself has a place in a log, and is refused by the game.
+fn feed(mut words: Words) -> Result<Booking, Bad> {
+    let number = |low: u8, high: u8, why: &'static str| {
+        move |value: &str| value.parse().ok().filter(|number| (low..=high).contains(number)).ok_or(why.to_string())
+    };
+    let holder = words.take("holder", number(0, 3, "a seat is 0, 1, 2 or 3"))?;
+    let feeder = words.take("feeder", number(0, 3, "a seat is 0, 1, 2 or 3"))?;
+    let yaku = words.take("yaku", number(28, 29, "28 for three dragon triplets or 29 for four wind triplets is needed"))?;
+    if !words.texts().is_empty() {
+        return Err(words.bad(0, "one of holder=, feeder= and yaku= is needed"));
+    }
+    match (holder, feeder, yaku) {
+        (Some(holder), Some(feeder), Some(yaku)) => Ok(Booking::Feed { holder, feeder, yaku }),
+        _ => Err(words.bad(0, "holder=, feeder= and yaku= are needed, such as holder=1 feeder=3 yaku=28")),
+    }
+}
+
 /// The record of a win; dealer and wind are the game's.
 fn record(core: &mut Core, words: &Words) -> Result<Vec<u8>, Bad> {
     let of_game = |word: &&str| word.starts_with("dealer=") || word.starts_with("wind=");
@@ -81,6 +99,7 @@ pub fn line(booking: &Booking) -> String {
     match booking {
         Booking::Riichi(seat) => format!("riichi {seat}"),
         Booking::Chombo(seat) => format!("chombo {seat}"),
+        Booking::Feed { holder, feeder, yaku } => format!("feed holder={holder} feeder={feeder} yaku={yaku}"),
         Booking::Draw(bits) => {
             let seats = (0..4).filter(|&seat| is_ready(*bits, seat)).map(|seat| format!(" {seat}"));
             format!("draw{}", seats.collect::<String>())

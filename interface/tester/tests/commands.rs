@@ -394,7 +394,7 @@ fn the_worked_logs() {
     assert_eq!(answer(&format!("tally {second} --plain")), lines);
     let out = answer(&format!("tally {second} --words"));
     assert!(out.contains("refusal 8, an argument is out of range: seat 4 over 3\n"), "{out}");
-    assert!(out.contains("stopped at byte 16, 40: refusal 14, the log's entry is bad or cut: kind over 3\n"), "{out}");
+    assert!(out.contains("stopped at byte 16, 40: refusal 14, the log's entry is bad or cut: no such kind\n"), "{out}");
     assert!(out.contains("3 entries, 1 refused; 2 hands finished; E2 is on\n"), "{out}");
     let third = answer(&format!("tally 2f 10 {LINE_1}"));
     let counters: Vec<&str> = third.lines().take(3).map(|line| line.split_whitespace().nth(if line.starts_with("entry") { 12 } else { 8 }).unwrap_or("")).collect();
@@ -437,6 +437,41 @@ fn a_draw_with_a_declared_seat_that_is_not_ready_is_a_chombo() {
     assert!(out.contains("10 entries, 0 refused; 3 hands finished; E2 is on\n"), "{out}");
 }
 
+/// Three dragon triplets of seat 1: its record by tsumo.
+const DRAGONS: &str = "201684021068a2fbefc10410c2";
+
+#[test]
+fn a_win_that_was_fed() {
+    let dragons = "234m99pPPPFFFCC+C seat=1";
+    for (how, changes, words) in [
+        ("tsumo", "30000 62000 30000 -2000", "seat 3 fed yaku 28 to seat 1 and pays the whole, with the counters"),
+        ("ron=2", "30000 62000 14000 14000", "seat 3 fed yaku 28 to seat 1 and pays half, seat 2 the other half and the counters"),
+        ("ron=3", "30000 62000 30000 -2000", "seat 3 fed yaku 28 to seat 1 and pays all, as the discarder too"),
+    ] {
+        let text = format!("FEED yaku=28 holder=1 feeder=3\nwin {dragons} {how} indicator=5s\n");
+        let ran = run_in(Path::new("."), "tally - --plain --words", text.as_bytes());
+        assert_eq!(ran.out, format!("1 P 0 30000 30000 30000 30000 0\n2 W 0 {changes} 0 {words}\n"));
+        let out = run_in(Path::new("."), "tally - --words", text.as_bytes()).out;
+        assert!(out.contains(&format!("\n      {words}\n")), "{out}");
+        for row in ["  counter  fed        booking\n", "        0  3 to 1 28  feed holder=1 feeder=3 yaku=28\n", "        0             win 234m99p"] {
+            assert!(out.contains(row), "{row} in\n{out}");
+        }
+    }
+    let log = format!("50 70 10 {DRAGONS} 50 50 50 68 50 78 51");
+    let lines = "1 P 0 30000 30000 30000 30000 0\n2 W 0 30000 62000 30000 -2000 0 seat 3 fed yaku 28 to seat 1 and pays the whole, with the counters\n\
+        3 P 18 30000 62000 30000 -2000 0 refusal 18, the feed does not fit, or is named already: seat 1 is holder and feeder\n\
+        4 P 0 30000 62000 30000 -2000 0\n\
+        5 P 18 30000 62000 30000 -2000 0 refusal 18, the feed does not fit, or is named already: seat 2 is named for yaku 29 of seat 1\n";
+    assert_eq!(answer(&format!("tally {log} --plain --words")), lines);
+    let text = "feed holder=1 feeder=3 yaku=28\nwin 234m99pPPPFFFCC+C seat=1 tsumo indicator=5s\nfeed holder=1 feeder=1 yaku=28\n\
+        feed holder=1 feeder=2 yaku=29\nfeed holder=1 feeder=3 yaku=29\nbytes 51  # refusal 14, the log's entry is bad or cut: feed argument not 0\n";
+    assert_eq!(answer(&format!("log {log}")), text);
+    for (log, why) in [("50", "bytes missing"), ("50 71", "a zero bit of a feed set"), ("5f 70", "feed argument not 0"), ("60", "no such kind")] {
+        let out = answer(&format!("tally {log}"));
+        assert!(out.contains(&format!(": refusal 14, the log's entry is bad or cut: {why}\n")), "{out}");
+    }
+}
+
 #[test]
 fn logs_to_text_and_back() {
     let here = folder("logs");
@@ -459,9 +494,9 @@ fn logs_to_text_and_back() {
 #[test]
 fn damage_counts_refusals() {
     let out = answer(&format!("damage hand {LINE_1} --plain"));
-    let counts = "bit-changed 104 10 3 18 46 0 2 25 0 0 0 0 0 0 0 0\ncut 13 0 13 0 0 0 0 0 0 0 0 0 0 0 0 0\n\
-        bytes-swapped 78 0 12 40 24 0 0 2 0 0 0 0 0 0 0 0\ndifferences 0\n";
-    assert_eq!(out, counts);
+    let counts = "bit-changed 104 10 3 18 46 0 2 25\ncut 13 0 13 0 0 0 0 0\nbytes-swapped 78 0 12 40 24 0 0 2\n";
+    let rest = " 0".repeat(12) + "\n"; // refusals 7 to 18
+    assert_eq!(out, counts.replace('\n', &rest) + "differences 0\n");
     let some = answer(&format!("damage hand {LINE_1} random=3000 seed=4 --plain"));
     assert!(some.starts_with("random 3000 ") && some.ends_with("differences 0\n"), "{some}");
     assert_eq!(answer(&format!("damage hand {LINE_1} random=3000 seed=4 --plain")), some);

@@ -106,7 +106,7 @@ fn of_a_log() {
 #[test]
 fn of_a_text() {
     for (line, message) in [
-        ("richi 1", "word 1, \"richi\": a line begins with riichi, win, draw, chombo or bytes (--bytes if the file is no text)"),
+        ("richi 1", "word 1, \"richi\": a line begins with riichi, win, draw, chombo, feed or bytes (--bytes if the file is no text)"),
         ("riichi", "after word 1, \"riichi\": the seat is missing, 0 to 3"),
         ("riichi 1 2", "word 3, \"2\": one seat is enough"),
         ("chombo 16", "word 2, \"16\": a seat is 0, 1, 2 or 3 (up to 15 to see it refused)"),
@@ -115,6 +115,13 @@ fn of_a_text() {
         ("win # nothing", "after word 1, \"win\": no hand, such as 234567m345p67s22s+8s seat=1 ron=3"),
         ("win 234567m345p67s22s+8s seat=1", "after word 3, \"seat=1\": tsumo or ron=, such as ron=3, is missing"),
         ("win 234567m345p67s22s+8s seat=1 tsumo wind=E", "word 5, \"wind=E\": in a log the game says who deals and which wind blows"),
+        ("feed", "after word 1, \"feed\": holder=, feeder= and yaku= are needed, such as holder=1 feeder=3 yaku=28"),
+        ("feed holder=1 yaku=28", "after word 3, \"yaku=28\": holder=, feeder= and yaku= are needed, such as holder=1 feeder=3 yaku=28"),
+        ("feed holder=4 feeder=1 yaku=28", "word 2, \"holder=4\": a seat is 0, 1, 2 or 3"),
+        ("feed holder=0 feeder=x yaku=28", "word 3, \"feeder=x\": a seat is 0, 1, 2 or 3"),
+        ("feed holder=0 feeder=1 yaku=30", "word 4, \"yaku=30\": 28 for three dragon triplets or 29 for four wind triplets is needed"),
+        ("feed holder=0 feeder=1 yaku=28 yaku=28", "word 5, \"yaku=28\": an earlier word has said this already"),
+        ("feed 0 1 28", "word 2, \"0\": one of holder=, feeder= and yaku= is needed"),
         ("bytes 4", "word 2, \"4\": two hexadecimal digits make a byte, one is left over"),
         ("bytes xy", "word 2, \"xy\": hexadecimal digits are needed"),
     ] {

@@ -6,7 +6,7 @@ pub mod survey;
 
 use crate::game::LAST_HAND;
 use crate::rng::Rng;
-use scene::Scene;
+use scene::{From, Scene};
 use script::Script;
 
 /// How the game of the log ends (01, The game).
@@ -18,8 +18,8 @@ pub enum End {
     Hands,
 }
 
-/// All scenes that keep the deal, in random order.
-fn scenes(rng: &mut Rng) -> Vec<Scene> {
+/// All scenes that keep the deal, those of feeders if they are wanted, in random order.
+fn scenes(rng: &mut Rng, feeders: bool) -> Vec<Scene> {
     let mut all = Vec::new();
     all.extend((1..=36).filter(|&n| n != 27).map(Scene::Yaku));
     all.extend((0..=4).map(Scene::Melds));
@@ -31,6 +31,12 @@ fn scenes(rng: &mut Rng) -> Vec<Scene> {
     all.extend((0..=4).flat_map(|n| [Scene::Chombo(n, true), Scene::Chombo(n, false)]));
     all.extend([Scene::Carried, Scene::Seat, Scene::Again]);
     all.extend([Scene::Undeclared, Scene::Silent, Scene::NoYaku]);
+    if feeders {
+        let froms = [From::Wall, From::Feeder, From::Another];
+        all.extend([28, 29].iter().flat_map(|&yaku| froms.map(|from| Scene::Fed(yaku, from))));
+        all.extend([Scene::ThreeWinds, Scene::OtherHolder, Scene::OtherYaku, Scene::FedTwice]);
+        all.extend("WDUC".chars().map(Scene::Lapsed));
+    }
     rng.shuffle(&mut all);
     all
 }
@@ -39,7 +45,7 @@ fn scenes(rng: &mut Rng) -> Vec<Scene> {
 pub fn example(seed: u64, end: End) -> Vec<u8> {
     let mut script = Script::new(seed);
     let mut rng = Rng::new(seed ^ 0x5EED);
-    let twice = [scenes(&mut rng), scenes(&mut rng)].concat();
+    let twice = [scenes(&mut rng, true), scenes(&mut rng, false)].concat();
     let parts: Vec<&[Scene]> = twice.chunks(twice.len().div_ceil(8)).collect();
     for (deal, part) in parts.into_iter().enumerate() {
         part.iter().for_each(|scene| scene.play(&mut script));

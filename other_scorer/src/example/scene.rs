@@ -1,12 +1,21 @@
-//! Scenes of an example log; each starts and ends with no seat declared (01, The game).
+//! Scenes of an example log; each starts and ends with no seat declared and no feeder named (01, The game; 02, S-7 and S-8).
 
 use super::script::Script;
-use crate::booking::Booking::{Chombo, Draw, Riichi, Win};
+use crate::booking::Booking::{Chombo, Draw, Feed, Riichi, Win};
 use crate::codec::pack;
 use crate::deal::{drawn, near};
 use crate::fault::{self, FAULTS};
+use crate::fed::{self, DRAGONS, WINDS};
 use crate::record::{Hand, RON, TSUMO};
 use crate::score::Scored;
+
+/// Whose tile a win that was fed takes.
+#[derive(Clone, Copy, Debug, PartialEq, Eq)]
+pub enum From {
+    Wall,
+    Feeder,
+    Another,
+}
 
 /// A scene that keeps the deal.
 #[derive(Clone, Copy, Debug)]
@@ -27,6 +36,18 @@ pub enum Scene {
     Chombo(u8, bool),
     /// A draw in which so many declared seats are not ready: a chombo of each (02, S-7).
     Unready(u8),
+    /// A win of the dealer with this yaku, which was fed (02, S-8).
+    Fed(u8, From),
+    /// A win of the dealer with three wind triplets and a pair, named for four.
+    ThreeWinds,
+    /// A win of the dealer with a yaku that another holder is named for.
+    OtherHolder,
+    /// A win of the dealer with one of the two yaku, named for the other.
+    OtherYaku,
+    /// A holder and yaku named twice, and a holder as the feeder (refusal 18).
+    FedTwice,
+    /// A feeder named, the hand's end by a win, a draw, a draw with a seat that is not ready (U) or a chombo; then that win.
+    Lapsed(char),
     /// Sticks carried over two draws, a draw with a seat that is not ready and a chombo to a win.
     Carried,
     /// Riichi and chombo with an argument over 3 (refusal 8).
@@ -63,6 +84,24 @@ impl Scene {
             Scene::Draw(count) => draw(script, count as usize),
             Scene::Chombo(count, own) => chombo(script, count as usize, own),
             Scene::Unready(count) => unready(script, count as usize),
+            Scene::Fed(yaku, from) => fed(script, dealer, yaku, from),
+            Scene::ThreeWinds => {
+                named(script, dealer, WINDS);
+                let wind = script.game.wind;
+                script.win(dealer, |hand, scored| scored.yaku >> WINDS & 1 == 1 && fed::yaku(hand, dealer, wind).is_none());
+            }
+            Scene::OtherHolder => {
+                let (child, yaku) = (script.child(), script.rng.pick(&[DRAGONS, WINDS]));
+                named(script, child, yaku);
+                with_fed_yaku(script, dealer, yaku, |_| true);
+            }
+            Scene::OtherYaku => {
+                let yaku = script.rng.pick(&[DRAGONS, WINDS]);
+                named(script, dealer, DRAGONS + WINDS - yaku);
+                with_fed_yaku(script, dealer, yaku, |_| true);
+            }
+            Scene::FedTwice => fed_twice(script),
+            Scene::Lapsed(by) => lapsed(script, by),
             Scene::Carried => carried(script),
             Scene::Seat => {
                 let over = script.rng.within(4, 15);
@@ -144,6 +183,66 @@ fn chombo(script: &mut Script, count: usize, own: bool) {
     script.add(Chombo(if own { seats[0] } else { seats[3] }));
 }
 
+/// Names a feeder of a holder's yaku; gives it.
+fn named(script: &mut Script, holder: u8, yaku: u8) -> u8 {
+    let feeder = script.seats(&[holder])[1];
+    script.add(Feed { holder, feeder, yaku });
+    feeder
+}
+
+/// A win of a seat reported with one of the two yaku that a feeder answers for, which passes a test (02, S-8).
+fn with_fed_yaku(script: &mut Script, winner: u8, yaku: u8, test: impl Fn(&Hand) -> bool) {
+    let (dealer, wind) = (script.game.dealer, script.game.wind);
+    script.win(winner, |hand, scored| scored.yaku >> yaku & 1 == 1 && fed::yaku(hand, dealer, wind) == Some(yaku) && test(hand));
+}
+
+/// A win that was fed: by tsumo after a riichi and with another holder named too, from the feeder with a riichi since and the
+/// holder's other yaku named too, or from another (02, S-8).
+fn fed(script: &mut Script, holder: u8, yaku: u8, from: From) {
+    let others: Vec<u8> = script.seats(&[holder])[1..].to_vec();
+    if from == From::Wall {
+        script.add(Riichi(others[0]));
+        named(script, others[1], yaku);
+    }
+    let feeder = named(script, holder, yaku);
+    if from == From::Feeder {
+        script.add(Riichi(others[0]));
+        named(script, holder, DRAGONS + WINDS - yaku);
+    }
+    with_fed_yaku(script, holder, yaku, |hand| match from {
+        From::Wall => hand.how == TSUMO,
+        From::Feeder => hand.how == RON && hand.discarder == feeder,
+        From::Another => hand.how == RON && hand.discarder != feeder,
+    });
+}
+
+/// A holder and yaku named with the same feeder again and with another, and a holder named as the feeder (refusal 18); then a draw.
+fn fed_twice(script: &mut Script) {
+    let (seats, yaku) = (script.seats(&[]), script.rng.pick(&[DRAGONS, WINDS]));
+    for feeder in [seats[1], seats[1], seats[2], seats[0]] {
+        script.add(Feed { holder: seats[0], feeder, yaku });
+    }
+    script.add(Feed { holder: seats[3], feeder: seats[3], yaku });
+    script.draw(&[script.game.dealer]);
+}
+
+/// A feeder of the dealer, the hand's end, and a win of the dealer with that yaku, which is paid plainly (02, S-8).
+fn lapsed(script: &mut Script, by: char) {
+    let (dealer, child) = (script.game.dealer, script.child());
+    let yaku = script.rng.pick(&[DRAGONS, WINDS]);
+    named(script, dealer, yaku);
+    match by {
+        'W' => script.win(dealer, |_, scored| scored.yaku >> yaku & 1 == 0),
+        'D' => drop(script.draw(&[dealer])),
+        'U' => {
+            script.add(Riichi(child));
+            script.draw(&[dealer]);
+        }
+        _ => drop(script.add(Chombo(child))),
+    }
+    with_fed_yaku(script, dealer, yaku, |_| true);
+}
+
 /// Sticks carried over two draws, a draw with a declared seat that is not ready and a chombo, to a win of the dealer.
 fn carried(script: &mut Script) {
     let seats = script.seats(&[script.game.dealer]);
@@ -162,7 +261,7 @@ fn carried(script: &mut Script) {
 }
 
 /// The scene that passes the deal for the time after this many (01, The game); the first and the third go on with wins of a deal
-/// with no counter, by ron and by tsumo, and a draw with no stick, so that each log has them.
+/// with no counter, by ron and by tsumo, and a draw with no stick, so that each log has them; the fourth is a win that was fed.
 pub fn pass(script: &mut Script, deal: usize) {
     let dealer = script.game.dealer;
     let child = script.child();
@@ -183,8 +282,8 @@ pub fn pass(script: &mut Script, deal: usize) {
             script.draw(&[dealer]);
         }
         3 => {
-            script.add(Riichi(others[0]));
-            script.draw(&others[..2]);
+            let (yaku, from) = (script.rng.pick(&[DRAGONS, WINDS]), script.rng.pick(&[From::Wall, From::Feeder, From::Another]));
+            fed(script, child, yaku, from);
         }
         4 => script.win(child, |_, scored| scored.yaku >> 27 & 1 == 1),
         5 => {
@@ -211,6 +310,8 @@ pub fn after_the_end(script: &mut Script) {
     script.add(Draw(15));
     script.add(Chombo(seat));
     script.add(Chombo(4));
+    named(script, seat, DRAGONS);
+    script.add(Feed { holder: seat, feeder: seat, yaku: WINDS });
     let whole = Win(pack(&script.find(seat, any))).bytes();
     let cut = 5 + script.rng.below(whole.len() - 5);
     script.log.extend(&whole[..cut]);

@@ -1,11 +1,12 @@
-//! What a log covers, counted by walking it with a fresh game (01, The game; Log).
+//! What a log covers, counted by walking it with a fresh game (01, The game; Log; 02, S-7 and S-8).
 
 use crate::booking::Booking;
-use crate::codec::read;
+use crate::codec::{pack, read};
 use crate::cover::Cover;
-use crate::game::{book, is_ready, Game};
+use crate::fed::{self, DRAGONS, WINDS};
+use crate::game::{book, is_ready, liable, Game};
 use crate::log::{bookings, letter};
-use crate::record::RON;
+use crate::record::{Hand, RON};
 use crate::score::score;
 
 const SEATS: [&str; 2] = ["child", "dealer"];
@@ -13,10 +14,10 @@ const SEATS: [&str; 2] = ["child", "dealer"];
 /// The names of all counts and the labels that must be reached.
 fn expected() -> Cover {
     let mut cover = Cover::default();
-    cover.expect("accepted", &["R", "W", "D", "C"]);
-    cover.expect("refused", &["R", "W", "D", "C"]);
-    cover.expect("refusal", &["2", "3", "4", "5", "6", "7", "8", "9", "10", "11", "14"]);
-    cover.expect("refused after the end", &["R 8", "R 9", "W 9", "D 9", "C 8", "C 9"]);
+    cover.expect("accepted", &["R", "W", "D", "C", "P"]);
+    cover.expect("refused", &["R", "W", "D", "C", "P"]);
+    cover.expect("refusal", &["2", "3", "4", "5", "6", "7", "8", "9", "10", "11", "14", "18"]);
+    cover.expect("refused after the end", &["R 8", "R 9", "W 9", "D 9", "C 8", "C 9", "P 9"]);
     cover.expect("refusal 11", &["field without riichi", "riichi without field"]);
     cover.expect("win", &["tsumo dealer", "tsumo child", "ron dealer", "ron child"]);
     cover.expect("win with sticks", &["none", "this hand's", "older"]);
@@ -34,6 +35,14 @@ fn expected() -> Cover {
     cover.expect_numbers("chombo declared", 0, 4);
     cover.expect("chombo by", &["dealer", "child", "declared seat", "other seat"]);
     cover.expect("chombo with older sticks", &["yes"]);
+    cover.expect("feed", &["28", "29", "a second holder of a yaku", "both yaku of a holder", "a seat declared"]);
+    cover.expect("refusal 18", &["holder is the feeder", "named with the same feeder", "named with another feeder"]);
+    cover.expect("win fed with 28", &["tsumo", "ron from the feeder", "ron from another"]);
+    cover.expect("win fed with 29", &["tsumo", "ron from the feeder", "ron from another"]);
+    cover.expect("win fed", &["dealer", "child", "counters", "sticks"]);
+    cover.expect("riichi since a feed", &["yes"]);
+    cover.expect("win not fed", &["no such yaku", "three winds and a pair", "the yaku of another holder", "the other yaku", "lapsed"]);
+    cover.expect("feeders lapse by", &["W fed", "W", "D", "D of a chombo", "C"]);
     cover.expect("deal repeats by", &["W", "D", "C"]);
     cover.expect("deal passes by", &["W", "D"]);
     cover.expect("wind turns South", &["yes"]);
@@ -53,9 +62,55 @@ fn sticks(game: &Game) -> &'static str {
     }
 }
 
+/// Counts what a feed names besides another (02, S-8).
+fn note_feed(cover: &mut Cover, before: &Game, holder: u8, yaku: u8) {
+    let named = |seat: u8, yaku: u8| before.feeder(seat, yaku).is_some();
+    cover.add("feed", yaku);
+    cover.add_if((0..4).any(|seat| named(seat, yaku)), "feed", "a second holder of a yaku");
+    cover.add_if(named(holder, DRAGONS + WINDS - yaku), "feed", "both yaku of a holder");
+    cover.add_if(before.declared.contains(&true), "feed", "a seat declared");
+}
+
+/// Counts an accepted win by who feeds it; `lapsed` are the yaku of the winner that were named in earlier hands (02, S-8).
+fn note_fed(cover: &mut Cover, before: &Game, hand: &Hand, lapsed: &[(u8, u8)]) {
+    let yaku = fed::yaku(hand, before.dealer, before.wind);
+    if let (Some(yaku), Some(feeder)) = (yaku, liable(before, hand)) {
+        let how = match hand.how {
+            RON if hand.discarder == feeder => "ron from the feeder",
+            RON => "ron from another",
+            _ => "tsumo",
+        };
+        cover.add(if yaku == DRAGONS { "win fed with 28" } else { "win fed with 29" }, how);
+        cover.add("win fed", SEATS[(hand.winner == before.dealer) as usize]);
+        cover.add_if(before.counter > 0, "win fed", "counters");
+        cover.add_if(before.sticks > 0, "win fed", "sticks");
+        return;
+    }
+    let named = |yaku: u8| before.feeder(hand.winner, yaku).is_some();
+    let winds = score(&pack(hand), before.dealer, before.wind).yaku >> WINDS & 1 == 1;
+    cover.add_if(yaku.is_none() && (named(DRAGONS) || named(WINDS)), "win not fed", "no such yaku");
+    cover.add_if(yaku.is_none() && winds && named(WINDS), "win not fed", "three winds and a pair");
+    if let Some(yaku) = yaku {
+        cover.add_if((0..4).any(|seat| before.feeder(seat, yaku).is_some()), "win not fed", "the yaku of another holder");
+        cover.add_if(named(DRAGONS + WINDS - yaku), "win not fed", "the other yaku");
+        cover.add_if(lapsed.contains(&(hand.winner, yaku)), "win not fed", "lapsed");
+    }
+}
+
+/// Counts what lets feeders lapse (02, S-8).
+fn note_lapse(cover: &mut Cover, before: &Game, after: &Game, booking: &Booking) {
+    if before.feeders == [0; 8] || after.feeders != [0; 8] {
+        return;
+    }
+    cover.add("feeders lapse by", match booking {
+        Booking::Win(record) if read(record).is_ok_and(|hand| liable(before, &hand).is_some()) => "W fed".into(),
+        Booking::Draw(bits) if !before.unready(*bits).is_empty() => "D of a chombo".into(),
+        _ => letter(booking).to_string(),
+    });
+}
+
 /// Counts an accepted win.
-fn note_win(cover: &mut Cover, before: &Game, record: &[u8]) {
-    let hand = read(record).expect("an accepted win");
+fn note_win(cover: &mut Cover, before: &Game, hand: &Hand, record: &[u8]) {
     let scored = score(record, before.dealer, before.wind);
     let how = if hand.how == RON { "ron" } else { "tsumo" };
     cover.add("win", format!("{how} {}", SEATS[(hand.winner == before.dealer) as usize]));
@@ -131,6 +186,13 @@ fn note_refused(cover: &mut Cover, before: &Game, booking: &Booking, refusal: u8
         let field = read(record).is_ok_and(|hand| hand.riichi != 0);
         cover.add("refusal 11", if field { "field without riichi" } else { "riichi without field" });
     }
+    if let (Booking::Feed { holder, feeder, yaku }, 18) = (booking, refusal) {
+        cover.add("refusal 18", match before.feeder(*holder, *yaku) {
+            _ if holder == feeder => "holder is the feeder",
+            named if named == Some(*feeder) => "named with the same feeder",
+            _ => "named with another feeder",
+        });
+    }
 }
 
 /// The entries, finished hands and counts of a log.
@@ -138,6 +200,7 @@ pub fn survey(log: &[u8]) -> (usize, u8, Cover) {
     let mut cover = expected();
     let mut game = Game::fresh();
     let (list, bad) = bookings(log);
+    let mut lapsed: Vec<(u8, u8)> = Vec::new();
     for booking in &list {
         let before = game;
         let refusal = book(&mut game, booking);
@@ -147,10 +210,20 @@ pub fn survey(log: &[u8]) -> (usize, u8, Cover) {
         }
         cover.add("accepted", letter(booking));
         match booking {
-            Booking::Riichi(_) => {}
-            Booking::Win(record) => note_win(&mut cover, &before, record),
+            Booking::Riichi(_) => cover.add_if(before.feeders != [0; 8], "riichi since a feed", "yes"),
+            Booking::Win(record) => {
+                let hand = read(record).expect("an accepted win");
+                note_win(&mut cover, &before, &hand, record);
+                note_fed(&mut cover, &before, &hand, &lapsed);
+            }
             Booking::Draw(bits) => note_draw(&mut cover, &before, *bits),
             Booking::Chombo(seat) => note_chombo(&mut cover, &before, *seat),
+            Booking::Feed { holder, yaku, .. } => note_feed(&mut cover, &before, *holder, *yaku),
+        }
+        note_lapse(&mut cover, &before, &game, booking);
+        if game.hands > before.hands {
+            let named = (0..4).flat_map(|seat| [(seat, DRAGONS), (seat, WINDS)]);
+            lapsed = named.filter(|&(seat, yaku)| before.feeder(seat, yaku).is_some()).collect();
         }
         note_deal(&mut cover, &before, &game, letter(booking));
     }

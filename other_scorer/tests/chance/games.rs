@@ -14,6 +14,12 @@ fn score(rng: &mut Rng) -> i64 {
     }
 }
 
+/// Feeders of any holders but themselves, mostly none.
+fn feeders(rng: &mut Rng) -> [u8; 8] {
+    let some = if rng.percent(40) { 40 } else { 0 };
+    [0, 1, 2, 3, 0, 1, 2, 3].map(|holder| if rng.percent(some) { (holder + rng.within(1, 3)) % 4 + 1 } else { 0 })
+}
+
 /// A random game in form, any of its fields at their ends now and then.
 pub fn in_form(rng: &mut Rng) -> Game {
     loop {
@@ -29,6 +35,7 @@ pub fn in_form(rng: &mut Rng) -> Game {
         game.over = rng.percent(3);
         let some = rng.within(0, game.hands);
         game.counter = rng.pick(&[0, some, game.hands]) as u32;
+        game.feeders = feeders(rng);
         let seats = [score(rng), score(rng), score(rng)];
         let last = 120_000 - 1000 * game.sticks as i64 - seats.iter().sum::<i64>();
         if last >= FLOOR as i64 {
@@ -43,14 +50,18 @@ pub fn in_form(rng: &mut Rng) -> Game {
 pub fn disturbed(rng: &mut Rng) -> Game {
     let mut game = in_form(rng);
     let seat = rng.below(4);
-    match rng.below(8) {
+    match rng.below(9) {
         0 => game.dealer = rng.within(4, 255),
         1 => game.wind = rng.within(2, 255),
         2 => game.hands = rng.within(200, 255),
         3 => game.scores[seat] = game.scores[seat].wrapping_add(rng.within(1, 255) as i32),
         4 => game.sticks = game.sticks.wrapping_add(rng.pick(&[1, u32::MAX])),
         5 => game.declared = [true; 4],
-        6 => game.counter = rng.pick(&[game.hands as u32 + 1, 256, u32::MAX]),
+        6 => {
+            let place = seat + rng.pick(&[0, 4]);
+            game.feeders[place] = rng.pick(&[5, 6, 255, seat as u8 + 1, seat as u8 + 1]);
+        }
+        7 => game.counter = rng.pick(&[game.hands as u32 + 1, 256, u32::MAX]),
         _ => {
             game.scores = [(); 4].map(|_| rng.pick(&[i32::MIN, i32::MAX, FLOOR - 1, FLOOR + 1]));
             game.sticks = rng.pick(&[0, u32::MAX]);

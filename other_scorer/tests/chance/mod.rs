@@ -2,12 +2,28 @@
 
 use other_scorer::codec::pack;
 use other_scorer::damage::{damaged, noise};
-use other_scorer::deal::{near, themed};
+use other_scorer::deal::{deal, near, themed};
 use other_scorer::fault::{self, FAULTS};
-use other_scorer::record::RON;
+use other_scorer::fed::{DRAGONS, WINDS};
+use other_scorer::record::{Hand, RON};
 use other_scorer::rng::Rng;
 use other_scorer::sound::refusal;
+use other_scorer::themes::yakuman::{big_dragons, big_winds, little_winds};
 use other_scorer::{Booking, Game};
+
+/// A hand as this seat's, with the riichi field that fits the declarations if `fits`; none if it is not sound then.
+fn of_seat(rng: &mut Rng, game: &Game, mut hand: Hand, winner: u8, fits: bool) -> Option<Hand> {
+    hand.winner = winner;
+    if hand.how == RON {
+        hand.discarder = (winner + rng.within(1, 3)) % 4;
+    }
+    if game.declared[winner as usize] && fits {
+        hand.riichi = rng.within(1, 2);
+    } else if fits {
+        hand.riichi = 0;
+    }
+    (refusal(&hand) == 0).then_some(hand)
+}
 
 /// A record: mostly a win of this seat that fits the declarations, else anything.
 fn record(rng: &mut Rng, game: &Game, winner: u8) -> Vec<u8> {
@@ -22,20 +38,23 @@ fn record(rng: &mut Rng, game: &Game, winner: u8) -> Vec<u8> {
         }
         4 => pack(&themed(rng)),
         _ => loop {
-            let mut hand = themed(rng);
-            hand.winner = winner;
-            if hand.how == RON {
-                hand.discarder = (winner + rng.within(1, 3)) % 4;
-            }
-            if game.declared[winner as usize] && way > 5 {
-                hand.riichi = rng.within(1, 2);
-            } else if way > 5 {
-                hand.riichi = 0;
-            }
-            if refusal(&hand) == 0 {
+            let hand = themed(rng);
+            if let Some(hand) = of_seat(rng, game, hand, winner, way > 5) {
                 return pack(&hand);
             }
         },
+    }
+}
+
+/// A win with one of the two yaku that are fed, or with three wind triplets and a pair; often from the feeder, if one is named.
+fn fed_record(rng: &mut Rng, game: &Game, winner: u8, yaku: u8) -> Vec<u8> {
+    loop {
+        let theme = if yaku == DRAGONS { big_dragons } else { rng.pick(&[big_winds, big_winds, little_winds]) };
+        let plan = theme(rng);
+        let Some(hand) = deal(rng, &plan).and_then(|hand| of_seat(rng, game, hand, winner, true)) else { continue };
+        let feeder = game.feeder(winner, yaku).map(|seat| seat % 4).filter(|&seat| seat != winner);
+        let from = feeder.filter(|_| hand.how == RON && rng.percent(40)).unwrap_or(hand.discarder);
+        return pack(&Hand { discarder: from, ..hand });
     }
 }
 
@@ -50,16 +69,36 @@ fn seat(rng: &mut Rng) -> u8 {
     if rng.percent(3) { rng.within(4, 255) } else { rng.within(0, 3) }
 }
 
+/// A feeder of a holder, often of this seat, and of a yaku, seldom of another than the two.
+fn feed(rng: &mut Rng, often: u8) -> Booking {
+    let (near, any) = (rng.within(27, 30), rng.next() as u8);
+    let yaku = if rng.percent(90) { rng.pick(&[DRAGONS, WINDS]) } else { rng.pick(&[near, any]) };
+    let holder = if rng.percent(40) { often } else { seat(rng) };
+    Booking::Feed { holder, feeder: seat(rng), yaku }
+}
+
+/// A win of a seat; where feeders are named often of a holder with the yaku, of this seat alone with `keep`, or of this seat with
+/// the yaku of another.
+fn win(rng: &mut Rng, game: &Game, winner: u8, keep: bool) -> Booking {
+    let all = (0..4).flat_map(|holder| [(holder, DRAGONS), (holder, WINDS)]);
+    let is_named = |&(holder, yaku): &(u8, u8)| game.feeder(holder, yaku).is_some() && (holder == winner || !keep);
+    let named: Vec<(u8, u8)> = all.filter(is_named).collect();
+    if named.is_empty() || rng.percent(40) {
+        return Booking::Win(record(rng, game, winner));
+    }
+    let (holder, yaku) = rng.pick(&named);
+    let winner = if rng.percent(10) { winner } else { holder };
+    Booking::Win(fed_record(rng, game, winner, yaku))
+}
+
 /// A random booking; with `keep` mostly one that keeps the deal.
 pub fn booking(rng: &mut Rng, game: &Game, keep: bool) -> Booking {
     let dealer = game.dealer % 4;
     let declared = (0..4).filter(|&seat| game.declared[seat]).fold(0, |bits, seat| bits | 8 >> seat);
-    match rng.below(10) {
+    let often = if keep { dealer } else { rng.within(0, 3) };
+    match rng.below(12) {
         0..=2 => Booking::Riichi(seat(rng)),
-        3..=6 => {
-            let winner = if keep { dealer } else { rng.within(0, 3) };
-            Booking::Win(record(rng, game, winner))
-        }
+        3..=6 => win(rng, game, often, keep),
         7..=8 => {
             let bits = match rng.below(10) {
                 0 => rng.next() as u8,
@@ -69,6 +108,7 @@ pub fn booking(rng: &mut Rng, game: &Game, keep: bool) -> Booking {
             };
             Booking::Draw(if keep { bits | 8 >> dealer } else { bits })
         }
-        _ => Booking::Chombo(seat(rng)),
+        9 => Booking::Chombo(seat(rng)),
+        _ => feed(rng, often),
     }
 }

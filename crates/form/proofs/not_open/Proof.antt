@@ -8,8 +8,9 @@ pub not-open-spec : {M : Type 1} → statement M
 unfolding notOpen outOfForm totalOf
 not-open-spec =
     tie.close
-    (tie.spec (λ c κs. search needs) (λ c κs. search needs) (λ c. search needs) (λ c κs. search needs) (λ c κs. search needs)
+    (tie.spec (λ c κs. search needs) (λ c κs. search needs) (λ c. search needs) (λ c κs. search needs) (λ c κs. search needs) (λ c κs. search needs)
     (λ c.
     let low = c .before .before .before in
-    let counted = low .before .before .before .before in
-    rw (counted .count-true .ensures .0, counted .before .set-marks .ensures, low .any-low .ensures, c .before .before .balanced .ensures)))
+    let wrong = low .before in
+    let counted = wrong .before .before .before .before in
+    rw (counted .count-true .ensures .0, counted .before .set-marks .ensures, wrong .any-wrong .ensures, low .any-low .ensures, c .before .before .balanced .ensures)))

@@ -1,17 +1,18 @@
 -- What a booking that no refusal meets has.
 use mathlib.Core.Path.{_≡_, refl, sym, ap, _∙_}
-use mathlib.Core.Bool.{Bool, true, false, cond}
+use mathlib.Core.Bool.{Bool, true, false, _||_, cond}
 use mathlib.Core.List.{List}
 use Prim.Native.Nat.{ℕ, zero, suc, _≤_}
 use native.Mathlib.Omega.{arith}
 use borrow.Author.Tests.{ltb-false, ltb-true}
 use lib.Dec.{ltb}
+use Rattle.tiles.specs.laws.Below.{or-both}
 use Rattle.hand_record.specs.Record.{refusalIn, readOf}
 use Rattle.score.specs.declared.Scored.{Scored}
 use Rattle.score.specs.laws.Settled.{score-unread}
 use Rattle.ledger.specs.declared.Game.{Game}
-use Rattle.ledger.specs.Booking.{riichi, win, draw, chombo}
-use Rattle.ledger.specs.Ledger.{isDeclared, notOpen, handFor, scoredFor, riichiMismatch, refusalFor}
+use Rattle.ledger.specs.Booking.{riichi, win, draw, chombo, feed}
+use Rattle.ledger.specs.Ledger.{isDeclared, notOpen, handFor, scoredFor, riichiMismatch, wrongFeed, refusalFor}
 use Rattle.ledger.specs.laws.Form.{open-of}
 
 cond-zero : (b : Bool) (n m : ℕ) → cond b (suc n) m ≡ 0 → (b ≡ false) × (m ≡ 0)
@@ -42,6 +43,14 @@ module _ (g : Game) where
   pub draw-accepted : (bits : ℕ) → refusalFor g (draw bits) ≡ 0 → notOpen g ≡ false
   unfolding refusalFor
   draw-accepted bits e = cond-zero (notOpen g) 8 0 (cond-zero (ltb 15 bits) 7 (cond (notOpen g) 9 0) e .1) .0
+
+  pub feed-accepted : (holder feeder yaku : ℕ) → refusalFor g (feed holder feeder yaku) ≡ 0 → (holder ≤ 3) × (feeder ≤ 3) × (notOpen g ≡ false) × (wrongFeed g holder feeder yaku ≡ false)
+  unfolding refusalFor
+  feed-accepted holder feeder yaku e =
+      let p = cond-zero (ltb 3 holder || ltb 3 feeder) 7 (cond (notOpen g) 9 (cond (wrongFeed g holder feeder yaku) 18 0)) e in
+      let q = cond-zero (notOpen g) 8 (cond (wrongFeed g holder feeder yaku) 18 0) (p .1) in
+      let o = or-both (ltb 3 holder) (ltb 3 feeder) (p .0) in
+      (ltb-false 3 holder (o .0), ltb-false 3 feeder (o .1), q .0, cond-zero (wrongFeed g holder feeder yaku) 17 0 (q .1) .0)
 
   -- in an open game a record that scores has read
   read-of : (s : List ℕ) → notOpen g ≡ false → scoredFor g s .refusal ≡ 0 → (n : ℕ) → refusalIn (readOf s .answer) ≡ n → n ≡ 0

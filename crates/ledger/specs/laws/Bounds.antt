@@ -11,7 +11,7 @@ use Rattle.ledger.specs.Ledger.{startingScore, lastHand, floor}
 abbrev pub depth : ℕ
 depth = dn floor
 
--- the most that a seat pays in the hand that follows h finished ones, its stick left out: a yakuman dealt to the dealer, with h counters
+-- the most that a seat pays in the hand that follows h finished ones, its stick left out: a yakuman dealt to the dealer, or fed, with h counters
 abbrev pub costs : ℕ → ℕ
 costs h = 48000 + 300 * h
 

@@ -4,13 +4,15 @@ use mathlib.Core.Bool.{Bool, true, false, not, _&&_, cond}
 use Prim.Native.Nat.{ℕ, _+_, _*_, _%_, _≤_, _<_}
 use native.Mathlib.Nat.{mod-lt}
 use native.Mathlib.Omega.{arith}
+use borrow.Author.Tests.{ne-eqb}
 use lib.Dec.{eqb}
 use lib.IntN.{ℤ, pos, _+ℤ_}
+use lib.ListN.{getD, replicate, getD-replicate}
 use Rattle.tiles.specs.Below.{count}
 use Rattle.tiles.specs.laws.Tabulate.{getD-tabulate}
 use Rattle.score.specs.laws.Z.{up, dn, add-law, eq-parts}
 use Rattle.ledger.specs.declared.Game.{Game}
-use Rattle.ledger.specs.Ledger.{startingScore, pointsInPlay, lastHand, isSet, mark, scoreAt, isDeclared, declarations, totalOf, Effect, finishing, isLast, dealerAfter, windAfter, handsAfter, applied}
+use Rattle.ledger.specs.Ledger.{startingScore, pointsInPlay, lastHand, isSet, mark, scoreAt, isDeclared, declarations, feederAt, totalOf, wrongFeeder, Effect, finishing, isLast, dealerAfter, windAfter, handsAfter, applied}
 use Rattle.ledger.specs.laws.Bounds.{costs, worst, worst-step}
 use Rattle.ledger.specs.laws.Form.{sum-law}
 
@@ -35,6 +37,7 @@ pub record Kept (g : Game) : Type 0 where
   pub hands : g .hands ≤ lastHand
   pub sticks : declarations g ≤ g .sticks
   pub counter : g .counter ≤ g .hands
+  pub feeders : (i : ℕ) → i < 8 → wrongFeeder i (feederAt g i) ≡ false
   pub above : (i : ℕ) → i < 4 → Above g i
   pub total : totalOf g ≡ pointsInPlay
 
@@ -58,6 +61,7 @@ module _ (g : Game) (e : Effect) where
     pub backed : count 4 (e .declared) ≤ e .sticks
     pub hands : handsAfter g (e .finishes) ≤ lastHand
     pub counter : e .counter ≤ handsAfter g (e .finishes)
+    pub feeders : (i : ℕ) → i < 8 → wrongFeeder i (getD (e .feeders) i 0) ≡ false
     pub bounded : (i : ℕ) → i < 4 → Bounded i
 
   -- ---- what follows
@@ -121,9 +125,18 @@ module _ (g : Game) (e : Effect) where
     hands = f .hands;
     sticks = omega (arith, f .backed, declarations-applied);
     counter = f .counter;
+    feeders = f .feeders;
     above = λ i l. above-applied i l (f .bounded i l) (k .above i l);
     total = total-applied (f .balanced) ∙ k .total;
   }
+
+-- ---- no feeder is named
+
+none-wrong : (i n : ℕ) → n ≡ 0 → wrongFeeder i n ≡ false
+none-wrong i n e = rw e (ne-eqb 0 (1 + i % 4) (λ z. omega arith))
+
+pub none-named : (i : ℕ) → i < 8 → wrongFeeder i (getD (replicate 8 0) i 0) ≡ false
+none-named i l = none-wrong i (getD (replicate 8 0) i 0) (getD-replicate 8 i 0 0 l)
 
 -- ---- an effect that finishes a hand: its gifts are paid for, and no seat loses more than the hand may cost
 
@@ -135,5 +148,6 @@ module _ (g : Game) (gives : ℕ → ℤ) (sticks : ℕ) (passes : Bool) (counte
     backed = omega arith;
     hands = omega arith;
     counter = n;
+    feeders = none-named;
     bounded = λ i l. let t = mark-le (isDeclared g i) in let c = d i l in (omega arith, omega (arith, worst-step (g .hands)));
   }

@@ -10,17 +10,20 @@ use lib.Dec.{eqb}
 use lib.IntN.{ℤ, pos, negℤ, _+ℤ_}
 use lib.ListN.{getD}
 use Rattle.tiles.specs.Below.{any, count}
+use Rattle.tiles.specs.laws.Below.{or-both}
 use Rattle.hand.specs.Hand.{isRon}
 use Rattle.hand_record.specs.laws.Bounds.{read-bounds}
 use Rattle.score.specs.laws.Z.{up, dn, add-law, parts-eq}
 use Rattle.score.specs.laws.Changes.{score-within, zero-sum}
 use Rattle.ledger.specs.declared.Game.{Game}
-use Rattle.ledger.specs.Booking.{Booking, riichi, win, draw, chombo}
-use Rattle.ledger.specs.Ledger.{lastHand, mark, isDeclared, declarations, notOpen, isReady, handFor, scoredFor, readySeats, shareOf, refusalFor, finishing, riichiGives, addedFor, winGives, isDealersWin, drawGives, fineOf, backTo, chomboGives, chomboOf, isAtFault, effectOf}
+use Rattle.ledger.specs.Booking.{Booking, riichi, win, draw, chombo, feed}
+use Rattle.ledger.specs.Ledger.{lastHand, mark, isDeclared, declarations, notOpen, isReady, handFor, scoredFor, readySeats, shareOf, refusalFor, wrongFeed, finishing, riichiGives, settles, wholeOf, fedPays, isSet, isDealersWin, wonBy, addedBy, fedFor, winGives, drawGives, fineOf, backTo, chomboGives, chomboOf, isAtFault, effectOf}
 use Rattle.ledger.specs.laws.Bounds.{costs, worst}
 use Rattle.ledger.specs.laws.Form.{open-of}
-use Rattle.ledger.specs.laws.Accepted.{riichi-accepted, chombo-accepted, draw-accepted, win-accepted}
-use Rattle.ledger.specs.laws.Repeat.{added-zero, added-dn}
+use Rattle.ledger.specs.laws.Accepted.{riichi-accepted, chombo-accepted, draw-accepted, win-accepted, feed-accepted}
+use Rattle.ledger.specs.laws.Settles.{Even}
+use Rattle.ledger.specs.laws.Repeat.{added-even, added-dn}
+use Rattle.ledger.specs.laws.Fed.{fed-even, fed-dn, set-right, right-feed}
 use Rattle.ledger.specs.laws.Fines.{fines-even, fine-dn}
 use Rattle.ledger.specs.laws.Effect.{mark-le, Bounded, Fair, finishing-fair}
 
@@ -72,6 +75,7 @@ module _ (g : Game) where
         backed = omega (arith, riichi-backed seat (y .0), o .form .sticks);
         hands = o .form .hands;
         counter = o .form .counter;
+        feeders = o .form .feeders;
         bounded = λ i l. riichi-bounded seat i (o .hands) (y .2);
       }
 
@@ -161,30 +165,64 @@ sum-parts f e =
     omega (arith, parts-eq (f 0 +ℤ f 1 +ℤ f 2 +ℤ f 3) (pos 0) e, add-law (f 0) (f 1), add-law (f 0 +ℤ f 1) (f 2), add-law (f 0 +ℤ f 1 +ℤ f 2) (f 3))
 
 module _ (g : Game) (s : List ℕ) where
+  unfoldable scored : ℕ → ℤ
+  scored i = getD (scoredFor g s .changes) i (pos 0)
+
   unfoldable won : ℕ → ℤ
-  won i = getD (scoredFor g s .changes) i (pos 0)
+  won i = wonBy g s (fedFor g s) scored i
+
+  unfoldable added : ℕ → ℤ
+  added i = addedBy g s (fedFor g s) i
 
   unfoldable pot : ℕ → ℤ
   pot i = cond (eqb i (handFor s .fields .winner)) (pos (1000 * g .sticks)) (pos 0)
 
-  won-zero : Turns won 0 0
+  scored-even : Even scored
+  unfolding scored
+  scored-even = let e = sum-parts (λ i. getD (scoredFor g s .changes) i (pos 0)) (zero-sum s (g .dealer) (g .wind)) in omega (arith, e)
+
+  scored-dn : (i : ℕ) → dn (scored i) ≤ 48000
+  unfolding scored
+  scored-dn i = score-within s (g .dealer) (g .wind) i .1
+
+  -- by article 67, where the yaku was fed by n - 1
+  abbrev fed : ℕ → ℕ → ℤ
+  fed n = let f = handFor s .fields in settles (f .winner) (fedPays (f .winner) (f .discarder) (n - 1) (isRon f) (wholeOf (isDealersWin g s)))
+
+  won-turns : handFor s .fields .winner ≤ 3 → Turns won 0 0
   unfolding won
-  won-zero = sum-parts (λ i. getD (scoredFor g s .changes) i (pos 0)) (zero-sum s (g .dealer) (g .wind))
+  won-turns h = let e = go (fedFor g s) (isSet (fedFor g s)) in omega (arith, e)
+    where
+      go : (n : ℕ) (t : Bool) → Even (λ i. cond t (fed n i) (scored i))
+      go n true = let f = handFor s .fields in fed-even (f .discarder) (n - 1) (isRon f) (wholeOf (isDealersWin g s)) (f .winner) (omega arith)
+      go n false = scored-even
 
-  unfoldable added : ℕ → ℤ
-  added i = addedFor g s i
-
-  added-turns : handFor s .fields .winner ≤ 3 → Turns added 0 0
-  unfolding added
-  added-turns h = sum-parts (addedFor g s) (added-zero (handFor s .fields .discarder) (isRon (handFor s .fields)) (g .counter) (handFor s .fields .winner) h)
-
-  added-most : (i : ℕ) → dn (added i) ≤ 300 * g .counter
-  unfolding added
-  added-most i = added-dn (handFor s .fields .discarder) (isRon (handFor s .fields)) (g .counter) (handFor s .fields .winner) i
+  whole-le : (t : Bool) → wholeOf t ≤ 48000
+  whole-le true = omega arith
+  whole-le false = omega arith
 
   won-dn : (i : ℕ) → dn (won i) ≤ 48000
   unfolding won
-  won-dn i = score-within s (g .dealer) (g .wind) i .1
+  won-dn i = go (fedFor g s) (isSet (fedFor g s))
+    where
+      go : (n : ℕ) (t : Bool) → dn (cond t (fed n i) (scored i)) ≤ 48000
+      go n true = let f = handFor s .fields in omega (arith, fed-dn (f .discarder) (n - 1) (isRon f) (wholeOf (isDealersWin g s)) (f .winner) i, whole-le (isDealersWin g s))
+      go n false = scored-dn i
+
+  -- who pays the counters alone, and whether
+  abbrev payer : ℕ
+  payer = cond (isRon (handFor s .fields)) (handFor s .fields .discarder) (fedFor g s - 1)
+
+  abbrev alone : Bool
+  alone = isRon (handFor s .fields) || isSet (fedFor g s)
+
+  added-turns : handFor s .fields .winner ≤ 3 → Turns added 0 0
+  unfolding added
+  added-turns h = let e = added-even payer alone (g .counter) (handFor s .fields .winner) (omega arith) in omega (arith, e)
+
+  added-most : (i : ℕ) → dn (added i) ≤ 300 * g .counter
+  unfolding added
+  added-most i = added-dn payer alone (g .counter) (handFor s .fields .winner) i
 
   pot-turns : handFor s .fields .winner ≤ 3 → Turns pot (g .sticks) 0
   unfolding pot
@@ -195,16 +233,33 @@ module _ (g : Game) (s : List ℕ) where
   pot-none i = pot-dn (eqb i (handFor s .fields .winner)) (1000 * g .sticks)
 
   win-balanced : handFor s .fields .winner ≤ 3 → Turns (winGives g s) (g .sticks) 0
-  unfolding winGives won added pot
-  win-balanced h = both-turn (λ i. won i +ℤ added i) pot (g .sticks) 0 (both-turn won added 0 0 won-zero (added-turns h)) (pot-turns h)
+  unfolding winGives scored won added pot
+  win-balanced h = both-turn (λ i. won i +ℤ added i) pot (g .sticks) 0 (both-turn won added 0 0 (won-turns h) (added-turns h)) (pot-turns h)
 
   win-bounded : g .counter ≤ g .hands → (i : ℕ) → dn (winGives g s i) ≤ costs (g .hands) + up (winGives g s i)
-  unfolding winGives won added pot
+  unfolding winGives scored won added pot
   win-bounded h i = omega (arith, won-dn i, added-most i, pot-none i, add-law (won i) (added i), add-law (won i +ℤ added i) (pot i))
 
 won-counter : (deals : Bool) (n h : ℕ) → n ≤ h → cond deals (n + 1) 0 ≤ h + 1
 won-counter true n h l = omega arith
 won-counter false n h l = omega arith
+
+-- ---- a named feeder: nothing is given
+
+module _ (g : Game) where
+  pub feed-fair : (holder feeder yaku : ℕ) → refusalFor g (feed holder feeder yaku) ≡ 0 → Fair g (effectOf g (feed holder feeder yaku))
+  unfolding effectOf
+  feed-fair holder feeder yaku e =
+      let y = feed-accepted g holder feeder yaku e in
+      let o = open-of g (y .2) in
+      record {
+        balanced = omega arith;
+        backed = o .form .sticks;
+        hands = o .form .hands;
+        counter = o .form .counter;
+        feeders = set-right holder feeder (yaku - 28) (y .0) (y .1) (right-feed g holder feeder yaku (y .3) .0) (g .feeders) (o .form .feeders);
+        bounded = λ i l. (omega (arith, o .hands, mark-le (isDeclared g i)), omega arith);
+      }
 
 -- ---- each booking
 
@@ -227,3 +282,4 @@ module _ (g : Game) where
           finishing-fair g (drawGives bits) (g .sticks) (not (isReady bits (g .dealer))) (g .counter + 1) (o .hands)
           (omega (arith, o .form .counter)) (draw-balanced bits (g .sticks)) (λ i l. omega (arith, draw-bounded bits i))
   effect-fair (chombo seat) e = chombo-fair g (λ i. eqb i seat) (chombo-accepted g seat e .1)
+  effect-fair (feed holder feeder yaku) e = feed-fair g holder feeder yaku e

@@ -9,7 +9,7 @@ use Rattle.tiles.specs.Below.{count, sum}
 use Rattle.points.specs.laws.Balance.{below-four}
 use Rattle.score.specs.laws.Z.{up, dn, add-law, neg-law, eq-parts}
 use Rattle.ledger.specs.Ledger.{finePaid, fineOf}
-use Rattle.ledger.specs.laws.Repeat.{Even, even-zero}
+use Rattle.ledger.specs.laws.Settles.{Even, even-zero}
 
 -- ---- what the seats pay is what they get
 

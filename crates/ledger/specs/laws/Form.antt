@@ -12,7 +12,7 @@ use Rattle.tiles.specs.Below.{any, some}
 use Rattle.tiles.specs.laws.Below.{or-both, some-at, some-of}
 use Rattle.score.specs.laws.Z.{up, dn, add-law, part-law, parts-eq, ltZ-false, le-ltZ, Within}
 use Rattle.ledger.specs.declared.Game.{Game}
-use Rattle.ledger.specs.Ledger.{pointsInPlay, lastHand, floor, isSet, scoreAt, declarations, totalOf, eqZ, isOver, outOfForm, notOpen}
+use Rattle.ledger.specs.Ledger.{pointsInPlay, lastHand, floor, isSet, scoreAt, declarations, feederAt, totalOf, eqZ, isOver, wrongFeeder, outOfForm, notOpen}
 use Rattle.ledger.specs.laws.Bounds.{depth, amount, mostSticks}
 
 -- ---- tests of integers
@@ -55,6 +55,7 @@ pub record InForm (g : Game) : Type 0 where
   pub hands : g .hands ≤ lastHand
   pub sticks : declarations g ≤ g .sticks
   pub counter : g .counter ≤ g .hands
+  pub feeders : (i : ℕ) → i < 8 → wrongFeeder i (feederAt g i) ≡ false
   pub low : (i : ℕ) → i < 4 → dn (scoreAt g i) ≤ depth
   pub total : totalOf g ≡ pointsInPlay
 
@@ -64,44 +65,51 @@ not-low z h = ⊎-elim (λ (e : up z ≡ 0). omega (arith, ltZ-false z floor h))
 pub low-not : (z : ℤ) → dn z ≤ depth → ltZ z floor ≡ false
 low-not z h = le-ltZ z floor (omega arith)
 
-seven : (a b c d e f k : Bool) → a || b || c || d || e || f || not k ≡ false → (a ≡ false) × (b ≡ false) × (c ≡ false) × (d ≡ false) × (e ≡ false) × (f ≡ false) × (k ≡ true)
-seven a b c d e f k h =
-    let h6 = or-both (a || b || c || d || e || f) (not k) h in
+eight : (a b c d e f i k : Bool) → a || b || c || d || e || f || i || not k ≡ false →
+    (a ≡ false) × (b ≡ false) × (c ≡ false) × (d ≡ false) × (e ≡ false) × (f ≡ false) × (i ≡ false) × (k ≡ true)
+eight a b c d e f i k h =
+    let h7 = or-both (a || b || c || d || e || f || i) (not k) h in
+    let h6 = or-both (a || b || c || d || e || f) i (h7 .0) in
     let h5 = or-both (a || b || c || d || e) f (h6 .0) in
     let h4 = or-both (a || b || c || d) e (h5 .0) in
     let h3 = or-both (a || b || c) d (h4 .0) in
     let h2 = or-both (a || b) c (h3 .0) in
     let h1 = or-both a b (h2 .0) in
-    (h1 .0, h1 .1, h2 .1, h3 .1, h4 .1, h5 .1, not-false k (h6 .1))
+    (h1 .0, h1 .1, h2 .1, h3 .1, h4 .1, h5 .1, h6 .1, not-false k (h7 .1))
 
-seven-none : (a b c d e f k : Bool) → a ≡ false → b ≡ false → c ≡ false → d ≡ false → e ≡ false → f ≡ false → k ≡ true → a || b || c || d || e || f || not k ≡ false
-seven-none a b c d e f k p q r t u v w = rw (p, q, r, t, u, v, w)
+eight-none : (a b c d e f i k : Bool) → a ≡ false → b ≡ false → c ≡ false → d ≡ false → e ≡ false → f ≡ false → i ≡ false → k ≡ true → a || b || c || d || e || f || i || not k ≡ false
+eight-none a b c d e f i k p q r t u v x w = rw (p, q, r, t, u, v, x, w)
 
 module _ (g : Game) where
   -- a score under the floor
   unfoldable lows : Bool
   lows = any 4 (λ i. ltZ (scoreAt g i) floor)
 
+  -- a feeder that cannot be one
+  unfoldable wrongs : Bool
+  wrongs = any 8 (λ i. wrongFeeder i (feederAt g i))
+
   pub form-of : outOfForm g ≡ false → InForm g
-  unfolding outOfForm some lows
+  unfolding outOfForm some lows wrongs
   form-of h =
-      let p = seven (ltb 3 (g .dealer)) (ltb 1 (g .wind)) (ltb lastHand (g .hands)) (ltb (g .sticks) (declarations g)) (ltb (g .hands) (g .counter)) lows (eqZ (totalOf g) pointsInPlay) h in
+      let p = eight (ltb 3 (g .dealer)) (ltb 1 (g .wind)) (ltb lastHand (g .hands)) (ltb (g .sticks) (declarations g)) (ltb (g .hands) (g .counter)) wrongs lows (eqZ (totalOf g) pointsInPlay) h in
       record {
         dealer = ltb-false 3 (g .dealer) (p .0);
         wind = ltb-false 1 (g .wind) (p .1);
         hands = ltb-false lastHand (g .hands) (p .2);
         sticks = ltb-false (g .sticks) (declarations g) (p .3);
         counter = ltb-false (g .hands) (g .counter) (p .4);
-        low = λ i l. not-low (scoreAt g i) (some-at (λ j. ltZ (scoreAt g j) floor) 4 i (p .5) l);
-        total = eqZ-true (totalOf g) pointsInPlay (p .6);
+        feeders = λ i l. some-at (λ j. wrongFeeder j (feederAt g j)) 8 i (p .5) l;
+        low = λ i l. not-low (scoreAt g i) (some-at (λ j. ltZ (scoreAt g j) floor) 4 i (p .6) l);
+        total = eqZ-true (totalOf g) pointsInPlay (p .7);
       }
 
   pub of-form : InForm g → outOfForm g ≡ false
-  unfolding outOfForm some lows
+  unfolding outOfForm some lows wrongs
   of-form f =
-      seven-none (ltb 3 (g .dealer)) (ltb 1 (g .wind)) (ltb lastHand (g .hands)) (ltb (g .sticks) (declarations g)) (ltb (g .hands) (g .counter)) lows (eqZ (totalOf g) pointsInPlay)
+      eight-none (ltb 3 (g .dealer)) (ltb 1 (g .wind)) (ltb lastHand (g .hands)) (ltb (g .sticks) (declarations g)) (ltb (g .hands) (g .counter)) wrongs lows (eqZ (totalOf g) pointsInPlay)
       (le-ltb 3 (g .dealer) (f .dealer)) (le-ltb 1 (g .wind) (f .wind)) (le-ltb lastHand (g .hands) (f .hands)) (le-ltb (g .sticks) (declarations g) (f .sticks)) (le-ltb (g .hands) (g .counter) (f .counter))
-      (some-of (λ j. ltZ (scoreAt g j) floor) 4 (λ i l. low-not (scoreAt g i) (f .low i l))) (eq-eqZ (totalOf g) pointsInPlay (f .total))
+      (some-of (λ j. wrongFeeder j (feederAt g j)) 8 (f .feeders)) (some-of (λ j. ltZ (scoreAt g j) floor) 4 (λ i l. low-not (scoreAt g i) (f .low i l))) (eq-eqZ (totalOf g) pointsInPlay (f .total))
 
 -- ---- open
 

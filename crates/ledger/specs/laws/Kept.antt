@@ -14,7 +14,7 @@ use Rattle.ledger.specs.Booking.{Booking}
 use Rattle.ledger.specs.Ledger.{startingScore, lastHand, mark, fresh, scoreAt, isDeclared, totalOf, refusalFor, effectOf, applied, after, ledgerFrom}
 use Rattle.ledger.specs.laws.Bounds.{depth, worst, worst-low}
 use Rattle.ledger.specs.laws.Form.{InForm}
-use Rattle.ledger.specs.laws.Effect.{mark-le, Above, Kept, applied-kept}
+use Rattle.ledger.specs.laws.Effect.{mark-le, none-named, Above, Kept, applied-kept}
 use Rattle.ledger.specs.laws.Fair.{effect-fair}
 
 above-fresh : (i : ℕ) → i < 4 → Above fresh i
@@ -27,7 +27,7 @@ above-fresh (suc (suc (suc (suc i)))) l = absurd (omega arith)
 
 pub fresh-kept : Kept fresh
 unfolding fresh totalOf
-fresh-kept = record { dealer = omega arith; wind = omega arith; hands = omega arith; sticks = omega arith; counter = omega arith; above = above-fresh; total = refl }
+fresh-kept = record { dealer = omega arith; wind = omega arith; hands = omega arith; sticks = omega arith; counter = omega arith; feeders = none-named; above = above-fresh; total = refl }
 
 above-low : (z : ℤ) (h d : ℕ) → h + d ≤ lastHand → d ≤ 1 → dn z + up startingScore ≤ up z + worst h + 1000 * d → dn z ≤ depth
 above-low z h d a l b = ⊎-elim (λ (e : up z ≡ 0). omega (arith, worst-low h d a l)) (λ (e : dn z ≡ 0). omega arith) (part-law z)
@@ -39,6 +39,7 @@ kept-form g k = record {
   hands = k .hands;
   sticks = k .sticks;
   counter = k .counter;
+  feeders = k .feeders;
   low = λ i l. above-low (scoreAt g i) (g .hands) (mark (isDeclared g i)) (k .above i l .0) (mark-le (isDeclared g i)) (k .above i l .1);
   total = k .total;
 }

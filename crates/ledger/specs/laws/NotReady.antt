@@ -1,6 +1,6 @@
 -- A draw in which a declared seat is not ready is a chombo; no booking is refused with 12.
 use mathlib.Core.Path.{_≡_, refl, sym, ap, _∙_}
-use mathlib.Core.Bool.{Bool, true, false, cond}
+use mathlib.Core.Bool.{Bool, true, false, _||_, cond}
 use mathlib.Core.List.{List}
 use Prim.Native.Nat.{ℕ, _+_, _-_, _*_, _≤_, _<_}
 use native.Mathlib.Omega.{arith}
@@ -20,8 +20,8 @@ use Rattle.score.specs.IsScore.{IsScore, eight, unread, read}
 use Rattle.score.specs.Score.{scoreOf, is-score}
 use Rattle.score.specs.laws.Z.{add-law, eq-parts}
 use Rattle.ledger.specs.declared.Game.{Game}
-use Rattle.ledger.specs.Booking.{Booking, riichi, win, draw, chombo}
-use Rattle.ledger.specs.Ledger.{scoreAt, isDeclared, declarations, notOpen, handFor, scoredFor, riichiMismatch, refusalFor, fineOf, backTo, chomboGives, chomboOf, isAtFault, effectOf, applied, after}
+use Rattle.ledger.specs.Booking.{Booking, riichi, win, draw, chombo, feed}
+use Rattle.ledger.specs.Ledger.{scoreAt, isDeclared, declarations, notOpen, handFor, scoredFor, riichiMismatch, wrongFeed, refusalFor, fineOf, backTo, chomboGives, chomboOf, isAtFault, effectOf, applied, after}
 use Rattle.ledger.specs.NotReady.{BookedAsChombo}
 use Rattle.ledger.specs.laws.Effect.{score-applied}
 use Rattle.ledger.specs.laws.Fair.{chombo-balanced}
@@ -117,3 +117,6 @@ module _ (l : Game) where
       (neither (ltb 0 v) v _ (λ e. omega (arith, score-le s (l .dealer) (l .wind))) (neither (riichiMismatch l (handFor s)) 11 0 (λ e. omega arith) (λ e. omega arith)))
   never-12 (draw bits) = neither (ltb 15 bits) 8 _ (λ e. omega arith) (neither (notOpen l) 9 0 (λ e. omega arith) (λ e. omega arith))
   never-12 (chombo seat) = neither (ltb 3 seat) 8 _ (λ e. omega arith) (neither (notOpen l) 9 0 (λ e. omega arith) (λ e. omega arith))
+  never-12 (feed holder feeder yaku) =
+      neither (ltb 3 holder || ltb 3 feeder) 8 _ (λ e. omega arith)
+      (neither (notOpen l) 9 _ (λ e. omega arith) (neither (wrongFeed l holder feeder yaku) 18 0 (λ e. omega arith) (λ e. omega arith)))

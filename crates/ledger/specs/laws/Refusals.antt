@@ -1,6 +1,6 @@
 -- The refusal of each booking, test by test, as the code comes to it; and what is booked then.
 use mathlib.Core.Path.{_≡_, refl}
-use mathlib.Core.Bool.{Bool, true, false, cond}
+use mathlib.Core.Bool.{Bool, true, false, _||_, cond}
 use mathlib.Core.List.{List}
 use Prim.Native.Nat.{ℕ, _≤_, _<_}
 use native.Mathlib.Omega.{arith}
@@ -9,8 +9,8 @@ use lib.Dec.{ltb}
 use Rattle.hand_record.specs.Record.{refusalIn, readOf}
 use Rattle.score.specs.laws.Settled.{score-unread}
 use Rattle.ledger.specs.declared.Game.{Game}
-use Rattle.ledger.specs.Booking.{Booking, riichi, win, draw, chombo}
-use Rattle.ledger.specs.Ledger.{isDeclared, notOpen, handFor, scoredFor, riichiMismatch, refusalFor, effectOf, applied, after}
+use Rattle.ledger.specs.Booking.{Booking, riichi, win, draw, chombo, feed}
+use Rattle.ledger.specs.Ledger.{isDeclared, notOpen, handFor, scoredFor, riichiMismatch, wrongFeed, refusalFor, effectOf, applied, after}
 use Rattle.ledger.specs.Runs.{Booked}
 use Rattle.ledger.specs.laws.Form.{open-of}
 
@@ -58,6 +58,19 @@ module _ (g : Game) (bits : ℕ) where
   pub draw-by : bits ≤ 15 → (b : Bool) → notOpen g ≡ b → refusalFor g (draw bits) ≡ cond b 9 0
   unfolding refusalFor
   draw-by h b e = rw (le-ltb 15 bits h, e)
+
+module _ (g : Game) (holder feeder yaku : ℕ) where
+  pub feed-seat : ltb 3 holder || ltb 3 feeder ≡ true → refusalFor g (feed holder feeder yaku) ≡ 8
+  unfolding refusalFor
+  feed-seat h = rw h
+
+  pub feed-shut : ltb 3 holder || ltb 3 feeder ≡ false → notOpen g ≡ true → refusalFor g (feed holder feeder yaku) ≡ 9
+  unfolding refusalFor
+  feed-shut h o = rw (h, o)
+
+  pub feed-by : ltb 3 holder || ltb 3 feeder ≡ false → notOpen g ≡ false → (b : Bool) → wrongFeed g holder feeder yaku ≡ b → refusalFor g (feed holder feeder yaku) ≡ cond b 18 0
+  unfolding refusalFor
+  feed-by h o b e = rw (h, o, e)
 
 module _ (g : Game) (s : List ℕ) where
   pub win-shut : notOpen g ≡ true → refusalFor g (win s) ≡ 9

@@ -72,6 +72,10 @@ each-within h a b c d p q r s (suc (suc zero)) = r
 each-within h a b c d p q r s (suc (suc (suc zero))) = s
 each-within h a b c d p q r s (suc (suc (suc (suc i)))) = (omega arith, omega arith)
 
+-- four times nothing
+pub zeros-small : Small (pos 0 ∷ pos 0 ∷ pos 0 ∷ pos 0 ∷ [])
+zeros-small i l = each-within amount (pos 0) (pos 0) (pos 0) (pos 0) (omega arith, omega arith) (omega arith, omega arith) (omega arith, omega arith) (omega arith, omega arith) i
+
 -- an array of four numbers within h, each that of its seat
 pub four-within : (h : ℕ) → h ≤ amount → (a b c d : ℤ) (f : ℕ → ℤ) → (a ≡ f 0) × Within a h → (b ≡ f 1) × Within b h → (c ≡ f 2) × Within c h → (d ≡ f 3) × Within d h
     → (B32 a ∷ B32 b ∷ B32 c ∷ B32 d ∷ [] ≡ tabulate 4 0 f) × ((i : ℕ) → Within (getD (B32 a ∷ B32 b ∷ B32 c ∷ B32 d ∷ []) i (pos 0)) h)

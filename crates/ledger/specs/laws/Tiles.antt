@@ -1,35 +1,40 @@
 -- When a win is accepted, what paid it, and when it is refused for its tiles.
 use mathlib.Core.Path.{_≡_, refl, sym, ap, _∙_}
-use mathlib.Core.Bool.{Bool, true, false, cond}
+use mathlib.Core.Bool.{Bool, true, false, _&&_, _||_, cond}
 use mathlib.Core.List.{List}
 use mathlib.Core.Logic.{inl, inr, ⊎-elim, _↔_}
-use Prim.Native.Nat.{ℕ, _≤_, _<_}
+use Prim.Native.Nat.{ℕ, _+_, _-_, _*_, _≤_, _<_}
 use native.Mathlib.Omega.{arith}
-use borrow.Author.Tests.{ltb-false}
-use lib.Dec.{ltb}
+use borrow.Author.Tests.{ltb-true, ltb-false, lt-ltb}
+use lib.Dec.{ltb, eqb}
 use lib.IntN.{ℤ, pos, _+ℤ_, +ℤ-assoc}
 use lib.ListN.{getD}
 use lib.Signed.{leZ}
 use Rattle.hand.specs.Hand.{isRon}
-use Rattle.hand_record.specs.Record.{IsSound}
+use Rattle.hand_record.specs.Record.{IsSound, refusalIn, readOf}
 use Rattle.hand_record.specs.Claims.{sound}
 use Rattle.hand_record.specs.laws.Bounds.{read-bounds}
 use Rattle.reading.specs.declared.Reading.{Reading}
 use Rattle.points.specs.Claims.{gain-is-payments}
 use Rattle.value.specs.Value.{valueOf}
+use Rattle.groups.specs.Tests.{winds}
 use Rattle.score.specs.declared.Scored.{Scored}
-use Rattle.score.specs.Named.{wonOf, seatsOf, worth, Named, scoredAs}
+use Rattle.score.specs.Named.{wonOf, seatsOf, groupsOf, worth, IsReadingOf, Named, scoredAs}
 use Rattle.score.specs.laws.Z.{add-law}
+use Rattle.score.specs.laws.Paid.{other-seat}
 use Rattle.score.specs.laws.Settled.{scored}
 use Rattle.score.specs.laws.Named.{accepted, best, most, refused-6, refused-7, for-tiles}
 use Rattle.ledger.specs.declared.Game.{Game}
 use Rattle.ledger.specs.Booking.{win}
-use Rattle.ledger.specs.Ledger.{scoreAt, notOpen, handFor, scoredFor, riichiMismatch, refusalFor, addedFor, winGives, effectOf, after}
-use Rattle.ledger.specs.Demand3.{gainBy, changeBy, sticksTo, PaidBy, AcceptedWhen, PaidByBest, BestWithCounters, TilesRefused, SixOrSeven}
-use Rattle.ledger.specs.laws.Form.{le-leZ, open-of}
+use Rattle.ledger.specs.Ledger.{scoreAt, notOpen, handFor, scoredFor, riichiMismatch, refusalFor, isSet, settles, wholeOf, fedPays, isDealersWin, wonBy, addedBy, fedIn, holdsFourWinds, fedFor, winGives, effectOf, after}
+use Rattle.ledger.specs.Demand3.{gainBy, changeBy, sticksTo, fedBy, paidIn, PaidBy, AcceptedWhen, PaidByBest, BestWithCounters, TilesRefused, SixOrSeven}
+use Rattle.ledger.specs.laws.Form.{InForm, le-leZ, open-of}
 use Rattle.ledger.specs.laws.Accepted.{win-accepted}
 use Rattle.ledger.specs.laws.Refusals.{win-by}
 use Rattle.ledger.specs.laws.Lists.{score-after}
+use Rattle.ledger.specs.laws.Repeat.{winner-added}
+use Rattle.ledger.specs.laws.Fed.{whole-even, winner-fed, fed-seat, payer-small, payer-other}
+use Rattle.ledger.specs.laws.Winds.{winds-by-tiles, yakuman-change}
 
 -- a refusal under 11 is the scorer's
 from-score : (j k : ℕ) (m : Bool) → 0 < j → j < 11 → (cond (ltb 0 k) k (cond m 11 0) ≡ j) ↔ (k ≡ j)
@@ -40,8 +45,10 @@ from-score j k m a b = go (ltb 0 k) m refl
     go false true e = (λ q. absurd (omega arith), λ q. absurd (omega (arith, ltb-false 0 k e)))
     go false false e = (λ q. absurd (omega arith), λ q. absurd (omega (arith, ltb-false 0 k e)))
 
-each-added : (x c a k : ℤ) → x +ℤ (c +ℤ a +ℤ k) ≡ x +ℤ c +ℤ a +ℤ k
-each-added x c a k = sym (+ℤ-assoc x (c +ℤ a) k) ∙ ap (λ (z : ℤ). z +ℤ k) (sym (+ℤ-assoc x c a))
+-- two tests behind one that are the same where it holds
+behind : (b p q : Bool) → (b ≡ true → p ≡ q) → b && p ≡ b && q
+behind true p q e = e refl
+behind false p q e = refl
 
 -- what is added to both leaves their order
 same-order : (a b : ℕ) (x : ℤ) → a ≤ b → leZ (pos a +ℤ x) (pos b +ℤ x) ≡ true
@@ -52,18 +59,89 @@ module _ (l : Game) (s : List ℕ) where
   names : notOpen l ≡ false → IsSound s → Named (handFor s) (l .dealer) (l .wind) (scoredFor l s)
   names o i = let f = open-of l o .form in scored s (l .dealer) (l .wind) (f .dealer) (f .wind) i
 
-  -- an accepted win that scores as r moves each score by its change in r, what the counters add, and the sticks
-  win-moves : (r : Reading) → refusalFor l (win s) ≡ 0 → scoredFor l s ≡ scoredAs (handFor s) (l .dealer) (l .wind) r → PaidBy l s r
+  -- what is fed by the tiles is what is fed in the reading
+  fed-is : (r : Reading) → refusalIn (readOf s .answer) ≡ 0 → IsReadingOf (handFor s) r → scoredFor l s ≡ scoredAs (handFor s) (l .dealer) (l .wind) r → fedFor l s ≡ fedBy l s r
+  fed-is r n i e =
+      let w : ℕ = handFor s .fields .winner in
+      let y = scoredAs (handFor s) (l .dealer) (l .wind) r .yaku in
+      ap (λ (x : Scored). fedIn l w (getD (x .yaku) 28 false) (getD (x .yaku) 29 false && holdsFourWinds (handFor s))) e
+      ∙ ap (fedIn l w (getD y 28 false)) (behind (getD y 29 false) (holdsFourWinds (handFor s)) (eqb (winds (groupsOf (handFor s) r)) 4) (winds-by-tiles s n (l .dealer) (l .wind) r i))
+
+  -- an accepted win that scores as r moves each score by what r gives or takes, and the sticks
+  win-moves : (r : Reading) → refusalFor l (win s) ≡ 0 → IsReadingOf (handFor s) r → scoredFor l s ≡ scoredAs (handFor s) (l .dealer) (l .wind) r → PaidBy l s r
   unfolding effectOf winGives
-  win-moves r z e i h =
-      let given : scoreAt (after l (win s)) i ≡ scoreAt l i +ℤ (getD (scoredFor l s .changes) i (pos 0) +ℤ addedFor l s i +ℤ sticksTo l s i) = rw z at (score-after l (win s) i h) in
-      given ∙ ap (λ (x : Scored). scoreAt l i +ℤ (getD (x .changes) i (pos 0) +ℤ addedFor l s i +ℤ sticksTo l s i)) e
-      ∙ each-added (scoreAt l i) (changeBy l s r i) (addedFor l s i) (sticksTo l s i)
+  win-moves r z m e i h =
+      let f = fed-is r (win-accepted l s z .1) m e in
+      let given : scoreAt (after l (win s)) i ≡ scoreAt l i +ℤ (wonBy l s (fedFor l s) (λ j. getD (scoredFor l s .changes) j (pos 0)) i +ℤ addedBy l s (fedFor l s) i +ℤ sticksTo l s i)
+      = rw z at (score-after l (win s) i h) in
+      given
+      ∙ ap (λ (n : ℕ). scoreAt l i +ℤ (wonBy l s n (λ j. getD (scoredFor l s .changes) j (pos 0)) i +ℤ addedBy l s n i +ℤ sticksTo l s i)) f
+      ∙ ap (λ (x : Scored). scoreAt l i +ℤ (wonBy l s (fedBy l s r) (λ j. getD (x .changes) j (pos 0)) i +ℤ addedBy l s (fedBy l s r) i +ℤ sticksTo l s i)) e
+      ∙ sym (+ℤ-assoc (scoreAt l i) (paidIn l s r i) (sticksTo l s i))
 
   -- the winner's change in a reading is its gain
   gain-at : (q : Reading) → handFor s .fields .winner < 4 → changeBy l s q (handFor s .fields .winner) ≡ pos (gainBy l s q)
   unfolding worth valueOf wonOf
   gain-at q h = gain-is-payments (seatsOf (handFor s) (l .dealer)) (isRon (handFor s .fields)) (worth (handFor s) (l .dealer) (l .wind) q .basic .0) .got h
+
+  -- ---- what a reading gives the winner, fed or not
+
+  module _ (o : notOpen l ≡ false) (n : refusalIn (readOf s .answer) ≡ 0) where
+    abbrev w : ℕ
+    w = handFor s .fields .winner
+
+    -- the feeder of a yaku that is set is a seat, and another
+    abbrev IsFeeder : ℕ → Type 0
+    IsFeeder k = (k ≤ 4) × (k ≡ 1 + w → ⊥)
+
+    fed-winner : (k : ℕ) → IsFeeder k → 0 < k → (c : ℕ → ℤ) → wonBy l s k c w ≡ pos (wholeOf (isDealersWin l s))
+    fed-winner k g p c =
+        let b = read-bounds s n in
+        let f = handFor s .fields in
+        let other = g .1 in
+        rw (lt-ltb 0 k p, whole-even (isDealersWin l s))
+        (winner-fed w (f .discarder) (k - 1) (cond (isDealersWin l s) 24000 16000) (isRon f) (omega (arith, g .0))
+        (λ e. other (omega (arith, p))) (λ r. omega (arith, b .discarder)) (other-seat f (b .other)))
+
+    form : InForm l
+    form = open-of l o .form
+
+    module _ (q : Reading) where
+      abbrev y : List Bool
+      y = scoredAs (handFor s) (l .dealer) (l .wind) q .yaku
+
+      paid : (k : ℕ) → IsFeeder k → (j : ℕ) → 26 ≤ j → j ≤ 36 → getD y j false ≡ true → wonBy l s k (changeBy l s q) w ≡ changeBy l s q w
+      paid k g j a b m = go (ltb 0 k) refl
+        where
+          go : (t : Bool) → ltb 0 k ≡ t → wonBy l s k (changeBy l s q) w ≡ changeBy l s q w
+          go true t = fed-winner k g (ltb-true 0 k t) (changeBy l s q) ∙ sym (yakuman-change s n (l .dealer) (l .wind) q (form .dealer) j a b m)
+          go false t = rw t
+
+      feeder : (a b : Bool) → IsFeeder (fedIn l w a b)
+      feeder = fed-seat l form w (read-bounds s n .winner)
+
+      -- "The winner's gain is what it was" (02, S-8)
+      pub winner-won : wonBy l s (fedBy l s q) (changeBy l s q) w ≡ changeBy l s q w
+      winner-won = go (getD y 28 false) (getD y 29 false) (eqb (winds (groupsOf (handFor s) q)) 4) refl refl
+        where
+          go : (a b d : Bool) → getD y 28 false ≡ a → getD y 29 false ≡ b → wonBy l s (fedIn l w a (b && d)) (changeBy l s q) w ≡ changeBy l s q w
+          go true b d p r = paid (fedIn l w true (b && d)) (feeder true (b && d)) 28 (omega arith) (omega arith) p
+          go false true d p r = paid (fedIn l w false d) (feeder false d) 29 (omega arith) (omega arith) r
+          go false false d p r = refl
+
+      -- 300 a counter, whoever pays them
+      winner-more : addedBy l s (fedBy l s q) w ≡ pos (300 * l .counter)
+      winner-more = go (fedBy l s q) (feeder (getD y 28 false) (getD y 29 false && eqb (winds (groupsOf (handFor s) q)) 4))
+        where
+          go : (k : ℕ) → IsFeeder k → addedBy l s k w ≡ pos (300 * l .counter)
+          go k g =
+              let b = read-bounds s n in
+              let f = handFor s .fields in
+              winner-added w (cond (isRon f) (f .discarder) (k - 1)) (isRon f || isSet k) (l .counter) (b .winner)
+              (payer-small (isRon f) (f .discarder) k (b .discarder) (g .0)) (payer-other (isRon f) w (f .discarder) k (other-seat f (b .other)) (g .1))
+
+      pub winner-gains : paidIn l s q w ≡ pos (gainBy l s q) +ℤ pos (300 * l .counter)
+      winner-gains = let g = gain-at q (omega (arith, read-bounds s n .winner)) in rw (winner-won, winner-more, g)
 
   module _ (n : ℕ) (e : n ≡ refusalFor l (win s)) where
     pub win-accepted-when : AcceptedWhen l s n
@@ -81,13 +159,14 @@ module _ (l : Game) (s : List ℕ) where
     win-paid z =
         let y = win-accepted l s (sym e ∙ z) in
         let r = best (handFor s) (l .dealer) (l .wind) (names (y .0) (sound s .1 (y .1))) (y .2) in
-        (r .0, r .1, win-moves (r .0) (sym e ∙ z) (r .2), λ q w. most (handFor s) (l .dealer) (l .wind) (r .0) q (r .1) w)
+        (r .0, r .1, win-moves (r .0) (sym e ∙ z) (r .1 .yaku .0) (r .2), λ q w. most (handFor s) (l .dealer) (l .wind) (r .0) q (r .1) w)
 
     pub win-best : BestWithCounters l s n
     win-best z =
         let p = win-paid z in
-        let w : handFor s .fields .winner < 4 = omega (arith, read-bounds s (win-accepted l s (sym e ∙ z) .1) .winner) in
-        (p .0, p .1, p .2, λ q k. rw (gain-at (p .0) w, gain-at q w) (same-order (gainBy l s q) (gainBy l s (p .0)) (addedFor l s (handFor s .fields .winner)) (p .3 q k)))
+        let y = win-accepted l s (sym e ∙ z) in
+        let w = winner-gains (y .0) (y .1) in
+        (p .0, p .1, p .2, λ q k. rw (w (p .0), w q) (same-order (gainBy l s q) (gainBy l s (p .0)) (pos (300 * l .counter)) (p .3 q k)))
 
     -- a refusal of the scorer's, of a sound record in an open game
     told : notOpen l ≡ false → (j : ℕ) → 0 < j → j < 11 → (n ≡ j) ↔ (scoredFor l s .refusal ≡ j)

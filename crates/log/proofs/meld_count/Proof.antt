@@ -1,7 +1,7 @@
 -- `log::meld_count` meets its contract: bits 22 to 24 are the last two of byte 2 and the first of byte 3.
 use native.Mathlib.Omega.{arith}
 use borrow.Author.Needs.{needs}
-use Rattle.log.specs.laws.Next.{count-in}
+use Rattle.log.specs.laws.Lengths.{count-in}
 use Rattle.log.proofs.meld_count.Statement.{statement}
 use Rattle.log.proofs.meld_count.Tie as tie
 

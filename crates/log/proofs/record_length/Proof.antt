@@ -3,7 +3,7 @@ use mathlib.Core.Path.{_≡_, sym, ap, _∙_}
 use native.Mathlib.Omega.{arith}
 use borrow.Author.Needs.{needs}
 use Rattle.hand_record.specs.Record.{countIn, lengthOf}
-use Rattle.log.specs.laws.Next.{record-short, record-over, record-cut, record-whole}
+use Rattle.log.specs.laws.Lengths.{record-short, record-over, record-cut, record-whole}
 use Rattle.log.proofs.record_length.Statement.{statement}
 use Rattle.log.proofs.record_length.Tie as tie
 

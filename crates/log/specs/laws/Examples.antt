@@ -1,10 +1,10 @@
--- Document 01's log, a win, and each refusal, computed.
+-- Document 01's log, a win, a feed, and each refusal, computed.
 use mathlib.Core.Path.{_≡_, refl}
 use mathlib.Core.List.{[], _∷_}
 use lib.ListN.{take, drop}
 use Rattle.hand_record.specs.Record.{headOf}
 use Rattle.hand_record.specs.laws.Examples.{line1}
-use Rattle.log.specs.Kinds.{recordLength, lengthBy, entryLength}
+use Rattle.log.specs.Kinds.{recordLength, holderIn, feederIn, yakuIn, lengthBy, entryLength}
 use Rattle.log.specs.Log.{refusalAt, partsFew, partsOf}
 
 -- "Hexadecimal 01 24": riichi by seat 1 and a draw with seat 1 ready
@@ -12,11 +12,23 @@ pub example : partsOf (1 ∷ 36 ∷ []) ≡ (1 ∷ []) ∷ (36 ∷ []) ∷ []
 unfolding recordLength lengthBy entryLength partsFew partsOf
 example = refl
 
--- a win of 13 bytes, and the same with a byte missing, an argument, m 5, and a kind over 3
+-- a win of 13 bytes, and the same with a byte missing, an argument, m 5; and kinds 4 and 6
 pub win-whole : entryLength (16 ∷ line1 .bytes) ≡ 14
 unfolding headOf recordLength lengthBy entryLength
 win-whole = refl
 
-pub refusals : (refusalAt (16 ∷ take 12 (line1 .bytes)) 0 ≡ 14) × (refusalAt (17 ∷ line1 .bytes) 0 ≡ 14) × (refusalAt (16 ∷ 0 ∷ 0 ∷ 2 ∷ 128 ∷ drop 4 (line1 .bytes)) 0 ≡ 14) × (refusalAt (64 ∷ []) 0 ≡ 14)
+pub refusals : (refusalAt (16 ∷ take 12 (line1 .bytes)) 0 ≡ 14) × (refusalAt (17 ∷ line1 .bytes) 0 ≡ 14) × (refusalAt (16 ∷ 0 ∷ 0 ∷ 2 ∷ 128 ∷ drop 4 (line1 .bytes)) 0 ≡ 14) × (refusalAt (64 ∷ []) 0 ≡ 14) × (refusalAt (96 ∷ []) 0 ≡ 14)
 unfolding headOf recordLength lengthBy entryLength refusalAt
-refusals = (refl, refl, refl, refl)
+refusals = (refl, refl, refl, refl, refl)
+
+-- S-8: seat 2 holds, seat 1 fed, yaku 29; and the same with the byte missing, an argument, and each zero bit set
+pub example-feed : entryLength (80 ∷ 152 ∷ []) ≡ 2
+unfolding recordLength lengthBy entryLength
+example-feed = refl
+
+pub example-fields : (holderIn (152 ∷ []) ≡ 2) × (feederIn (152 ∷ []) ≡ 1) × (yakuIn (152 ∷ []) ≡ 29)
+example-fields = (refl, refl, refl)
+
+pub feed-refusals : (refusalAt (80 ∷ []) 0 ≡ 14) × (refusalAt (81 ∷ 152 ∷ []) 0 ≡ 14) × (refusalAt (80 ∷ 153 ∷ []) 0 ≡ 14) × (refusalAt (80 ∷ 154 ∷ []) 0 ≡ 14) × (refusalAt (80 ∷ 156 ∷ []) 0 ≡ 14)
+unfolding recordLength lengthBy entryLength refusalAt
+feed-refusals = (refl, refl, refl, refl, refl)

@@ -18,9 +18,9 @@ put-stick-spec =
     (λ c κs. search needs)
     (λ c κs. let start = c .before .before in (λ i l. score-within (start .args .g) (start .pre .form) i l, c .stakes .ensures .1))
     (λ c κs. search needs)
-    (λ c. let start = c .before .before .before .before .before .before in let k = few-sticks (start .args .g) (start .pre .form) in search needs)
+    (λ c. let start = c .before .before .before .before .before .before .before in let k = few-sticks (start .args .g) (start .pre .form) in search needs)
     (λ c.
-    let payed = c .before .before .before in
+    let payed = c .before .before .before .before in
     let start = payed .before .before .before in
-    riichi-applied (start .args .g) (start .args .seat) (start .pre) (payed .pay .result) (c .before .declare .result)
-    (payed .pay .ensures ∙ ap (λ (l : List ℤ). paid (start .args .g .scores) l) (payed .before .stakes .ensures .0)) (c .before .declare .ensures)))
+    riichi-applied (start .args .g) (start .args .seat) (start .pre) (payed .pay .result) (c .before .before .declare .result)
+    (payed .pay .ensures ∙ ap (λ (l : List ℤ). paid (start .args .g .scores) l) (payed .before .stakes .ensures .0)) (c .before .before .declare .ensures)))

@@ -1,18 +1,18 @@
--- What finishing a hand comes to, and that this is what the ledger's effects of riichi, of a chombo and of a draw do.
+-- What finishing a hand comes to, and that this is what the ledger's effects of riichi, of a named feeder, of a chombo and of a draw do.
 use mathlib.Core.Path.{_≡_, _∙_}
 use mathlib.Core.Bool.{Bool, true, false, not, _&&_, _||_, cond}
-use mathlib.Core.List.{List}
+use mathlib.Core.List.{List, [], _∷_}
 use Prim.Native.Nat.{ℕ, _+_, _-_, _≤_}
 use native.Mathlib.Omega.{arith}
 use borrow.Author.Tests.{ne-eqb}
 use lib.Dec.{eqb}
 use lib.IntN.{ℤ, pos, _+ℤ_}
-use lib.ListN.{getD}
+use lib.ListN.{getD, set}
 use Rattle.tiles.specs.Below.{any, count, tabulate}
 use Rattle.tiles.specs.laws.Tabulate.{getD-tabulate}
 use Rattle.ledger.specs.declared.Game.{Game}
-use Rattle.ledger.specs.Booking.{riichi, draw}
-use Rattle.ledger.specs.Ledger.{lastHand, mark, isDeclared, isReady, shareOf, finishing, riichiGives, drawGives, fineOf, chomboGives, chomboOf, isAtFault, effectOf, applied}
+use Rattle.ledger.specs.Booking.{riichi, draw, feed}
+use Rattle.ledger.specs.Ledger.{lastHand, mark, isDeclared, feederPlace, isReady, shareOf, finishing, riichiGives, drawGives, fineOf, chomboGives, chomboOf, isAtFault, effectOf, applied}
 use Rattle.ledger.specs.laws.Form.{Open}
 use Rattle.ledger.specs.laws.Sums.{paid}
 
@@ -20,15 +20,25 @@ use Rattle.ledger.specs.laws.Sums.{paid}
 unfoldable pub finished : Game → List ℤ → ℕ → Bool → ℕ → Game
 finished g by sticks passes counter = applied g (finishing (λ i. getD by i (pos 0)) sticks passes counter)
 
--- ---- riichi, chombo, draw
+-- ---- riichi, feed, chombo, draw
 
 module _ (g : Game) (seat : ℕ) where
   pub riichi-applied : Open g → (s : List ℤ) (d : List ℕ) → s ≡ paid (g .scores) (tabulate 4 0 (riichiGives seat)) → d ≡ tabulate 4 0 (λ i. mark (eqb i seat || isDeclared g i))
-      → record { scores = s; sticks = g .sticks + 1; declared = d; dealer = g .dealer; wind = g .wind; hands = g .hands; over = 0; counter = g .counter } ≡ applied g (effectOf g (riichi seat))
+      → record { scores = s; sticks = g .sticks + 1; declared = d; dealer = g .dealer; wind = g .wind; hands = g .hands; over = 0; counter = g .counter; feeders = g .feeders } ≡ applied g (effectOf g (riichi seat))
   unfolding applied effectOf
   riichi-applied o s d p q =
       let n : eqb (g .hands) lastHand ≡ false = ne-eqb (g .hands) lastHand (λ e. omega (arith, o .hands)) in
       rw (p, q, n)
+
+module _ (g : Game) (holder feeder yaku : ℕ) where
+  pub feed-applied : Open g → (s : List ℤ) (d f : List ℕ) → s ≡ paid (g .scores) (pos 0 ∷ pos 0 ∷ pos 0 ∷ pos 0 ∷ []) → d ≡ tabulate 4 0 (λ i. mark (isDeclared g i))
+      → f ≡ set (g .feeders) (feederPlace holder yaku) (1 + feeder)
+      → record { scores = s; sticks = g .sticks; declared = d; dealer = g .dealer; wind = g .wind; hands = g .hands; over = 0; counter = g .counter; feeders = f }
+      ≡ applied g (effectOf g (feed holder feeder yaku))
+  unfolding applied effectOf
+  feed-applied o s d f p q r =
+      let n : eqb (g .hands) lastHand ≡ false = ne-eqb (g .hands) lastHand (λ e. omega (arith, o .hands)) in
+      rw (p, q, r, n)
 
 module _ (g : Game) where
   -- f who is at fault, d who has declared

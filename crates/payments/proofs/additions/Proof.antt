@@ -1,11 +1,7 @@
 -- `payments::additions` meets its contract: each call gives its seat's part.
 use mathlib.Core.Path.{_∙_}
-use mathlib.Core.Bool.{Bool}
-use Prim.Native.Nat.{ℕ}
 use native.Mathlib.Omega.{arith}
 use borrow.Author.Needs.{needs}
-use Rattle.hand.specs.Hand.{isRon}
-use Rattle.score.specs.laws.Paid.{other-seat}
 use Rattle.ledger.specs.Ledger.{repeatGives}
 use Rattle.ledger.specs.laws.Bounds.{mostChange}
 use Rattle.ledger.specs.laws.Sums.{four-within}
@@ -21,11 +17,11 @@ additions-spec =
     let third = c .before in
     let second = third .before in
     let first = second .before in
-    let start = first .before .before in
-    let f = start .args .f in
+    let start = first .before in
+    let a = start .args in
     let p = start .pre in
-    let seat = added-at (f .winner) (f .discarder) (isRon f) (start .args .n) (p .0) (p .1) (other-seat f (p .2)) in
+    let seat = added-at (a .winner) (a .payer) (a .alone) (a .n) (p .0) (p .1) (p .2) in
     four-within mostChange (omega arith) (first .addition .result) (second .addition2 .result) (third .addition3 .result) (c .addition4 .result)
-    (repeatGives (f .winner) (f .discarder) (isRon f) (start .args .n))
+    (repeatGives (a .winner) (a .payer) (a .alone) (a .n))
     (first .addition .ensures .0 ∙ seat 0, first .addition .ensures .1) (second .addition2 .ensures .0 ∙ seat 1, second .addition2 .ensures .1)
     (third .addition3 .ensures .0 ∙ seat 2, third .addition3 .ensures .1) (c .addition4 .ensures .0 ∙ seat 3, c .addition4 .ensures .1)))

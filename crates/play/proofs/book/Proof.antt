@@ -15,4 +15,10 @@ book-spec =
     (λ c κs. search needs)
     (λ c. rw (ne-eqb _ 0 (c .before .before .before .if1 .left), ne-eqb _ 1 (c .before .before .if2 .left), eq-eqb _ 2 (c .before .if3 .taken)) (c .draw .ensures))
     (λ c κs. search needs)
-    (λ c. rw (ne-eqb _ 0 (c .before .before .before .if1 .left), ne-eqb _ 1 (c .before .before .if2 .left), ne-eqb _ 2 (c .before .if3 .left)) (c .chombo .ensures)))
+    (λ c.
+    rw (ne-eqb _ 0 (c .before .before .before .before .if1 .left), ne-eqb _ 1 (c .before .before .before .if2 .left), ne-eqb _ 2 (c .before .before .if3 .left), eq-eqb _ 5 (c .before .if4 .taken))
+    (c .book-feed .ensures))
+    (λ c κs. search needs)
+    (λ c.
+    rw (ne-eqb _ 0 (c .before .before .before .before .if1 .left), ne-eqb _ 1 (c .before .before .before .if2 .left), ne-eqb _ 2 (c .before .before .if3 .left), ne-eqb _ 5 (c .before .if4 .left))
+    (c .chombo .ensures)))

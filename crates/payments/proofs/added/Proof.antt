@@ -1,0 +1,21 @@
+-- `payments::added` meets its contract: who pays alone is another seat than the winner.
+use borrow.Author.Needs.{needs}
+use Rattle.hand.specs.Hand.{isRon}
+use Rattle.score.specs.laws.Paid.{other-seat}
+use Rattle.ledger.specs.laws.Fed.{payer-small, payer-other}
+use Rattle.payments.proofs.added.Statement.{statement}
+use Rattle.payments.proofs.added.Tie as tie
+
+pub added-spec : {M : Type 1} → statement M
+added-spec =
+    tie.close
+    (tie.spec
+    (λ c κs. search needs) (λ c κs. search needs)
+    (λ c κs.
+    let start = c .before .before .before in
+    let f = start .args .f in
+    let fed = start .args .fed in
+    let p = start .pre in
+    rw (c .payer-of .ensures, c .before .feeder-of .ensures)
+    (p .0, payer-small (isRon f) (f .discarder) fed (p .1) (p .3), payer-other (isRon f) (f .winner) (f .discarder) fed (other-seat f (p .2)) (p .4), p .5))
+    (λ c. rw (c .before .payer-of .ensures, c .before .before .feeder-of .ensures) at (c .additions .ensures)))
