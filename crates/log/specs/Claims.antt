@@ -7,7 +7,8 @@ use Prim.Native.Nat.{ℕ, _+_, _*_, _-_, _≤_, _<_}
 use native.Mathlib.Omega.{arith}
 use lib.ListN.{length, getD, take, drop}
 use Rattle.hand_record.specs.Record.{countIn, wrongLength}
-use Rattle.log.specs.Kinds.{kindIn, argumentIn, isBroken, holderIn, feederIn, yakuIn, isOtherForm}
+use Rattle.record_lengths.specs.Lengths.{isBroken}
+use Rattle.log.specs.Kinds.{kindIn, argumentIn, holderIn, feederIn, yakuIn, isOtherForm}
 use Rattle.log.specs.Log.{partAt, refusalAt, partsOf, laid, stopOf}
 use Rattle.log.specs.laws.Next as next
 use Rattle.log.specs.laws.Walk as laws

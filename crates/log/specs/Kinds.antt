@@ -4,7 +4,7 @@ use mathlib.Core.List.{List, [], _∷_}
 use Prim.Native.Nat.{ℕ, _+_, _/_, _%_}
 use lib.Dec.{ltb, eqb}
 use lib.ListN.{length, getD}
-use Rattle.hand_record.specs.Record.{lengthOf, countIn}
+use Rattle.record_lengths.specs.Lengths.{recordLength}
 
 -- "kind 4 bits (0 riichi, 1 win, 2 draw, 3 chombo)"
 abbrev pub riichiKind : ℕ
@@ -34,14 +34,6 @@ kindIn s = getD s 0 0 / 16
 -- "argument 4"
 abbrev pub argumentIn : List ℕ → ℕ
 argumentIn s = getD s 0 0 % 16
-
--- of the record that bytes start with, "m over 4, or bytes missing": under the four that hold m, or under m's length
-abbrev pub isBroken : List ℕ → Bool
-isBroken s = ltb (length s) 4 || ltb 4 (countIn s) || ltb (length s) (lengthOf (countIn s))
-
--- how many bytes the record has that bytes start with; 0 where it is broken
-unfoldable pub recordLength : List ℕ → ℕ
-recordLength s = cond (isBroken s) 0 (lengthOf (countIn s))
 
 -- S-8: "then a byte: holder 2 bits, feeder 2, yaku 1 (0 for 28), three zero bits", the first of the bytes after the header
 abbrev pub holderIn : List ℕ → ℕ

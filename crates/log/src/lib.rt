@@ -1,11 +1,8 @@
 // The log (01, Log; 02, S-8): the kinds of its entries, and Next entry. The public calls take all input.
 ghost use mathlib.Core.Path.{_≡_};
-ghost use Prim.Native.Nat.{_+_, _/_, _%_, _≤_};
-ghost use lib.ListN.{length};
-ghost use Rattle.hand_record.specs.Record.{countIn};
-ghost use Rattle.log.specs.Kinds.{letterOf, recordLength, winLength, feedLength, lengthBy, entryLength};
+ghost use Prim.Native.Nat.{_+_, _/_, _%_};
+ghost use Rattle.log.specs.Kinds.{letterOf, winLength, feedLength, lengthBy, entryLength};
 ghost use Rattle.log.specs.Log.{partAt, refusalAt};
-use hand_record::LENGTHS;
 
 // The kinds by their numbers. Each one's letter stands in `letter`, its length in `length_by`.
 pub const RIICHI: u8 = 0;
@@ -72,32 +69,6 @@ pub fn letter(kind: u8) -> u8
     b'C'
 }
 
-// The meld count of the record that bytes start with: its 3 bits from bit 22.
-fn meld_count(s: &[u8]) -> u8
-    requires { ⌜ 4 ≤ length (now s) ⌝ }
-    ensures { λ r. ⌜ r ≡ countIn (now (s .entry)) ⌝ }
-{
-    s[2] % 4 * 2 + s[3] / 128
-}
-
-// How many bytes the record has that bytes start with, 0 where m is over 4 or bytes are missing.
-fn record_length(s: &[u8]) -> usize
-    ensures { λ r. ⌜ r ≡ recordLength (now (s .entry)) ⌝ }
-{
-    if s.len() < 4 {
-        return 0;
-    }
-    let m = meld_count(s) as usize;
-    if 4 < m {
-        return 0;
-    }
-    let n = LENGTHS[m];
-    if s.len() < n {
-        return 0;
-    }
-    n
-}
-
 // How many bytes a win has, its header included, by its argument and the bytes after the header; 0 where it is bad.
 fn win_length(argument: u8, rest: &[u8]) -> usize
     ensures { λ r. ⌜ r ≡ winLength argument (now (rest .entry)) ⌝ }
@@ -105,7 +76,7 @@ fn win_length(argument: u8, rest: &[u8]) -> usize
     if argument != 0 {
         return 0;
     }
-    let n = record_length(rest);
+    let n = record_lengths::record_length(rest);
     if n == 0 {
         return 0;
     }

@@ -6,7 +6,8 @@ use Prim.Native.Nat.{ℕ, _≤_}
 use native.Mathlib.Omega.{arith}
 use Rattle.ledger.specs.Ledger.{fresh, ledgerFrom, notOpen, outOfForm, totalOf, refusalFor, after, applied, effectOf, riichiGives, drawGives}
 use Rattle.ledger.specs.Claims.{Demand3, demand-3, refusalsFrom, runs-exists}
-use Rattle.log.specs.Kinds.{recordLength, lengthBy, entryLength}
+use Rattle.record_lengths.specs.Lengths.{recordLength}
+use Rattle.log.specs.Kinds.{lengthBy, entryLength}
 use Rattle.log.specs.Log.{partsFew, partsOf}
 use Rattle.text.specs.Text.{lastDigits, digitsOf, signedOf, spaced, lineOf}
 use Rattle.play.specs.declared.Walk.{Walk}

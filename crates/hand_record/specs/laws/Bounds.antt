@@ -2,15 +2,16 @@
 use Prim.Native.Nat.{ℕ, zero, suc, _≤_, _<_}
 use native.Mathlib.Omega.{arith}
 use mathlib.Core.Path.{_≡_, ap, sym, _∙_, subst}
-use mathlib.Core.Bool.{Bool, false, _||_}
+use mathlib.Core.Bool.{Bool, true, false, _||_}
 use mathlib.Core.List.{List}
-use borrow.Author.Tests.{ltb-false}
-use lib.Dec.{ltb}
+use borrow.Author.Tests.{ltb-false, eqb-false}
+use lib.Dec.{ltb, eqb}
 use Rattle.tiles.specs.laws.Below.{or-both}
 use Rattle.bits.specs.Bits.{bitsOf}
 use Rattle.hand.specs.declared.Fields.{Fields}
 use Rattle.hand.specs.declared.Hand.{Hand}
 use Rattle.hand.specs.Held.{wrongHeld}
+use Rattle.hand.specs.Hand.{isRon}
 use Rattle.hand.specs.Refusals.{fieldOver33, fieldOver, wrongDiscarder, wrongFields}
 use Rattle.hand_record.specs.declared.Answer.{Answer}
 use Rattle.hand_record.specs.declared.Answer.the-variants.{Sound, Refused}
@@ -28,6 +29,10 @@ pub record Bounds (h : Hand) : Type 0 where
   pub winning : h .fields .winning ≤ 33
   pub indicator : h .fields .indicator ≤ 33
   pub other : wrongDiscarder (h .fields) ≡ false
+
+-- "ron with discarder equal to winner" is refused
+pub other-seat : (f : Fields) → wrongDiscarder f ≡ false → isRon f ≡ true → f .winner ≡ f .discarder → ⊥
+other-seat f o r e = let q : eqb (f .discarder) (f .winner) ≡ false = rw r at o in eqb-false _ _ q (sym e)
 
 -- what a hand that Write accepts has
 pub bounds-of : (h : Hand) → Accepted h → Bounds h

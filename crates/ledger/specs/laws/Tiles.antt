@@ -13,7 +13,7 @@ use lib.Signed.{leZ}
 use Rattle.hand.specs.Hand.{isRon}
 use Rattle.hand_record.specs.Record.{IsSound, refusalIn, readOf}
 use Rattle.hand_record.specs.Claims.{sound}
-use Rattle.hand_record.specs.laws.Bounds.{read-bounds}
+use Rattle.hand_record.specs.laws.Bounds.{other-seat, read-bounds}
 use Rattle.reading.specs.declared.Reading.{Reading}
 use Rattle.points.specs.Claims.{gain-is-payments}
 use Rattle.value.specs.Value.{valueOf}
@@ -21,7 +21,6 @@ use Rattle.groups.specs.Tests.{winds}
 use Rattle.score.specs.declared.Scored.{Scored}
 use Rattle.score.specs.Named.{wonOf, seatsOf, groupsOf, worth, IsReadingOf, Named, scoredAs}
 use Rattle.score.specs.laws.Z.{add-law}
-use Rattle.score.specs.laws.Paid.{other-seat}
 use Rattle.score.specs.laws.Settled.{scored}
 use Rattle.score.specs.laws.Named.{accepted, best, most, refused-6, refused-7, for-tiles}
 use Rattle.ledger.specs.declared.Game.{Game}

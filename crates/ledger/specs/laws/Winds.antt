@@ -23,7 +23,7 @@ use Rattle.hand.specs.Held.{meldKind, meldTile, meldHolds, inMelds, inHeld, til
 use Rattle.hand.specs.Hand.{isRon, inConcealed, inHand, concealedTally, handTally}
 use Rattle.hand.specs.Refusals.{fieldOver33, fieldOver, wrongDiscarder, wrongFields}
 use Rattle.hand_record.specs.Record.{refusalIn, handOf, readOf}
-use Rattle.hand_record.specs.laws.Bounds.{read-bounds}
+use Rattle.hand_record.specs.laws.Bounds.{other-seat, read-bounds}
 use Rattle.hand_record.specs.laws.Claims.{read-sound}
 use Rattle.hand_record.specs.laws.Sound.{read-accepted, read-is-hand}
 use Rattle.reading.specs.declared.Reading.{Reading}
@@ -38,7 +38,6 @@ use Rattle.points.specs.Claims.{gain-by-ron, gain-by-tsumo, gain-is-payments}
 use Rattle.value.specs.Value.{valueOf}
 use Rattle.value.specs.Claims.{yakuman-pays-as-one}
 use Rattle.score.specs.Named.{wonOf, seatsOf, groupsOf, partsOf, worth, IsReadingOf, gainIn, scoredAs}
-use Rattle.score.specs.laws.Paid.{other-seat}
 
 -- ---- lists
 

@@ -3,7 +3,8 @@ use mathlib.Core.Path.{sym, ap, _∙_}
 use Prim.Native.Nat.{ℕ, _+_}
 use native.Mathlib.Omega.{arith}
 use borrow.Author.Needs.{needs}
-use Rattle.log.specs.laws.Lengths.{record-inside, win-argument, win-broken, win-whole}
+use Rattle.record_lengths.specs.laws.Lengths.{record-inside}
+use Rattle.log.specs.laws.Lengths.{win-argument, win-broken, win-whole}
 use Rattle.log.proofs.win_length.Statement.{statement}
 use Rattle.log.proofs.win_length.Tie as tie
 

@@ -4,7 +4,8 @@ use mathlib.Core.List.{[], _∷_}
 use lib.ListN.{take, drop}
 use Rattle.hand_record.specs.Record.{headOf}
 use Rattle.hand_record.specs.laws.Examples.{line1}
-use Rattle.log.specs.Kinds.{recordLength, holderIn, feederIn, yakuIn, lengthBy, entryLength}
+use Rattle.record_lengths.specs.Lengths.{recordLength}
+use Rattle.log.specs.Kinds.{holderIn, feederIn, yakuIn, lengthBy, entryLength}
 use Rattle.log.specs.Log.{refusalAt, partsFew, partsOf}
 
 -- "Hexadecimal 01 24": riichi by seat 1 and a draw with seat 1 ready

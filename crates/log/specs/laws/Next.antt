@@ -10,11 +10,11 @@ use borrow.Author.Tests.{ltb-true, ltb-false, leb-true, leb-false, le-leb, lt-le
 use lib.Dec.{ltb, leb, eqb}
 use lib.ListN.{length, getD, take, drop, length-drop}
 use lib.Seq.{length-take-le, take-all}
-use Rattle.hand_record.specs.Record.{headOf, countIn, lengthOf, wrongLength}
-use Rattle.hand_record.specs.laws.Read.{length-right}
-use Rattle.log.specs.Kinds.{kindIn, argumentIn, isBroken, holderIn, feederIn, yakuIn, isOtherForm, lengthBy, entryLength}
+use Rattle.hand_record.specs.Record.{countIn, lengthOf, wrongLength}
+use Rattle.record_lengths.specs.laws.Lengths.{unbroken, record-length}
+use Rattle.log.specs.Kinds.{kindIn, argumentIn, holderIn, feederIn, yakuIn, lengthBy, entryLength}
 use Rattle.log.specs.Log.{firstPart, partAt, refusalAt}
-use Rattle.log.specs.laws.Lengths.{Told, bad, won, fed, plain, told-by, unbroken, feed-form}
+use Rattle.log.specs.laws.Lengths.{Told, bad, won, fed, plain, told-by, feed-form}
 
 -- a stretch from a place on to the end
 pub from-on : (n : ℕ) (s : List ℕ) → take (length s - n) (drop n s) ≡ drop n s
@@ -126,26 +126,6 @@ module _ (log : List ℕ) (at : ℕ) where
       go false e false f = entry (leb-false (length log) at e) (eqb-false (entryLength left) 0 f)
 
 -- ---- the part of a kind
-
--- m stands in the first four bytes
-pub count-take : (s : List ℕ) (n : ℕ) → 4 ≤ n → 4 ≤ length s → countIn (take n s) ≡ countIn s
-unfolding headOf
-count-take [] n h l = absurd (omega arith)
-count-take (a ∷ []) n h l = absurd (omega arith)
-count-take (a ∷ b ∷ []) n h l = absurd (omega arith)
-count-take (a ∷ b ∷ c ∷ []) n h l = absurd (omega arith)
-count-take (a ∷ b ∷ c ∷ d ∷ s) zero h l = absurd (omega arith)
-count-take (a ∷ b ∷ c ∷ d ∷ s) (suc zero) h l = absurd (omega arith)
-count-take (a ∷ b ∷ c ∷ d ∷ s) (suc (suc zero)) h l = absurd (omega arith)
-count-take (a ∷ b ∷ c ∷ d ∷ s) (suc (suc (suc zero))) h l = absurd (omega arith)
-count-take (a ∷ b ∷ c ∷ d ∷ s) (suc (suc (suc (suc n)))) h l = refl
-
--- an unbroken record has the form that Read wants
-pub record-length : (s : List ℕ) → isBroken s ≡ false → wrongLength (length (take (lengthOf (countIn s)) s)) (countIn (take (lengthOf (countIn s)) s)) ≡ false
-record-length s e =
-    let u = unbroken s e in
-    let l = length-take-le (lengthOf (countIn s)) s (u .3) in
-    rw (count-take s (lengthOf (countIn s)) (u .1) (omega arith), l) (length-right (lengthOf (countIn s)) (countIn s) (record { four = u .1; few = u .0; right = refl }))
 
 -- the bytes of a part after its header
 after-header : (s : List ℕ) (n : ℕ) → 0 < length s → drop 1 (take (n + 1) s) ≡ take n (drop 1 s)

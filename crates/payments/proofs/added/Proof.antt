@@ -1,7 +1,7 @@
 -- `payments::added` meets its contract: who pays alone is another seat than the winner.
 use borrow.Author.Needs.{needs}
 use Rattle.hand.specs.Hand.{isRon}
-use Rattle.score.specs.laws.Paid.{other-seat}
+use Rattle.hand_record.specs.laws.Bounds.{other-seat}
 use Rattle.ledger.specs.laws.Fed.{payer-small, payer-other}
 use Rattle.payments.proofs.added.Statement.{statement}
 use Rattle.payments.proofs.added.Tie as tie

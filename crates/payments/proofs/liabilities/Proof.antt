@@ -7,7 +7,7 @@ use borrow.Author.Needs.{needs}
 use lib.Dec.{eqb}
 use lib.IntN.{ℤ, pos, negℤ}
 use Rattle.hand.specs.Hand.{isRon}
-use Rattle.score.specs.laws.Paid.{other-seat}
+use Rattle.hand_record.specs.laws.Bounds.{other-seat}
 use Rattle.ledger.specs.Ledger.{settles, wholeOf, fedPays}
 use Rattle.ledger.specs.laws.Bounds.{mostChange}
 use Rattle.ledger.specs.laws.Sums.{four-within}

@@ -13,7 +13,7 @@ use Rattle.hand.specs.declared.Hand.{Hand}
 use Rattle.hand.specs.Hand.{isRon}
 use Rattle.hand.specs.Refusals.{wrongDiscarder}
 use Rattle.hand_record.specs.Record.{refusalIn, handOf, readOf}
-use Rattle.hand_record.specs.laws.Bounds.{read-bounds}
+use Rattle.hand_record.specs.laws.Bounds.{other-seat, read-bounds}
 use Rattle.reading.specs.declared.Reading.{Reading}
 use Rattle.reading.specs.Order.{Before}
 use Rattle.points.specs.declared.Seats.{Seats}
@@ -39,10 +39,6 @@ by-tsumo false = omega arith
 paid-by : (s : Seats) (ron : Bool) → s .winner ≤ 3 → s .dealer ≤ 3 → s .discarder ≤ 3 → (ron ≡ true → s .winner ≡ s .discarder → ⊥) → 0 < gain s ron 8000
 paid-by s true w d x n = rw (gain-by-ron s 8000 (omega arith) (n refl)) (by-ron (eqb (s .winner) (s .dealer)))
 paid-by s false w d x n = rw (gain-by-tsumo s 8000 (omega arith) (omega arith)) (by-tsumo (eqb (s .winner) (s .dealer)))
-
--- "ron with discarder equal to winner" is refused
-pub other-seat : (f : Fields) → wrongDiscarder f ≡ false → isRon f ≡ true → f .winner ≡ f .discarder → ⊥
-other-seat f o r e = let q : eqb (f .discarder) (f .winner) ≡ false = rw r at o in eqb-false _ _ q (sym e)
 
 -- ---- of a hand
 

@@ -1,11 +1,11 @@
--- `log::record_length` meets its contract, return by return.
+-- `record_lengths::record_length` meets its contract, return by return.
 use mathlib.Core.Path.{_≡_, sym, ap, _∙_}
 use native.Mathlib.Omega.{arith}
 use borrow.Author.Needs.{needs}
 use Rattle.hand_record.specs.Record.{countIn, lengthOf}
-use Rattle.log.specs.laws.Lengths.{record-short, record-over, record-cut, record-whole}
-use Rattle.log.proofs.record_length.Statement.{statement}
-use Rattle.log.proofs.record_length.Tie as tie
+use Rattle.record_lengths.specs.laws.Lengths.{record-short, record-over, record-cut, record-whole}
+use Rattle.record_lengths.proofs.record_length.Statement.{statement}
+use Rattle.record_lengths.proofs.record_length.Tie as tie
 
 returns : tie.Need-returns
 returns c = sym (record-short (c .before .before .args .s .now) (omega arith))

@@ -1,9 +1,9 @@
--- `log::meld_count` meets its contract: bits 22 to 24 are the last two of byte 2 and the first of byte 3.
+-- `record_lengths::meld_count` meets its contract: bits 22 to 24 are the last two of byte 2 and the first of byte 3.
 use native.Mathlib.Omega.{arith}
 use borrow.Author.Needs.{needs}
-use Rattle.log.specs.laws.Lengths.{count-in}
-use Rattle.log.proofs.meld_count.Statement.{statement}
-use Rattle.log.proofs.meld_count.Tie as tie
+use Rattle.record_lengths.specs.laws.Lengths.{count-in}
+use Rattle.record_lengths.proofs.meld_count.Statement.{statement}
+use Rattle.record_lengths.proofs.meld_count.Tie as tie
 
 pub meld-count-spec : {M : Type 1} → statement M
 meld-count-spec =
