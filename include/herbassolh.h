@@ -41,16 +41,19 @@ enum {
                                    200 hands, fewer sticks than declared seats, a score under the floor below, or scores
                                    plus 1,000 times sticks not 120,000)"; "The counter never exceeds the hands finished, and a
                                    game where it does is out of form"; "A game that holds a feeder over 3, or one equal to its
-                                   holder, is out of form"; "The floor of a score becomes" -15,740,000 */
+                                   holder, is out of form"; "the floor of a score becomes" -28,540,000 */
     HB_REFUSAL_DECLARED = 10,   /* "declared already this hand" */
     HB_REFUSAL_RIICHI = 11,     /* "riichi field non-zero and winner not declared, or the reverse" */
     HB_REFUSAL_NOT_READY = 12,  /* "12 is never given now": a name for lines of older logs, "a declared seat not ready" */
     HB_REFUSAL_BUFFER = 13,     /* "buffer shorter than the record" */
-    HB_REFUSAL_ENTRY = 14,      /* "kind over 3, win argument not 0, m over 4, or bytes missing"; kind 5 is an entry too:
-                                   "argument 0, then a byte: holder 2 bits, feeder 2, yaku 1 (0 for 28), three zero bits; any other
-                                   form is 14" */
+    HB_REFUSAL_ENTRY = 14,      /* "kind over 3, win argument not 0, m over 4, or bytes missing"; kind 4 is an entry too: "an
+                                   argument of 0 or over 3, a record with m over 4, or missing bytes, is 14"; and kind 5:
+                                   "argument 0, then a byte: holder 2 bits, feeder 2, yaku 1 (0 for 28), three zero bits; any
+                                   other form is 14" */
     HB_REFUSAL_DISCARD = 15,    /* "a discard over 33" */
     HB_REFUSAL_PAGE = 16,       /* "a page buffer under 150 bytes" */
+    HB_REFUSAL_MANY = 17,       /* "an empty set or one over three"; "a record isn't ron, two have one winner, or they differ in
+                                   discarder, winning tile, indicator or situation" */
     HB_REFUSAL_FEED = 18,       /* "a holder who is also the feeder, a yaku other than those two, or the same holder and yaku named
                                    twice in a hand" */
     HB_REFUSAL_CARDS = 19,      /* "a suit over 2, another size, or a buffer shorter than the whole list" */
@@ -124,10 +127,12 @@ enum { HB_MELD_CHI = 0, HB_MELD_PON = 1, HB_MELD_OPEN_KAN = 2, HB_MELD_CLOSED_KA
 enum { HB_ROUND_EAST = 0, HB_ROUND_SOUTH = 1 };
 
 /* Kinds of a log's entry. */
-enum { HB_KIND_RIICHI = 0, HB_KIND_WIN = 1, HB_KIND_DRAW = 2, HB_KIND_CHOMBO = 3, HB_KIND_FEED = 5 };
+enum { HB_KIND_RIICHI = 0, HB_KIND_WIN = 1, HB_KIND_DRAW = 2, HB_KIND_CHOMBO = 3, HB_KIND_MANY = 4, HB_KIND_FEED = 5 };
 
 /* Letters of a line of tally. */
-enum { HB_LETTER_RIICHI = 'R', HB_LETTER_WIN = 'W', HB_LETTER_DRAW = 'D', HB_LETTER_CHOMBO = 'C', HB_LETTER_FEED = 'P' };
+enum {
+    HB_LETTER_RIICHI = 'R', HB_LETTER_WIN = 'W', HB_LETTER_DRAW = 'D', HB_LETTER_CHOMBO = 'C', HB_LETTER_MANY = 'M', HB_LETTER_FEED = 'P'
+};
 
 /* The length in bytes of a record with m melds, m at most 4: 13, 12, 11, 10, 8. */
 #define HB_RECORD_LENGTH(m) ((103 - 10 * (m) + 7) / 8)
@@ -321,17 +326,26 @@ uint8_t hb_draw(HbGame *game, uint8_t bits);
 /* Chombo of a seat; refusals 8, 9 in order. */
 uint8_t hb_chombo(HbGame *game, uint8_t seat);
 
+/* Many: one to three rons on one tile, "all or none". number: how many records; they "lie end to end": "each but the last as long
+ * as its m says, the last all that is left; what doesn't fit is Read's 1". "Each record is scored as Win does, all against the game
+ * as it was before. Sticks and counters go to the first winner in turn order after the discarder. If the dealer is a winner the deal
+ * stays and the counter rises; otherwise the deal passes and the counter clears." A feeder answers for each record by itself.
+ * Refusals 9, 17, 1 to 5, 17, 6, 7, 11 in order: 17 for the number, then what Read gives of the first unreadable record, then 17 for
+ * records that are no rons on one tile by different winners, then 6, 7 or 11 of the first record that meets one. */
+uint8_t hb_many(HbGame *game, uint8_t number, const uint8_t *records, size_t records_len);
+
 /* Feed: feeder gave holder what makes the yaku, "28 for three dragon triplets, or 29 for four wind triplets". "The booking lapses when
- * the hand is finished"; a win, a draw and a chombo finish it. Refusals 8, 9, 18 in order. */
+ * the hand is finished"; a win, a many, a draw and a chombo finish it. Refusals 8, 9, 18 in order. */
 uint8_t hb_feed(HbGame *game, uint8_t holder, uint8_t feeder, uint8_t yaku);
 
-/* Next entry of a log from an offset. Its part is log[at] to log[at + length - 1], a win's record or a feed's byte what follows the
- * header byte log[at]; the next offset is at + length. From the log's end on: end. Refusal 14 ends the walk. */
+/* Next entry of a log from an offset. Its part is log[at] to log[at + length - 1]; a win's record, the records of a many (argument
+ * says how many) or a feed's byte is what follows the header byte log[at]; the next offset is at + length. From the log's end on:
+ * end. Refusal 14 ends the walk. */
 HbNextEntry hb_next(const uint8_t *log, size_t log_len, size_t at);
 
 /* Books the entry that part begins with, such as log + at with the length that hb_next gave: its booking's refusal and the
  * game updated, or 14 and the game left where part begins with no whole entry. Refusals of an entry: 14; of a riichi 8, 9, 10,
- * a win 9, 2 to 7, 11, a draw 9, a chombo 8, 9, a feed 9, 18, in order. */
+ * a win 9, 2 to 7, 11, a draw 9, a chombo 8, 9, a many 9, 2 to 5, 17, 6, 7, 11, a feed 9, 18, in order. */
 uint8_t hb_book(HbGame *game, const uint8_t *part, size_t part_len);
 
 /* A walk before a log's first entry, with a fresh game. */

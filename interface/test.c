@@ -741,6 +741,19 @@ static uint8_t book_feed(HbGame *game, uint8_t byte)
     return refusal;
 }
 
+/* An entry of one to three rons by their records end to end, booked. */
+static uint8_t book_many(HbGame *game, uint8_t number, const uint8_t *records, size_t length)
+{
+    uint8_t *part = malloc(1 + length);
+    if (!part)
+        exit(2);
+    part[0] = (uint8_t)(0x40 + number);
+    memcpy(part + 1, records, length);
+    uint8_t refusal = hb_book(game, part, 1 + length);
+    free(part);
+    return refusal;
+}
+
 /* Each booking made once on a copy of a game, and each as an entry; whether all give this refusal and leave every byte. */
 static int all_refused(const HbGame *game, uint8_t refusal)
 {
@@ -749,6 +762,8 @@ static int all_refused(const HbGame *game, uint8_t refusal)
     same = same && hb_win(&copy, table[0].record, 13) == refusal && book_win(&copy, table[0].record, 13) == refusal;
     same = same && hb_draw(&copy, 15) == refusal && book_byte(&copy, 0x2f) == refusal;
     same = same && hb_chombo(&copy, 0) == refusal && book_byte(&copy, 0x30) == refusal;
+    same = same && hb_many(&copy, 1, table[0].record, 13) == refusal && book_many(&copy, 1, table[0].record, 13) == refusal;
+    same = same && hb_many(&copy, 0, table[0].record, 13) == refusal && hb_many(&copy, 255, table[0].record, 3) == refusal;
     same = same && hb_feed(&copy, 1, 3, HB_YAKU_DAISANGEN) == refusal && book_feed(&copy, 0x70) == refusal;
     same = same && hb_feed(&copy, 1, 1, 0) == refusal && book_feed(&copy, 0x50) == refusal;
     return same && memcmp(&copy, game, sizeof copy) == 0;
@@ -825,9 +840,9 @@ static void refused_bookings(void)
     CHECK(all_refused(&game, HB_REFUSAL_NOT_OPEN));
     game = fresh, game.sticks = UINT32_MAX;
     CHECK(all_refused(&game, HB_REFUSAL_NOT_OPEN));
-    game = fresh, game.scores[0] = -15740001, game.scores[1] = 15740001 + 60000;
+    game = fresh, game.scores[0] = -28540001, game.scores[1] = 28540001 + 60000;
     CHECK(all_refused(&game, HB_REFUSAL_NOT_OPEN));
-    game = fresh, game.scores[0] = -15740000, game.scores[1] = 15740000 + 60000;
+    game = fresh, game.scores[0] = -28540000, game.scores[1] = 28540000 + 60000;
     CHECK(hb_riichi(&game, 3) == 0);
     game = fresh, game.counter = 1;
     CHECK(all_refused(&game, HB_REFUSAL_NOT_OPEN));
@@ -867,10 +882,12 @@ static void marks(void)
     CHECK(memcmp(game.declared, cleared, sizeof cleared) == 0);
 }
 
+/* Thirteen orphans won by seat 0 from seat 1. */
+static const uint8_t thirteen_orphans[13] = {136, 30, 0, 0, 65, 40, 164, 211, 110, 58, 243, 240, 66};
+
 /* The counter: what a win pays more for it, what each booking leaves of it, and as many as there may be. */
 static void counters(void)
 {
-    static const uint8_t thirteen_orphans[13] = {136, 30, 0, 0, 65, 40, 164, 211, 110, 58, 243, 240, 66}; /* seat 0 from seat 1 */
     static const int32_t by_child[] = {30000, 34100, 30000, 25900};  /* line 1, 2,000, and 300 for each of 7 */
     static const int32_t by_tsumo[] = {28000, 34800, 28600, 28600};  /* line 2: 700, 700 and 1,300, and 100 for each from each */
     static const int32_t by_dealer[] = {35000, 30000, 30000, 25000}; /* line 3, 2,900 */
@@ -1010,6 +1027,195 @@ static void refused_feeds(void)
     CHECK(memcmp(&game, &named, sizeof game) == 0);
 }
 
+/* A record as the ron of a seat from another, put at a place of a set; gives the place behind it. */
+static size_t put_ron(uint8_t *records, size_t at, const uint8_t *record, size_t length, uint8_t winner, uint8_t from)
+{
+    memcpy(records + at, record, length);
+    records[at] = (uint8_t)((record[0] & 7) + 128 + 32 * winner + 8 * from);
+    return at + length;
+}
+
+/* Whether a set is refused so, in a block of its length, with every byte of the game left; as an entry too, where it is one. */
+static int set_refused(const HbGame *game, uint8_t number, const uint8_t *records, size_t length, uint8_t refusal)
+{
+    HbGame copy = *game;
+    uint8_t *own = exact(records, length);
+    int same = hb_many(&copy, number, own, length) == refusal;
+    same = same && (refusal == HB_REFUSAL_LENGTH || number == 0 || number > 3 || book_many(&copy, number, own, length) == refusal);
+    free(own);
+    return same && memcmp(&copy, game, sizeof copy) == 0;
+}
+
+/* Sets of rons of line 1's hand: who is paid what, who takes sticks and counters, and the deal. Each is made in a game with two counters
+ * and a stick of seat 3, as a call and as an entry. */
+static void sets(void)
+{
+    static const struct {
+        uint8_t number, winners[3], from;
+        int32_t scores[4];
+        uint8_t dealer;
+        uint32_t counter;
+    } cases[] = {
+        {1, {1}, 3, {30000, 33600, 30000, 26400}, 1, 0},
+        {1, {0}, 3, {34500, 30000, 30000, 25500}, 0, 3},       /* 2,900 to the dealer, 600 and the stick */
+        {2, {1, 2}, 3, {30000, 33600, 32000, 24400}, 1, 0},    /* after seat 3 comes seat 0, then 1: seat 1 is the first */
+        {2, {2, 1}, 3, {30000, 33600, 32000, 24400}, 1, 0},    /* whatever the order of the records */
+        {2, {2, 1}, 0, {25400, 33600, 32000, 29000}, 1, 0},    /* the dealer pays */
+        {2, {0, 2}, 1, {32900, 24500, 33600, 29000}, 0, 3},    /* seat 2 is the first, the dealer wins: the deal stays */
+        {2, {1, 0}, 2, {34500, 32000, 24500, 29000}, 0, 3},
+        {3, {2, 0, 1}, 3, {34500, 32000, 32000, 21500}, 0, 3}, /* every caller */
+        {3, {0, 1, 2}, 3, {34500, 32000, 32000, 21500}, 0, 3},
+    };
+    uint8_t records[39];
+    HbGame start = hb_fresh(), game, booked;
+    start.hands = 2, start.counter = 2;
+    CHECK(hb_riichi(&start, 3) == 0);
+    for (size_t n = 0; n < COUNT_OF(cases); n++) {
+        size_t length = 0;
+        for (size_t k = 0; k < cases[n].number; k++)
+            length = put_ron(records, length, table[0].record, 13, cases[n].winners[k], cases[n].from);
+        uint8_t *own = exact(records, length);
+        game = start, booked = start;
+        CHECK_CASE(n, hb_many(&game, cases[n].number, own, length) == 0);
+        CHECK_CASE(n, is_game(&game, cases[n].scores, 0, cases[n].dealer, HB_ROUND_EAST, 3) && game.counter == cases[n].counter);
+        CHECK_CASE(n, !game.declared[3] && !game.over);
+        CHECK_CASE(n, book_many(&booked, cases[n].number, own, length) == 0 && memcmp(&booked, &game, sizeof game) == 0);
+        booked = start;
+        CHECK_CASE(n, cases[n].number > 1 || (hb_win(&booked, own, 13) == 0 && memcmp(&booked, &game, sizeof game) == 0));
+        free(own);
+    }
+    /* records of 13 and of 12 bytes, one of a declared winner: line 1 with riichi of seat 1 (h 3, 3,900), line 6 of seat 2 (1,000) */
+    static const int32_t declared[] = {30000, 33900, 31000, 25100};
+    size_t length = put_ron(records, put_ron(records, 0, numbered(6)->record, 12, 2, 3), with_riichi, 13, 1, 3);
+    game = hb_fresh();
+    CHECK(hb_riichi(&game, 1) == 0 && hb_many(&game, 2, records, length) == 0);
+    CHECK(is_game(&game, declared, 0, 1, HB_ROUND_EAST, 1));
+}
+
+/* Second records beside line 1 of seat 1 from seat 3, and the refusal of the two. */
+static const struct {
+    uint8_t refusal, length, record[13];
+} seconds[] = {
+    {HB_REFUSAL_MANY, 13, {0x20, 0x1e, 0x64, 0x02, 0x10, 0x62, 0x0a, 0x31, 0x66, 0x1a, 0x9a, 0x6b, 0xb0}},  /* no ron */
+    {HB_REFUSAL_MANY, 13, {0xb8, 0x1e, 0x64, 0x02, 0x10, 0x62, 0x0a, 0x31, 0x66, 0x1a, 0x9a, 0x6b, 0xb0}},  /* one winner */
+    {HB_REFUSAL_MANY, 13, {0xc0, 0x1e, 0x64, 0x02, 0x10, 0x62, 0x0a, 0x31, 0x66, 0x1a, 0x9a, 0x6b, 0xb0}},  /* from seat 0 */
+    {HB_REFUSAL_MANY, 13, {0xd8, 0x1e, 0x5c, 0x02, 0x10, 0x62, 0x0a, 0x31, 0x66, 0x1a, 0x9a, 0x6c, 0x32}},  /* on 6s */
+    {HB_REFUSAL_MANY, 13, {0xd8, 0x1b, 0x64, 0x02, 0x10, 0x62, 0x0a, 0x31, 0x66, 0x1a, 0x9a, 0x6b, 0xb0}},  /* indicator East */
+    {HB_REFUSAL_MANY, 13, {0xd8, 0xde, 0x64, 0x02, 0x10, 0x62, 0x0a, 0x31, 0x66, 0x1a, 0x9a, 0x6b, 0xb0}},  /* last tile */
+    {HB_REFUSAL_NO_READING, 13, {0xd8, 0x1e, 0x64, 0x00, 0x00, 0x00, 0x06, 0x18, 0xc3, 0x14, 0x51, 0xa6, 0xb2}},
+    {HB_REFUSAL_NO_YAKU, 12, {0xd8, 0x1e, 0x64, 0x80, 0x18, 0x69, 0xc8, 0xa2, 0x9a, 0x8a, 0xb0, 0xd0}},
+    {HB_REFUSAL_RIICHI, 13, {0xda, 0x1e, 0x64, 0x02, 0x10, 0x62, 0x0a, 0x31, 0x66, 0x1a, 0x9a, 0x6b, 0xb0}}, /* riichi, not declared */
+};
+
+/* Refusals of a set in their order: 9, 17 for the number, Read's of the first unreadable record, 17 for what is no set, 6, 7 or 11 of
+ * the first record that meets one. */
+static void refused_sets(void)
+{
+    uint8_t records[3 * 13 + 1];
+    HbGame fresh = hb_fresh(), declared = fresh;
+    size_t both = put_ron(records, put_ron(records, 0, table[0].record, 13, 1, 3), table[0].record, 13, 2, 3), at;
+    for (int number = 0; number < 256; number++)
+        if (number == 0 || number > 3) {
+            CHECK_CASE(number, set_refused(&fresh, (uint8_t)number, records, both, HB_REFUSAL_MANY));
+            CHECK_CASE(number, set_refused(&fresh, (uint8_t)number, records, 0, HB_REFUSAL_MANY));
+        }
+    /* every cut, a record too few or too many, and a byte too many: what does not fit is Read's 1 */
+    for (size_t length = 0; length < both; length++)
+        CHECK_CASE(length, set_refused(&fresh, 2, records, length, HB_REFUSAL_LENGTH));
+    CHECK(set_refused(&fresh, 3, records, both, HB_REFUSAL_LENGTH) && set_refused(&fresh, 1, records, both, HB_REFUSAL_LENGTH));
+    records[both] = 0;
+    CHECK(set_refused(&fresh, 2, records, both + 1, HB_REFUSAL_LENGTH));
+
+    /* each unsound record: last, beside two that have one winner; and, if its length is m's, first and before one with m 5 */
+    for (size_t n = 0; n < COUNT_OF(unsound); n++) {
+        size_t length;
+        uint8_t *record = unsound_record(n, &length);
+        at = put_ron(records, put_ron(records, 0, table[0].record, 13, 1, 3), table[0].record, 13, 1, 3);
+        memcpy(records + at, record, length);
+        CHECK_CASE(n, set_refused(&fresh, 3, records, at + length, unsound[n].refusal));
+        if (unsound[n].refusal != HB_REFUSAL_LENGTH) {
+            HbGame game = fresh;
+            memcpy(records, record, length);
+            at = put_ron(records, length, table[0].record, 13, 1, 3);
+            CHECK_CASE(n, set_refused(&fresh, 2, records, at, unsound[n].refusal));
+            records[length + 2] = 0x66, records[length + 3] = 0x82; /* m 5 */
+            CHECK_CASE(n, hb_many(&game, 2, records, at) == unsound[n].refusal);
+            CHECK_CASE(n, memcmp(&game, &fresh, sizeof game) == 0);
+        }
+        free(record);
+    }
+
+    /* each second record behind line 1 and before it, and with a third of seat 0 that has an undeclared riichi */
+    for (size_t n = 0; n < COUNT_OF(seconds); n++) {
+        uint8_t refusal = seconds[n].refusal;
+        size_t length = seconds[n].length;
+        at = put_ron(records, 0, table[0].record, 13, 1, 3);
+        memcpy(records + at, seconds[n].record, length);
+        CHECK_CASE(n, set_refused(&fresh, 2, records, at + length, refusal));
+        at = put_ron(records, at + length, with_riichi, 13, 0, 3);
+        CHECK_CASE(n, set_refused(&fresh, 3, records, at, refusal));
+        memcpy(records, seconds[n].record, length);
+        at = put_ron(records, length, table[0].record, 13, 1, 3);
+        CHECK_CASE(n, set_refused(&fresh, 2, records, at, refusal));
+        at = put_ron(records, put_ron(records, 0, with_riichi, 13, 0, 3), table[0].record, 13, 1, 3);
+        memcpy(records + at, seconds[n].record, length);
+        CHECK_CASE(n, set_refused(&fresh, 3, records, at + length, refusal == HB_REFUSAL_MANY ? refusal : HB_REFUSAL_RIICHI));
+    }
+    CHECK(set_refused(&fresh, 1, table[1].record, 13, HB_REFUSAL_MANY)); /* a tsumo alone */
+    CHECK(hb_riichi(&declared, 1) == 0);
+    CHECK(set_refused(&declared, 1, table[0].record, 13, HB_REFUSAL_RIICHI)); /* declared, and no riichi in the record */
+    declared.over = 1;
+    CHECK(all_refused(&declared, HB_REFUSAL_NOT_OPEN));
+}
+
+/* Article 67 in a set, for each record by itself: three dragon triplets of a holder on chun, and thirteen orphans on it. Each is made
+ * in a game with two counters and a stick of seat 1. */
+static void fed_sets(void)
+{
+    static const uint8_t orphans[13] = {0x20, 0x16, 0x84, 0x00, 0x41, 0x28, 0xa4, 0xd3, 0x6e, 0x3a, 0xf3, 0xf0, 0x42};
+    static const struct {
+        uint8_t feeds, holder[2], feeder[2], dragons[2]; /* whether seats 0 and 2 win with dragons */
+        int32_t scores[4];
+    } cases[] = {
+        {1, {2}, {0}, {0, 1}, {63600, 29000, 62000, -34600}},          /* the feeder wins too: 48,000, and pays 16,000 */
+        {1, {2}, {3}, {0, 1}, {79600, 29000, 62000, -50600}},          /* the discarder feeds, and pays all */
+        {1, {2}, {1}, {0, 1}, {79600, 13000, 62000, -34600}},          /* a seat that neither wins nor discards */
+        {2, {0, 2}, {1, 1}, {1, 1}, {79600, -11000, 62000, -10600}},   /* one feeder of both */
+        {2, {0, 2}, {2, 0}, {1, 1}, {63600, 29000, 38000, -10600}},    /* each feeds the other */
+        {1, {1}, {2}, {0, 1}, {79600, 29000, 62000, -50600}},          /* a holder who does not win */
+    };
+    static const uint8_t nobody[8] = {0};
+    for (size_t n = 0; n < COUNT_OF(cases); n++) {
+        uint8_t records[26];
+        HbGame game = hb_fresh(), booked;
+        game.hands = 2, game.counter = 2;
+        CHECK_CASE(n, hb_riichi(&game, 1) == 0);
+        for (size_t k = 0; k < cases[n].feeds; k++)
+            CHECK_CASE(n, hb_feed(&game, cases[n].holder[k], cases[n].feeder[k], HB_YAKU_DAISANGEN) == 0);
+        booked = game;
+        put_ron(records, 13, cases[n].dragons[0] ? yakuman[DRAGONS].record : orphans, 13, 0, 3);
+        put_ron(records, 0, cases[n].dragons[1] ? yakuman[DRAGONS].record : orphans, 13, 2, 3);
+        CHECK_CASE(n, hb_many(&game, 2, records, 26) == 0 && is_game(&game, cases[n].scores, 0, 0, HB_ROUND_EAST, 3));
+        CHECK_CASE(n, game.counter == 3 && memcmp(game.feeders, nobody, sizeof nobody) == 0);
+        CHECK_CASE(n, book_many(&booked, 2, records, 26) == 0 && memcmp(&booked, &game, sizeof game) == 0);
+    }
+}
+
+/* The lowest score there is: in each of 200 hands seat 1 declares riichi, and pays 48,000 to the dealer, 32,000 to each other seat and
+ * the counters. Seat 2, the first after it, takes these and the stick. */
+static void lowest_of_all(void)
+{
+    static const int32_t lowest[] = {9630000, -28540000, 12600000, 6430000};
+    uint8_t records[39];
+    size_t length = put_ron(records, 0, thirteen_orphans, 13, 0, 1);
+    length = put_ron(records, put_ron(records, length, thirteen_orphans, 13, 2, 1), thirteen_orphans, 13, 3, 1);
+    HbGame game = hb_fresh();
+    for (int hand = 0; hand < 200; hand++)
+        CHECK_CASE(hand, hb_riichi(&game, 1) == 0 && game.counter == (uint32_t)hand && hb_many(&game, 3, records, length) == 0);
+    CHECK(is_game(&game, lowest, 0, 0, HB_ROUND_EAST, 200) && game.over && game.counter == 200);
+    CHECK(all_refused(&game, HB_REFUSAL_NOT_OPEN));
+}
+
 /* Draws in which declared seats are not ready: a chombo of each. Each is made in a game with an older stick, two counters and the
  * deal of seat 1, as a call and as an entry. */
 static void not_ready(void)
@@ -1102,6 +1308,33 @@ static void entries(void)
         log[0] = (uint8_t)(16 * kind);
         CHECK_CASE(kind, kind == HB_KIND_FEED || no_entry(hb_next(log, 15, 0), HB_REFUSAL_ENTRY));
     }
+    uint8_t set[40] = {0};
+    size_t behind[4] = {1};
+    for (uint8_t n = 1; n <= 3; n++) { /* records of 13, 12 and 13 bytes */
+        const struct line *line = numbered(n == 2 ? 6 : 1);
+        memcpy(set + behind[n - 1], line->record, line->length);
+        behind[n] = behind[n - 1] + line->length;
+        set[0] = (uint8_t)(0x40 + n);
+        CHECK_CASE(n, is_entry(hb_next(set, sizeof set, 0), HB_KIND_MANY, n, HB_LETTER_MANY, behind[n]));
+        for (size_t length = 1; length <= behind[n]; length++) {
+            uint8_t *cut = exact(set, length);
+            CHECK_CASE(length, length == behind[n] ? is_entry(hb_next(cut, length, 0), HB_KIND_MANY, n, HB_LETTER_MANY, length)
+                                                   : no_entry(hb_next(cut, length, 0), HB_REFUSAL_ENTRY));
+            free(cut);
+        }
+        for (uint8_t k = 0; k < n; k++) { /* m 5, 6 and 7 in each record */
+            uint8_t two[] = {set[behind[k] + 2], set[behind[k] + 3]};
+            for (uint8_t m = 5; m < 8; m++) {
+                set[behind[k] + 2] = (uint8_t)((two[0] & 0xfc) | m >> 1), set[behind[k] + 3] = (uint8_t)((two[1] & 0x7f) | (m & 1) << 7);
+                CHECK_CASE(m, no_entry(hb_next(set, sizeof set, 0), HB_REFUSAL_ENTRY));
+            }
+            set[behind[k] + 2] = two[0], set[behind[k] + 3] = two[1];
+        }
+    }
+    for (int argument = 0; argument < 16; argument++) {
+        set[0] = (uint8_t)(0x40 + argument);
+        CHECK_CASE(argument, (argument > 0 && argument < 4) || no_entry(hb_next(set, sizeof set, 0), HB_REFUSAL_ENTRY));
+    }
     for (int byte = 0; byte < 256; byte++) {
         uint8_t feed[] = {0x50, (uint8_t)byte, 0x00}, *alone = exact(feed, 1);
         HbNextEntry entry = hb_next(feed, 3, 0);
@@ -1193,7 +1426,7 @@ static void refused_entries(void)
         memcpy(part, win_entry, 14);
         for (int header = 0x11; header < 256; header++) {
             part[0] = (uint8_t)header;
-            if (header < 0x20 || (header >= 0x40 && header != 0x50))
+            if (header < 0x20 || (header >= 0x40 && header != 0x41 && header != 0x50))
                 CHECK_CASE(header, books_as(part, 14, *each[n], HB_REFUSAL_ENTRY, *each[n]));
         }
         part[0] = 0x10, part[3] = 0x66, part[4] = 0x82; /* m 5 */
@@ -1288,7 +1521,8 @@ static void starts(void)
     CHECK(memcmp(&walk.game, &fresh, sizeof fresh) == 0 && walk.at == 0 && walk.entry == 1);
 }
 
-/* Document 01's log 01 24, one with a win, refused bookings and a bad entry at its end, one with a counter, and one with feeds. */
+/* Document 01's log 01 24, one with a win, refused bookings and a bad entry at its end, one with a counter, one with feeds,
+ * and one with sets of rons. */
 static void logs(void)
 {
     static const int32_t after[] = {29000, 32000, 29000, 29000};
@@ -1307,7 +1541,7 @@ static void logs(void)
 
     uint8_t all[4 * HB_LINE_MAX];
     memcpy(log, win_entry, 14);
-    log[14] = 0x04, log[15] = 0x31, log[16] = 0x40;
+    log[14] = 0x04, log[15] = 0x31, log[16] = 0x40; /* the last a set of no records */
     CHECK(tally(log, 17, HB_LINE_MAX, all) == sizeof more - 1 && memcmp(all, more, sizeof more - 1) == 0);
     CHECK(tally(log, 17, 3 * HB_LINE_MAX, all) == sizeof more - 1 && memcmp(all, more, sizeof more - 1) == 0);
 
@@ -1316,6 +1550,12 @@ static void logs(void)
 
     log[0] = 0x50, log[1] = 0x70, log[2] = 0x10, memcpy(log + 3, yakuman[DRAGONS].record, 13), log[16] = 0x50, log[17] = 0x50;
     CHECK(tally(log, 18, 3 * HB_LINE_MAX, all) == sizeof fed - 1 && memcmp(all, fed, sizeof fed - 1) == 0);
+
+    static const char set[] = "1 D 0 30000 30000 30000 30000 0\n2 M 0 30000 32300 32000 25700 0\n3 M 17 30000 32300 32000 25700 0\n";
+    uint8_t of_sets[42] = {0x2f, 0x42};
+    of_sets[put_ron(of_sets, put_ron(of_sets, 2, table[0].record, 13, 1, 3), table[0].record, 13, 2, 3)] = 0x41;
+    memcpy(of_sets + 29, table[1].record, 13);
+    CHECK(tally(of_sets, 42, 3 * HB_LINE_MAX, all) == sizeof set - 1 && memcmp(all, set, sizeof set - 1) == 0);
 }
 
 /* A log of many entries, to the game's end and past it, and a bad one last. Gives its length. */
@@ -1464,6 +1704,8 @@ static void empty_slices(void)
     CHECK(hb_judge(&byte, 0, &byte, 0, 0, 0).refusal == HB_REFUSAL_LENGTH);
     CHECK(hb_judge(table[0].record, 13, &byte, 0, 0, 0).refusal == HB_REFUSAL_CLAIM);
     CHECK(hb_win(&game, &byte, 0) == HB_REFUSAL_LENGTH && memcmp(&game, &fresh, sizeof game) == 0);
+    CHECK(hb_many(&game, 1, &byte, 0) == HB_REFUSAL_LENGTH && hb_many(&game, 0, &byte, 0) == HB_REFUSAL_MANY);
+    CHECK(memcmp(&game, &fresh, sizeof game) == 0);
     CHECK(no_entry(hb_next(&byte, 0, 0), 0));
     CHECK(hb_book(&game, &byte, 0) == HB_REFUSAL_ENTRY && memcmp(&game, &fresh, sizeof game) == 0);
     HbWalk start = hb_start();
@@ -1493,6 +1735,10 @@ int main(void)
     counters();
     fed_wins();
     refused_feeds();
+    sets();
+    refused_sets();
+    fed_sets();
+    lowest_of_all();
     not_ready();
     ends();
     entries();

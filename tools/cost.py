@@ -1,16 +1,17 @@
 #!/usr/bin/env python3
-"""cost.py [--stack | --waits | --ready | --bookings]: what one Score costs, in instructions (valgrind --tool=callgrind) and in bytes of stack (frames of the compiled program).
+"""cost.py [--stack | --waits | --ready | --bookings]: what one Score costs, in instructions (valgrind --tool=callgrind) and in bytes of stack (frames of the archive).
 
-It runs the program `vectors` (made by `rt check vectors floor`) on hands of crates/vectors/stdin. A figure is that of one entry: reading
+It runs the program `vectors` (made by `rt check vectors`) on hands of crates/vectors/stdin. A figure is that of one entry: reading
 54 bytes, Score, and comparing. Mean: over the first 10,000 entries. Costliest found: the hands are measured in blocks, and those of the
 three costliest blocks one by one, so a costly hand among cheap ones can be missed.
-Stack: Score's own frame is inlined into its caller. The program `floor` has it, with Win, in the frame of its main, so that frame stands
-in for it; under it five frames of the search, the judge, and the largest other frame of the scorer, called there or not.
+Stack: of hb_score, hb_win and hb_many the deepest chain of calls in the archive (`rt staticlib handset`), by their frames; the search recurses
+five deep at most, the settling of records three deep.
 Slip: what hb_slip takes beyond hb_score, by a C program over the archive (`rt staticlib handset`). Bookings: what hb_win takes beyond
-hb_score, of a yakuman that was fed too, and what hb_feed takes, by another, with the copy of the game. Waits: what hb_waits takes, by
-another, over hands drawn from a wall, hands of one suit and hands one tile short of groups, 1,000 each from a fixed seed, and over
-hands of 3 to 5 neighbouring numbers, the widest searches that a climb over hands found. Ready: what hb_ready takes, over 100 of each of
-those sets, and the frame of hb_ready in that program, with the one under it; what the C library takes is left out.
+hb_score, of a yakuman that was fed too, what hb_many of one to three records takes beyond their Scores, and what hb_feed takes, by
+another, with the copy of the game. Waits: what hb_waits takes, by another, over hands drawn from a wall, hands of one suit and hands
+one tile short of groups, 1,000 each from a fixed seed, and over hands of 3 to 5 neighbouring numbers, the widest searches that a climb
+over hands found. Ready: what hb_ready takes, over 100 of each of those sets, and the frame of hb_ready in that program, with the one
+under it; what the C library takes is left out.
 Cards: what hb_cards takes, by another; its stack is read off a stack that was painted before the call, the caller's frame included.
 Judge: hb_judge on claims of the reported readings of those of the first 10,000 hands that score, made by the other scorer (`claims`).
 """
@@ -94,15 +95,20 @@ def slips():
 
 
 BOOKINGS = """#include <stdlib.h>
+#include <string.h>
 #include "herbassolh.h"
 int main(int argc, char **argv) {
-    uint8_t record[13];
-    for (int i = 0; i < 13; i++) { char two[3] = {argv[3][2 * i], argv[3][2 * i + 1]}; record[i] = strtol(two, 0, 16); }
+    uint8_t records[39];
+    int length = strlen(argv[3]) / 2;
+    for (int i = 0; i < length; i++) { char two[3] = {argv[3][2 * i], argv[3][2 * i + 1]}; records[i] = strtol(two, 0, 16); }
     HbGame start = hb_fresh();
     if (argc > 4) hb_feed(&start, 1, 3, 28);
     for (int n = atoi(argv[1]), what = atoi(argv[2]); n > 0; n--) {
         HbGame game = start;
-        if (what == 0 ? hb_score(record, 13, 0, 0).refusal : what == 1 ? hb_win(&game, record, 13) : hb_feed(&game, 2, 3, 29)) return 1;
+        if (what == 0   ? hb_score(records, 13, 0, 0).refusal
+            : what == 1 ? hb_win(&game, records, 13)
+            : what == 2 ? hb_feed(&game, 2, 3, 29)
+                        : hb_many(&game, length / 13, records, length)) return 1;
     }
     return 0;
 }
@@ -110,7 +116,8 @@ int main(int argc, char **argv) {
 
 
 def bookings():
-    """What booking a win takes beyond its Score, for line 1 of the table of hands and for three dragon triplets that were fed; what a feed takes."""
+    """What booking a win takes beyond its Score, for line 1 of the table of hands and for three dragon triplets that were fed; the same of sets of
+    line 1's hand, won by seats 1, 2 and 0; what a feed takes."""
     with tempfile.TemporaryDirectory() as d:
         run = compiled(d, BOOKINGS)
 
@@ -118,6 +125,10 @@ def bookings():
             return (run(1001, what, *words)[0] - run(1, what, *words)[0]) // 1000
         for name, words in (("line 1", ["b81e640210620a31661a9a6bb0"]), ("a yakuman that was fed", ["201684021068a2fbefc10410c2", "fed"])):
             print(f"win of {name}: {each(1, *words) - each(0, *words)} instructions beyond its Score")
+        won = [first + "1e640210620a31661a9a6bb0" for first in ("b8", "d8", "98")]
+        for number in (1, 2, 3):
+            scores = sum(each(0, record) for record in won[:number])
+            print(f"set of {number}: {each(3, ''.join(won[:number])) - scores} instructions beyond its Scores, {scores}")
         print(f"feed: {each(2, '00' * 13)} instructions")
 
 
@@ -200,7 +211,7 @@ def ready():
         base = run([])
         for name, hands in sets.items():
             print(f"ready of 100 hands {name}: mean {(run(hands) - base) // 100} instructions")
-        f = frames(f"{d}/ready")
+        f, _ = frames(f"{d}/ready")
         print(f"stack: ready {f['hb_ready']}, choose under it {f.get('nearest::choose', 0)} bytes")
 
 
@@ -249,30 +260,50 @@ def worst(hands, base, block):
 
 
 def frames(name):
-    """Bytes of stack of each function of a program that has a frame."""
+    """Bytes of stack of each function of a program that has a frame, and what each calls."""
     path = os.path.join(here, "target/bin", name)
     text = subprocess.run(["objdump", "-d", "-C", "--no-show-raw-insn", path], capture_output=True, text=True).stdout
-    sizes, name = {}, None
+    sizes, calls, name = {}, {}, None
     for line in text.splitlines():
         m = re.match(r"[0-9a-f]+ <(.*)>:", line)
         if m:
             name = m.group(1)
-            sizes[name] = 8
+            sizes[name], calls[name] = 8, set()
         elif name and re.search(r"\bpush\b", line):
             sizes[name] += 8
-        else:
+        elif name:
             m = re.search(r"sub\s+\$0x([0-9a-f]+),%rsp", line)
-            if m and name:
+            if m:
                 sizes[name] += int(m.group(1), 16)
-    return sizes
+            m = re.search(r"\bcall\s+[0-9a-f]+ <([^+>]+)>", line)
+            if m:
+                calls[name].add(m.group(1))
+    return sizes, calls
+
+
+STACKS = """#include "herbassolh.h"
+int main(int argc, char **argv) {
+    HbGame game = hb_fresh();
+    return hb_score((uint8_t *)argv[0], argc, 0, 0).refusal + hb_win(&game, (uint8_t *)argv[0], argc) + hb_many(&game, 2, (uint8_t *)argv[0], argc);
+}
+"""
 
 
 def stack():
-    """An upper estimate of the stack that Score takes, by the frames of the compiled code."""
-    f = frames("floor")
-    leaf = max(f[n] for n in f if n.split("::")[0] in ("hand", "hand_record", "groups", "tile_yaku", "yaku", "points", "fu_items", "value", "reading", "reading_steps"))
-    deep = f["main"] + 5 * f["search::split"] + f["best::judge"] + leaf
-    print(f"stack: caller with Score {f['main']}, 5 times split {f['search::split']}, judge {f['best::judge']}, another {leaf}: {deep} bytes")
+    """The stack that Score, Win and Many take, by the frames of the archive: the deepest chain of calls, of those that recurse as often as they can."""
+    most = {"search::split": 5, "sets::settle_all": 3}
+    with tempfile.TemporaryDirectory() as d:
+        compiled(d, STACKS)
+        sizes, calls = frames(f"{d}/program")
+
+    def deepest(name, above):
+        if above.count(name) == most.get(name, 1):
+            return 0, []
+        size, chain = max((deepest(c, above + [name]) for c in calls[name] if c in sizes), default=(0, []))
+        return sizes[name] + size, [name] + chain
+    for call in ("hb_score", "hb_win", "hb_many"):
+        size, chain = deepest(call, [])
+        print(f"stack of {call}: {size} bytes: " + ", ".join(f"{chain.count(n)} times {n} {sizes[n]}" if chain.count(n) > 1 else f"{n} {sizes[n]}" for n in dict.fromkeys(chain)))
 
 
 stack()

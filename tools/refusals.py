@@ -4,7 +4,7 @@
 - the page: each call's row lists the numbers that name it under "given by" ("none" where none does), and the reverse; numbers ascend;
 - include/herbassolh.h: the names and numbers of HB_REFUSAL_*, with the paper's words as comment; each call has a row, and the comment before
   it gives its refusals in the row's order ("refusals 8, 1 to 7 in order"), or none; where the row ends with "then its booking's", those of
-  each booking too, in the order of the booking's row (of a win without 1, which no entry meets);
+  each booking too, in the order of the booking's row (without those that no entry meets: of a win 1, of a many 1 and its first 17, ..);
 - docs/RECORDS.md names the page and has no table of refusals of its own; docs/*.md and README.md name no number that the page lacks;
 - the tester's tool: a Rust function `refusal` that gives words for numbers (N => "words") has those of the column "in the tool";
 - with the papers' files as arguments: each quotation is in one of them, word for word."""
@@ -17,8 +17,8 @@ import tree
 
 PAGE = "docs/REFUSALS.md"
 HEADER = "include/herbassolh.h"
-BOOKINGS = ("Riichi", "Win", "Draw", "Chombo", "Feed")
-LEFT_OUT = [("Win", 1), ("Draw", 8), ("Feed", 8)]  # of an entry's booking
+BOOKINGS = ("Riichi", "Win", "Draw", "Chombo", "Many", "Feed")
+LEFT_OUT = [("Win", 1), ("Draw", 8), ("Many", 1), ("Feed", 8)]  # of an entry's booking
 
 
 def plain(text):
@@ -56,7 +56,8 @@ def check_entry(comment, call, calls):
     said = {kind: numbers(order) for kind, order in re.findall(r"\ban? (\w+):? (\d[\d, to]*)", plain(comment))}
     wanted = {"entry": next(order for name, order, _ in calls.values() if name == call)}
     for booking in BOOKINGS:
-        wanted[booking.lower()] = [n for n in calls[booking][1] if (booking, n) not in LEFT_OUT]
+        order = calls[booking][1]  # the first of a number that is there twice is about an argument that fits in an entry
+        wanted[booking.lower()] = [n for k, n in enumerate(order) if (booking, n) not in LEFT_OUT and n not in order[k + 1:]]
     if said != wanted:
         yield f"{HEADER}: {call} says refusals {said}; by the rows of {PAGE} they are {wanted}"
 

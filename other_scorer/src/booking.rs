@@ -1,4 +1,4 @@
-//! A booking and its log entry (01, The game; Log; 02, S-8).
+//! A booking and its log entry (01, The game; Log; 02, S-6 and S-8).
 
 use crate::fed::WINDS;
 
@@ -9,18 +9,22 @@ pub enum Booking {
     Win(Vec<u8>),
     Draw(u8),
     Chombo(u8),
+    /// So many rons on one tile, their records end to end (02, S-6).
+    Many { number: u8, records: Vec<u8> },
     /// Who fed whom with which yaku (02, S-8).
     Feed { holder: u8, feeder: u8, yaku: u8 },
 }
 
 impl Booking {
-    /// The entry's bytes: header, and the record of a win, or the byte of a feed; an argument that does not fit has no entry (01, Log; 02, S-8).
+    /// The entry's bytes: header, and the record of a win, those of a set, or the byte of a feed; an argument that does not fit has no
+    /// entry (01, Log; 02, S-6 and S-8).
     pub fn bytes(&self) -> Vec<u8> {
         match self {
             Booking::Riichi(seat) => vec![seat & 15],
             Booking::Win(record) => [&[0x10], record.as_slice()].concat(),
             Booking::Draw(bits) => vec![0x20 | bits & 15],
             Booking::Chombo(seat) => vec![0x30 | seat & 15],
+            Booking::Many { number, records } => [&[0x40 | number & 15], records.as_slice()].concat(),
             Booking::Feed { holder, feeder, yaku } => vec![0x50, holder << 6 | (feeder & 3) << 4 | ((*yaku == WINDS) as u8) << 3],
         }
     }

@@ -64,6 +64,25 @@ pub fn themed(rng: &mut Rng) -> Hand {
     }
 }
 
+/// A hand of a random theme as a ron of a seat on the tile that another hand takes (02, S-6).
+pub fn on_tile_of(rng: &mut Rng, model: &Hand, winner: u8, riichi: u8) -> Option<Hand> {
+    taking(Hand { winner, riichi, ..themed(rng) }, model)
+}
+
+/// A hand as a ron on the tile that another takes, with its discarder, indicator and situation; none if it has no such tile, or is
+/// not sound then (02, S-6).
+pub fn taking(mut hand: Hand, model: &Hand) -> Option<Hand> {
+    if hand.winning != model.winning {
+        let held = &mut hand.concealed[..13 - 3 * hand.m as usize];
+        let at = held.iter().position(|&tile| tile == model.winning)?;
+        held[at] = hand.winning;
+        held.sort();
+    }
+    let &Hand { discarder, situation, indicator, winning, .. } = model;
+    let hand = Hand { how: RON, discarder, situation, indicator, winning, ..hand };
+    (refusal(&hand) == 0).then_some(hand)
+}
+
 /// A sound hand that is one tile away from a random theme's plan.
 pub fn near(rng: &mut Rng) -> Hand {
     loop {

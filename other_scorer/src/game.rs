@@ -1,13 +1,14 @@
-//! The game and its five bookings (01, The game; 02, S-5, S-7 and S-8).
+//! The game and its six bookings (01, The game; 02, S-5 to S-8).
 
 use crate::booking::Booking;
-use crate::codec::read;
+use crate::codec::{pack, read};
 use crate::fed::{self, DRAGONS, WINDS};
 use crate::record::{Hand, RON};
 use crate::score::{score, Scored};
+use crate::set;
 
-/// No score of an open game is under this (02, S-5).
-pub const FLOOR: i32 = -15_740_000;
+/// No score of an open game is under this (02, S-6).
+pub const FLOOR: i32 = -28_540_000;
 
 /// The game is over at so many finished hands (01, The game).
 pub const LAST_HAND: u8 = 200;
@@ -61,7 +62,7 @@ impl Game {
             self.scores.iter().any(|&score| score < FLOOR),
             self.total() != TOTAL,
             self.counter > self.hands as u32,
-            (0..4).any(|holder| [DRAGONS, WINDS].iter().any(|&yaku| self.feeder(holder, yaku).is_some_and(|seat| seat > 3 || seat == holder))),
+            (0..8).any(|place| self.feeder(place % 4, DRAGONS + place / 4).is_some_and(|seat| seat > 3 || seat == place % 4)),
         ]
     }
 
@@ -70,7 +71,7 @@ impl Game {
         !self.over && self.hands != LAST_HAND && !self.form_faults().contains(&true)
     }
 
-    /// Gives a seat points, or takes them; in an open game sums stay under 70 million.
+    /// Gives a seat points, or takes them; in an open game sums stay under 115 million.
     fn pay(&mut self, seat: usize, points: i64) {
         let score = self.scores[seat] as i64 + points;
         self.scores[seat] = i32::try_from(score).expect("points of an open game");
@@ -154,9 +155,9 @@ pub fn liable(game: &Game, hand: &Hand) -> Option<u8> {
 
 /// What each payer pays for a win: Score's payments, and for the counters 300 by ron or 100 each on tsumo; of a win that was fed
 /// the feeder all on tsumo, and half by ron, the discarder half and the counters (01, Win; 02, S-5 and S-8).
-fn payments(game: &Game, hand: &Hand, scored: &Scored) -> Vec<(u8, i64)> {
+fn payments(game: &Game, hand: &Hand, scored: &Scored, counter: u32) -> Vec<(u8, i64)> {
     let gain = scored.changes[hand.winner as usize] as i64;
-    let counter = game.counter as i64;
+    let counter = counter as i64;
     match (hand.how == RON, liable(game, hand)) {
         (true, None) => vec![(hand.discarder, gain + 300 * counter)],
         (true, Some(feeder)) => vec![(feeder, gain / 2), (hand.discarder, gain / 2 + 300 * counter)],
@@ -168,32 +169,63 @@ fn payments(game: &Game, hand: &Hand, scored: &Scored) -> Vec<(u8, i64)> {
     }
 }
 
+/// The score of a hand as a win in the game; the error is refusal 6, 7 or 11 (01, Win).
+fn scored(game: &Game, hand: &Hand) -> Result<Scored, u8> {
+    let scored = score(&pack(hand), game.dealer, game.wind);
+    match scored.refusal {
+        0 if (hand.riichi != 0) != game.declared[hand.winner as usize] => Err(11),
+        0 => Ok(scored),
+        number => Err(number),
+    }
+}
+
+/// Books wins of hands on one tile, the sticks and counters for one of the winners; gives the first refusal, 0 if accepted (01, Win;
+/// 02, S-5, S-6 and S-8).
+fn wins(game: &mut Game, hands: &[Hand], first: u8) -> u8 {
+    let mut paid = Vec::new();
+    for hand in hands {
+        let counter = if hand.winner == first { game.counter } else { 0 };
+        match scored(game, hand) {
+            Ok(scored) => paid.extend(payments(game, hand, &scored, counter).into_iter().map(|(payer, points)| (payer, hand.winner, points))),
+            Err(number) => return number,
+        }
+    }
+    for (payer, winner, points) in paid {
+        game.pay(payer as usize, -points);
+        game.pay(winner as usize, points);
+    }
+    game.pay(first as usize, STICK * game.sticks as i64);
+    game.sticks = 0;
+    let stays = hands.iter().any(|hand| hand.winner == game.dealer);
+    game.counter = if stays { game.counter + 1 } else { 0 };
+    game.finish(!stays);
+    0
+}
+
 /// Books a win; gives the refusal, 0 if accepted (01, Win; 02, S-5 and S-8).
 pub fn win(game: &mut Game, record: &[u8]) -> u8 {
     if !game.is_open() {
         return 9;
     }
-    let hand = match read(record) {
-        Ok(hand) => hand,
-        Err(number) => return number,
-    };
-    let scored = score(record, game.dealer, game.wind);
-    if scored.refusal != 0 {
-        return scored.refusal;
+    match read(record) {
+        Ok(hand) => wins(game, &[hand], hand.winner),
+        Err(number) => number,
     }
-    let winner = hand.winner as usize;
-    if (hand.riichi != 0) != game.declared[winner] {
-        return 11;
+}
+
+/// Books one to three rons on one tile, all or none; gives the refusal, 0 if accepted (02, S-6).
+pub fn many(game: &mut Game, number: u8, records: &[u8]) -> u8 {
+    if !game.is_open() {
+        return 9;
     }
-    for (payer, points) in payments(game, &hand, &scored) {
-        game.pay(payer as usize, -points);
-        game.pay(winner, points);
+    if number == 0 || number > 3 {
+        return 17;
     }
-    game.pay(winner, STICK * game.sticks as i64);
-    game.sticks = 0;
-    game.counter = if hand.winner == game.dealer { game.counter + 1 } else { 0 };
-    game.finish(hand.winner != game.dealer);
-    0
+    match set::hands(number, records) {
+        Err(number) => number,
+        Ok(hands) if set::faults(&hands).contains(&true) => 17,
+        Ok(hands) => wins(game, &hands, set::first_winner(&hands)),
+    }
 }
 
 /// Books a draw, or a chombo of the declared seats that are not ready; gives the refusal, 0 if accepted (01, Draw; 02, S-7).
@@ -250,13 +282,14 @@ pub fn feed(game: &mut Game, holder: u8, feeder: u8, yaku: u8) -> u8 {
     0
 }
 
-/// Books any of the five (01, The game; 02, S-8).
+/// Books any of the six (01, The game; 02, S-6 and S-8).
 pub fn book(game: &mut Game, booking: &Booking) -> u8 {
     match booking {
         Booking::Riichi(seat) => riichi(game, *seat),
         Booking::Win(record) => win(game, record),
         Booking::Draw(bits) => draw(game, *bits),
         Booking::Chombo(seat) => chombo(game, *seat),
+        Booking::Many { number, records } => many(game, *number, records),
         Booking::Feed { holder, feeder, yaku } => feed(game, *holder, *feeder, *yaku),
     }
 }

@@ -1,9 +1,9 @@
-//! The ledger: a second bookkeeping, from the bookings' arguments alone (01, Ledger; 02, S-5, S-7 and S-8).
+//! The ledger: a second bookkeeping, from the bookings' arguments alone (01, Ledger; 02, S-5 to S-8).
 //! It shares only the scoring of a win with the game.
 
 use std::collections::{BTreeMap, BTreeSet};
 
-use crate::booking::Booking::{self, Chombo, Draw, Feed, Riichi, Win};
+use crate::booking::Booking::{self, Chombo, Draw, Feed, Many, Riichi, Win};
 use crate::codec::read;
 use crate::fed;
 use crate::score::score;
@@ -43,6 +43,45 @@ fn has_riichi(record: &[u8]) -> bool {
     record[0] % 8 / 2 != 0
 }
 
+/// The situation, indicator and winning tile of a record: its bits 7 to 21 as one number (01, Tiles and the hand record).
+fn taken(record: &[u8]) -> u32 {
+    let bits = record[..3].iter().fold(0, |bits, &byte| bits << 8 | byte as u32);
+    bits >> 2 & 0x7FFF
+}
+
+/// The records of a set: m is the number of a record's bits 22 to 24, and says how many bytes are its own; the last has all that
+/// is left, and one that does not fit is the last, which Read refuses (02, S-6).
+fn records(number: u8, bytes: &[u8]) -> Vec<&[u8]> {
+    let m = bytes.get(2..4).map(|two| two[0] as usize % 4 * 2 + two[1] as usize / 128);
+    match m.and_then(|m| [13, 12, 11, 10, 8].get(m)) {
+        Some(&own) if number > 1 && own <= bytes.len() => {
+            let (first, rest) = bytes.split_at(own);
+            [vec![first], records(number - 1, rest)].concat()
+        }
+        _ => vec![bytes],
+    }
+}
+
+/// Whether records that read make no set of rons on one tile by winners of their own (02, S-6).
+fn is_unfit(records: &[&[u8]]) -> bool {
+    let winners: BTreeSet<u8> = records.iter().map(|record| winner(record)).collect();
+    let tiles: BTreeSet<(Option<u8>, u32)> = records.iter().map(|record| (discarder(record), taken(record))).collect();
+    records.iter().any(|record| discarder(record).is_none()) || winners.len() < records.len() || tiles.len() > 1
+}
+
+/// The winners of a win or a set, in turn order after its discarder, if there is one (01, Ledger; 02, S-6).
+fn winners(booking: &Booking) -> Vec<u8> {
+    match booking {
+        Win(record) => vec![winner(record)],
+        Many { number, records: bytes } => {
+            let all = records(*number, bytes);
+            let turns = discarder(all[0]).into_iter().flat_map(|from| (1..4).map(move |step| (from + step) % 4));
+            turns.filter(|seat| all.iter().any(|record| winner(record) == *seat)).collect()
+        }
+        _ => vec![],
+    }
+}
+
 impl Ledger {
     /// The ledger before any booking (01, Ledger).
     pub fn fresh() -> Ledger {
@@ -58,7 +97,7 @@ impl Ledger {
             && self.declared.len() as i64 <= self.sticks
             && self.counter <= self.hands as i64
             && self.fed.iter().all(|((holder, _), feeder)| *feeder <= 3 && feeder != holder)
-            && self.scores.iter().all(|&score| -15_740_000 <= score)
+            && self.scores.iter().all(|&score| -28_540_000 <= score)
             && self.scores.iter().sum::<i64>() + 1000 * self.sticks == 120_000;
         self.over || self.hands == 200 || !in_form
     }
@@ -68,7 +107,18 @@ impl Ledger {
         let closed = self.is_closed();
         let met = match booking {
             Riichi(seat) => vec![(8, *seat > 3), (9, closed), (10, self.declared.contains(seat))],
-            Win(_) if closed => vec![(9, true)],
+            Win(_) | Many { .. } if closed => vec![(9, true)],
+            Many { number: 0 | 4.., .. } => vec![(17, true)],
+            Many { number, records: bytes } => {
+                let all = records(*number, bytes);
+                let unread = all.iter().find_map(|record| read(record).err());
+                let won = || all.iter().find_map(|record| Some(self.refusal(&Win(record.to_vec()))).filter(|&number| number > 0));
+                vec![match unread {
+                    Some(number) => (number, true),
+                    None if is_unfit(&all) => (17, true),
+                    None => (won().unwrap_or(0), true),
+                }]
+            }
             Win(record) => match score(record, self.dealer, self.wind).refusal {
                 0 => vec![(11, has_riichi(record) != self.declared.contains(&winner(record)))],
                 number => vec![(number, true)],
@@ -119,7 +169,7 @@ impl Ledger {
         match booking {
             Chombo(seat) => BTreeSet::from([*seat]),
             Draw(bits) => &self.declared - &ready(*bits),
-            Riichi(_) | Win(_) | Feed { .. } => BTreeSet::new(),
+            Riichi(_) | Win(_) | Many { .. } | Feed { .. } => BTreeSet::new(),
         }
     }
 
@@ -129,7 +179,7 @@ impl Ledger {
         3000 * faulty.len() as i64 - 12_000 * faulty.contains(&seat) as i64 + back
     }
 
-    /// What an accepted booking gives or costs a seat (01, Ledger; 02, S-5, S-7 and S-8).
+    /// What an accepted booking gives or costs a seat (01, Ledger; 02, S-5 to S-8).
     fn moved(&self, booking: &Booking, seat: u8) -> i64 {
         let faulty = self.faulty(booking);
         match booking {
@@ -137,6 +187,15 @@ impl Ledger {
             Riichi(_) | Feed { .. } => 0,
             Win(record) if winner(record) == seat => self.paid(record, seat) + 1000 * self.sticks,
             Win(record) => self.paid(record, seat),
+            Many { number, records: bytes } => {
+                let (winners, bare) = (winners(booking), Ledger { counter: 0, sticks: 0, ..self.clone() });
+                let all = records(*number, bytes);
+                let each = all.into_iter().map(|record| {
+                    let kept = if winner(record) == winners[0] { self } else { &bare };
+                    kept.moved(&Win(record.to_vec()), seat)
+                });
+                each.sum()
+            }
             Draw(bits) if faulty.is_empty() => {
                 let ready = ready(*bits);
                 match ready.len() as i64 {
@@ -153,27 +212,27 @@ impl Ledger {
     fn left(&self, booking: &Booking) -> i64 {
         match booking {
             Riichi(_) => self.sticks + 1,
-            Win(_) => 0,
+            Win(_) | Many { .. } => 0,
             Feed { .. } => self.sticks,
             Draw(_) if self.faulty(booking).is_empty() => self.sticks,
             Draw(_) | Chombo(_) => self.sticks - self.declared.len() as i64,
         }
     }
 
-    /// The counter that an accepted booking leaves (02, S-5 and S-7).
+    /// The counter that an accepted booking leaves (02, S-5 to S-7).
     fn counted(&self, booking: &Booking) -> i64 {
         match booking {
-            Win(record) if winner(record) != self.dealer => 0,
-            Win(_) => self.counter + 1,
+            Win(_) | Many { .. } if winners(booking).contains(&self.dealer) => self.counter + 1,
+            Win(_) | Many { .. } => 0,
             Draw(_) if self.faulty(booking).is_empty() => self.counter + 1,
             Riichi(_) | Draw(_) | Chombo(_) | Feed { .. } => self.counter,
         }
     }
 
-    /// Whether an accepted booking passes the deal (01, The game; 02, S-7).
+    /// Whether an accepted booking passes the deal (01, The game; 02, S-6 and S-7).
     fn passes(&self, booking: &Booking) -> bool {
         match booking {
-            Win(record) => winner(record) != self.dealer,
+            Win(_) | Many { .. } => !winners(booking).contains(&self.dealer),
             Draw(bits) if self.faulty(booking).is_empty() => !ready(*bits).contains(&self.dealer),
             Riichi(_) | Draw(_) | Chombo(_) | Feed { .. } => false,
         }

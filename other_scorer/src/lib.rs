@@ -26,6 +26,7 @@ pub mod fed;
 pub mod game;
 pub mod ledger;
 pub mod log;
+pub mod set;
 
 pub mod cover;
 pub mod damage;

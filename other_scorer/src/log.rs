@@ -1,4 +1,4 @@
-//! Walking a log, and the lines of program tally (01, Log; 02, S-8).
+//! Walking a log, and the lines of program tally (01, Log; 02, S-6 and S-8).
 
 use crate::booking::Booking;
 use crate::codec::{length, meld_count};
@@ -9,6 +9,7 @@ pub const RIICHI: u8 = 0;
 pub const WIN: u8 = 1;
 pub const DRAW: u8 = 2;
 pub const CHOMBO: u8 = 3;
+pub const MANY: u8 = 4;
 pub const FEED: u8 = 5;
 
 /// Program tally reads no bytes past this (01, Log).
@@ -22,19 +23,39 @@ pub enum Next<'a> {
     Bad(u8),
 }
 
-/// The ways to meet refusal 14 in words, by the number that `size` gives (01, Next entry; 02, S-8).
-pub const ENTRY_FAULTS: [&str; 6] =
-    ["no such kind", "win argument not 0", "m over 4", "bytes missing", "feed argument not 0", "a zero bit of a feed set"];
+/// The ways to meet refusal 14 in words, by the number that `size` gives (01, Next entry; 02, S-6 and S-8).
+pub const ENTRY_FAULTS: [&str; 7] = [
+    "kind over 5",
+    "win argument not 0",
+    "m over 4",
+    "bytes missing",
+    "feed argument not 0",
+    "a zero bit of a feed set",
+    "no records or over three",
+];
 
-/// The length of the entry that a non-empty stretch starts with; the error is how it is bad (01, Next entry; 02, S-8).
+/// The length of the record that a stretch starts with; the error is how it is bad (01, Next entry).
+fn record_size(rest: &[u8]) -> Result<usize, usize> {
+    match meld_count(rest.get(..4).ok_or(3usize)?) {
+        5.. => Err(2),
+        m => Ok(length(m)),
+    }
+}
+
+/// The length of the entry that a non-empty stretch starts with; the error is how it is bad (01, Next entry; 02, S-6 and S-8).
 pub fn size(rest: &[u8]) -> Result<usize, usize> {
     let size = match (rest[0] >> 4, rest[0] & 15) {
         (RIICHI | DRAW | CHOMBO, _) => 1,
-        (WIN, 0) => match meld_count(rest.get(1..5).ok_or(3usize)?) {
-            5.. => return Err(2),
-            m => 1 + length(m),
-        },
+        (WIN, 0) => 1 + record_size(&rest[1..])?,
         (WIN, _) => return Err(1),
+        (MANY, 1..=3) => {
+            let mut at = 1;
+            for _ in 0..rest[0] & 15 {
+                at += record_size(rest.get(at..).unwrap_or_default())?;
+            }
+            at
+        }
+        (MANY, _) => return Err(6),
         (FEED, 0) => match rest.get(1).ok_or(3usize)? % 8 {
             0 => 2,
             _ => return Err(5),
@@ -57,12 +78,13 @@ pub fn next(log: &[u8], offset: usize) -> Next<'_> {
     }
 }
 
-/// The booking of an entry; a win's record, or a feed's byte, follows the header (01, Log; 02, S-8).
+/// The booking of an entry; a win's record, those of a set, or a feed's byte follow the header (01, Log; 02, S-6 and S-8).
 pub fn booking(kind: u8, argument: u8, part: &[u8]) -> Booking {
     match kind {
         RIICHI => Booking::Riichi(argument),
         WIN => Booking::Win(part[1..].to_vec()),
         DRAW => Booking::Draw(argument),
+        MANY => Booking::Many { number: argument, records: part[1..].to_vec() },
         FEED => {
             let (seats, yaku) = (part[1] / 16, if part[1] % 16 / 8 == 0 { DRAGONS } else { WINDS });
             Booking::Feed { holder: seats / 4, feeder: seats % 4, yaku }
@@ -87,13 +109,14 @@ pub fn bookings(log: &[u8]) -> (Vec<Booking>, u8) {
     }
 }
 
-/// The letter of a booking (01, Log; 02, S-8).
+/// The letter of a booking (01, Log; 02, S-6 and S-8).
 pub fn letter(booking: &Booking) -> char {
     match booking {
         Booking::Riichi(_) => 'R',
         Booking::Win(_) => 'W',
         Booking::Draw(_) => 'D',
         Booking::Chombo(_) => 'C',
+        Booking::Many { .. } => 'M',
         Booking::Feed { .. } => 'P',
     }
 }

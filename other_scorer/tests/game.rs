@@ -1,8 +1,8 @@
-//! The five bookings: refusals in their order, points, deal, wind and mark (01, The game), the counter (02, S-5), seats that are not
-//! ready (02, S-7) and feeders (02, S-8).
+//! The six bookings: refusals in their order, points, deal, wind and mark (01, The game), the counter (02, S-5), sets of
+//! rons (02, S-6), seats that are not ready (02, S-7) and feeders (02, S-8).
 
 use other_scorer::codec::pack;
-use other_scorer::game::{book, chombo, draw, feed, riichi, win, FLOOR};
+use other_scorer::game::{book, chombo, draw, feed, many, riichi, win, FLOOR};
 use other_scorer::notation::parse;
 use other_scorer::{Booking, Game};
 
@@ -56,7 +56,7 @@ fn not_open() -> Vec<Game> {
         Game { hands: 255, ..fresh },
         Game { declared: [true, false, false, false], ..fresh },
         Game { declared: [true; 4], sticks: 3, scores: [27_000, 30_000, 30_000, 30_000], ..fresh },
-        Game { scores: [FLOOR - 1, 15_830_001, 30_000, 0], ..fresh },
+        Game { scores: [FLOOR - 1, 28_630_001, 30_000, 0], ..fresh },
         Game { counter: 1, ..fresh },
         Game { counter: 200, hands: 199, ..fresh },
         Game { counter: u32::MAX, hands: 199, ..fresh },
@@ -76,10 +76,10 @@ fn not_open() -> Vec<Game> {
 fn fresh_is_open_and_the_floor_itself_is_in_form() {
     let fresh = Game::fresh();
     assert!(fresh.is_open());
-    assert!(Game { scores: [FLOOR, 15_830_000, 30_000, 0], ..fresh }.is_open());
+    assert!(Game { scores: [FLOOR, 28_630_000, 30_000, 0], ..fresh }.is_open());
     assert!(Game { counter: 199, hands: 199, ..fresh }.is_open());
     assert!(Game { hands: 199, dealer: 3, wind: 1, ..fresh }.is_open());
-    let most = Game { scores: [FLOOR; 4], sticks: 63_080, declared: [true; 4], ..fresh };
+    let most = Game { scores: [FLOOR; 4], sticks: 114_280, declared: [true; 4], ..fresh };
     assert!(most.is_open());
     assert!(not_open().iter().all(|game| !game.is_open()));
 }
@@ -269,14 +269,14 @@ fn sticks_left_at_the_end_stay() {
 
 #[test]
 fn a_game_may_be_at_the_ends_of_its_range() {
-    let most = Game { scores: [FLOOR; 4], sticks: 63_080, ..Game::fresh() };
+    let most = Game { scores: [FLOOR; 4], sticks: 114_280, ..Game::fresh() };
     let mut game = most;
     assert_eq!(win(&mut game, &pinfu(1, 3, &[])), 0);
-    assert_eq!(game.scores, [FLOOR, FLOOR + 63_080_000 + 2000, FLOOR, FLOOR - 2000]);
+    assert_eq!(game.scores, [FLOOR, FLOOR + 114_280_000 + 2000, FLOOR, FLOOR - 2000]);
     assert_eq!(riichi(&mut game, 1), 9);
     let mut game = most;
     assert_eq!(riichi(&mut game, 0), 0);
-    assert_eq!((game.scores[0], game.sticks, game.is_open()), (FLOOR - 1000, 63_081, false));
+    assert_eq!((game.scores[0], game.sticks, game.is_open()), (FLOOR - 1000, 114_281, false));
 }
 
 #[test]
@@ -428,4 +428,167 @@ fn feeders_lapse_at_each_end_of_a_hand() {
     let mut game = after(&[fed(0, 1, 29), fed(0, 2, 28)]);
     assert_eq!((book(&mut game, &yakuman(WINDS, 0, None)), game.feeders), (0, [0; 8]));
     assert_eq!(number(&game, fed(0, 1, 29)), 0);
+}
+
+/// A set of records.
+fn set(records: &[Vec<u8>]) -> Booking {
+    Booking::Many { number: records.len() as u8, records: records.concat() }
+}
+
+/// The first hand of the table, won by some seats from another.
+fn pinfus(seats: &[u8], from: u8) -> Vec<Vec<u8>> {
+    seats.iter().map(|&seat| pinfu(seat, from, &[])).collect()
+}
+
+#[test]
+fn each_winner_of_a_set_is_paid_and_the_first_takes_sticks_and_counters() {
+    // Two counters and a stick of seat 3.
+    let start = Game { counter: 2, hands: 2, ..after(&[Booking::Riichi(3)]) };
+    assert_eq!(start.scores, [30_000, 30_000, 30_000, 29_000]);
+    for (seats, from, scores, dealer, counter) in [
+        (&[1][..], 3, [30_000, 33_600, 30_000, 26_400], 1, 0),
+        (&[0], 3, [34_500, 30_000, 30_000, 25_500], 0, 3),
+        (&[1, 2], 3, [30_000, 33_600, 32_000, 24_400], 1, 0),
+        (&[2, 1], 3, [30_000, 33_600, 32_000, 24_400], 1, 0),
+        (&[2, 1], 0, [25_400, 33_600, 32_000, 29_000], 1, 0),
+        (&[0, 2], 1, [32_900, 24_500, 33_600, 29_000], 0, 3),
+        (&[1, 0], 2, [34_500, 32_000, 24_500, 29_000], 0, 3),
+        (&[2, 0, 1], 3, [34_500, 32_000, 32_000, 21_500], 0, 3),
+        (&[0, 1, 2], 3, [34_500, 32_000, 32_000, 21_500], 0, 3),
+    ] {
+        let mut game = start;
+        assert_eq!(book(&mut game, &set(&pinfus(seats, from))), 0);
+        assert_eq!((game.scores, game.sticks, game.declared), (scores, 0, [false; 4]), "{seats:?} from {from}");
+        assert_eq!((game.dealer, game.counter, game.hands, game.over), (dealer, counter, 3, false));
+    }
+    // A set of one ron is its win.
+    for (seat, from) in [(0, 1), (1, 0), (2, 3), (3, 2)] {
+        let (mut one, mut other) = (start, start);
+        let riichi: &[&str] = if seat == 3 { &["riichi"] } else { &[] };
+        let record = pinfu(seat, from, riichi);
+        assert_eq!((many(&mut one, 1, &record), win(&mut other, &record), one), (0, 0, other));
+    }
+}
+
+#[test]
+fn the_200th_hand_may_be_a_set() {
+    for (dealer, seats, next) in [(3, &[0, 1][..], 3), (3, &[3, 1], 3), (1, &[0, 3], 2), (1, &[1, 3], 1)] {
+        let mut game = Game { dealer, wind: 1, hands: 199, counter: 4, ..Game::fresh() };
+        assert_eq!(book(&mut game, &set(&pinfus(seats, 2))), 0);
+        let stays = seats.contains(&dealer);
+        assert_eq!((game.over, game.hands, game.dealer, game.counter), (true, 200, next, if stays { 5 } else { 0 }));
+    }
+}
+
+#[test]
+fn a_set_refuses_9_17_then_read_then_17_then_6_7_11() {
+    let sound = pinfus(&[1, 2], 3);
+    for game in not_open() {
+        for number in [0, 1, 2, 3, 4, 255] {
+            assert_eq!(number_of(&game, number, &sound.concat()), 9);
+            assert_eq!(number_of(&game, number, &[]), 9);
+        }
+    }
+    let open = Game::fresh();
+    for number in [0].into_iter().chain(4..=255) {
+        assert_eq!(number_of(&open, number, &sound.concat()), 17);
+        assert_eq!(number_of(&open, number, &[]), 17);
+    }
+    // Each unsound record, first, second and third, whatever the others lack; the first one's refusal is given.
+    let tsumo = record(&["234567m345p67s22s+8s", "seat=1", "tsumo"]);
+    for (at, unsound) in refused().into_iter().enumerate().take(5) {
+        let refusal = at as u8 + 1;
+        // The record that is cut takes a byte of the next one, which is cut then.
+        for rest in [vec![tsumo.clone()], vec![sound[0].clone(), sound[0].clone()], vec![record(&["456p78s234s99p+9s", "chi=123m", "seat=1", "ron=3"])]] {
+            for place in 0..=rest.len() {
+                let mut list = rest.clone();
+                list.insert(place, unsound.clone());
+                if refusal != 1 || place == rest.len() {
+                    assert_eq!(number(&open, set(&list)), refusal, "record {place} of {}", list.len());
+                }
+            }
+        }
+        for (later, other) in refused().into_iter().enumerate().take(5) {
+            if refusal > 1 {
+                assert_eq!(number(&open, set(&[sound[0].clone(), unsound.clone(), other])), refusal, "before {}", later + 1);
+            }
+        }
+    }
+    // The last has all that is left; a record that is missing is 1.
+    assert_eq!(number_of(&open, 2, &sound[0]), 1);
+    assert_eq!(number_of(&open, 1, &sound.concat()), 1);
+    assert_eq!(number_of(&open, 3, &sound.concat()), 1);
+    assert_eq!(number_of(&open, 1, &[]), 1);
+    assert_eq!(number_of(&open, 2, &[sound.concat(), vec![0]].concat()), 1);
+    for length in 0..26 {
+        assert_eq!(number_of(&open, 2, &sound.concat()[..length]), 1, "{length} bytes");
+    }
+    assert_eq!(number_of(&open, 2, &sound.concat()), 0);
+}
+
+/// The refusal of so many records.
+fn number_of(game: &Game, number_of_records: u8, records: &[u8]) -> u8 {
+    number(game, Booking::Many { number: number_of_records, records: records.to_vec() })
+}
+
+#[test]
+fn a_set_refuses_17_before_6_7_and_11() {
+    let open = Game::fresh();
+    let one = pinfu(1, 3, &[]);
+    let other = |words: &[&str]| record(words);
+    let unfit = [
+        pinfu(1, 3, &[]),
+        pinfu(2, 0, &[]),
+        other(&["234567m345p67s22s+8s", "seat=2", "tsumo"]),
+        other(&["234567m345p78s22s+6s", "seat=2", "ron=3"]),
+        pinfu(2, 3, &["indicator=E"]),
+        pinfu(2, 3, &["last"]),
+    ];
+    let no_reading = other(&["1111m44m77m22p55p8s+8s", "seat=2", "ron=3"]);
+    let no_yaku = other(&["456p79s234s99p+8s", "chi=123m", "seat=2", "ron=3"]);
+    let undeclared = pinfu(2, 3, &["riichi"]);
+    for second in &unfit {
+        assert_eq!(number(&open, set(&[one.clone(), second.clone()])), 17);
+        assert_eq!(number(&open, set(&[second.clone(), one.clone()])), 17);
+        for third in [&no_reading, &no_yaku, &undeclared] {
+            assert_eq!(number(&open, set(&[one.clone(), second.clone(), third.clone()])), 17);
+        }
+    }
+    assert_eq!(number(&open, set(&[other(&["234567m345p67s22s+8s", "seat=1", "tsumo"])])), 17);
+    for (record, refusal) in [(&no_reading, 6), (&no_yaku, 7), (&undeclared, 11)] {
+        assert_eq!(number(&open, set(std::slice::from_ref(record))), refusal);
+        assert_eq!(number(&open, set(&[record.clone(), one.clone()])), refusal);
+        assert_eq!(number(&open, set(&[one.clone(), record.clone()])), refusal);
+        assert_eq!(number(&open, set(&[one.clone(), record.clone(), pinfu(0, 3, &["riichi"])])), refusal);
+        assert_eq!(number(&open, set(&[pinfu(0, 3, &["riichi"]), record.clone(), one.clone()])), 11);
+    }
+    // Seat 1 has declared: its record needs riichi, and others none.
+    let declared = after(&[Booking::Riichi(1)]);
+    assert_eq!(number(&declared, set(&[one.clone(), pinfu(2, 3, &[])])), 11);
+    assert_eq!(number(&declared, set(&[pinfu(1, 3, &["riichi"]), pinfu(2, 3, &["double"])])), 11);
+    assert_eq!(number(&declared, set(&[pinfu(1, 3, &["double"]), pinfu(2, 3, &[])])), 0);
+}
+
+#[test]
+fn article_67_holds_for_each_record_of_a_set() {
+    let dragons = |seat: u8, from: u8| record(&["234m99pPPPFFFCC+C", &format!("seat={seat}"), &format!("ron={from}"), "indicator=5s"]);
+    let pair = |seat: u8, from: u8| record(&["19m19p19sESWNPFC+C", &format!("seat={seat}"), &format!("ron={from}"), "indicator=5s"]);
+    let start = Game { counter: 2, hands: 2, ..after(&[Booking::Riichi(1)]) };
+    for (feeds, records, scores) in [
+        // Seat 2 is fed by seat 0, which wins too; seat 3 discards: 48,000 to the dealer, with counters and stick, and 16,000 of 32,000.
+        (&[(2, 0)][..], [pair(0, 3), dragons(2, 3)], [30_000 + 49_600 - 16_000, 29_000, 62_000, 30_000 - 48_600 - 16_000]),
+        // The discarder feeds: it pays all.
+        (&[(2, 3)], [pair(0, 3), dragons(2, 3)], [79_600, 29_000, 62_000, 30_000 - 48_600 - 32_000]),
+        // Seat 1 feeds the dealer and seat 2.
+        (&[(0, 1), (2, 1)], [dragons(2, 3), dragons(0, 3)], [79_600, 29_000 - 40_000, 62_000, 30_000 - 40_600]),
+        // Each feeds the other.
+        (&[(0, 2), (2, 0)], [dragons(2, 3), dragons(0, 3)], [79_600 - 16_000, 29_000, 62_000 - 24_000, 30_000 - 40_600]),
+        // A feeder of a seat that does not win.
+        (&[(1, 2)], [pair(0, 3), dragons(2, 3)], [79_600, 29_000, 62_000, 30_000 - 48_600 - 32_000]),
+    ] {
+        let mut game = start;
+        feeds.iter().for_each(|&(holder, feeder)| assert_eq!(feed(&mut game, holder, feeder, 28), 0));
+        assert_eq!(book(&mut game, &set(&records)), 0);
+        assert_eq!((game.scores, game.feeders, game.sticks, game.total()), (scores, [0; 8], 0, 120_000), "{feeds:?}");
+    }
 }

@@ -1,4 +1,4 @@
-//! The game against the ledger over random lists of bookings (01, Ledger; 02, S-5, S-7 and S-8).
+//! The game against the ledger over random lists of bookings (01, Ledger; 02, S-5 to S-8).
 
 mod chance;
 #[path = "chance/cases.rs"]
@@ -39,7 +39,7 @@ struct Reached {
 }
 
 impl Reached {
-    /// The cases of feeders that were met fewer times than this.
+    /// The cases of feeders and sets that were met fewer times than this.
     fn short(&self, least: usize) -> Vec<&'static str> {
         cases::CASES.into_iter().filter(|case| self.met.get(case).is_none_or(|&count| count < least)).collect()
     }
@@ -94,8 +94,8 @@ fn fresh_games() {
         compare(&mut rng, Game::fresh(), length, keep, &mut reached);
     }
     let missing: Vec<usize> = (0..19).filter(|&n| reached.numbers[n] == 0).collect();
-    assert_eq!(missing, [12, 13, 14, 15, 16, 17], "refusals not reached");
-    assert_eq!(reached.short(50), ["feeders out of form alone"], "{:?}", reached.met);
+    assert_eq!(missing, [12, 13, 14, 15, 16], "refusals not reached");
+    assert_eq!(reached.short(3), ["feeders out of form alone"], "{:?}", reached.met);
     assert!(reached.unready.iter().all(|&count| count > 0), "{:?}", reached.unready);
     assert!(reached.by_deal > 100 && reached.by_hands > 20);
 }
@@ -111,7 +111,7 @@ fn games_of_any_value() {
         compare(&mut rng, start, length, keep, &mut reached);
     }
     assert!(reached.unready.iter().all(|&count| count > 10), "{:?}", reached.unready);
-    assert!((0..12).chain([18]).all(|n| reached.numbers[n] > 20) && reached.numbers[12] == 0, "{:?}", reached.numbers);
-    assert_eq!(reached.short(50), [""; 0], "{:?}", reached.met);
+    assert!((0..12).chain([17, 18]).all(|n| reached.numbers[n] > 20) && reached.numbers[12] == 0, "{:?}", reached.numbers);
+    assert_eq!(reached.short(20), [""; 0], "{:?}", reached.met);
     assert!(reached.by_deal > 100 && reached.by_hands > 100);
 }

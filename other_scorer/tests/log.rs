@@ -1,12 +1,12 @@
-//! Walking a log and the lines of program tally (01, Log; 02, S-8).
+//! Walking a log and the lines of program tally (01, Log; 02, S-6 and S-8).
 
 use other_scorer::booking::Booking;
 use other_scorer::codec::pack;
 use other_scorer::deal::themed;
 use other_scorer::example::{example, survey::survey, End};
-use other_scorer::log::{bookings, next, tally_lines, Next, FEED, LONGEST, WIN};
+use other_scorer::log::{bookings, next, tally_lines, Next, FEED, LONGEST, MANY, WIN};
 use other_scorer::rng::Rng;
-use other_scorer::Ledger;
+use other_scorer::{Hand, Ledger};
 
 #[test]
 fn the_papers_example() {
@@ -52,9 +52,10 @@ fn wins_of_every_length_and_every_cut() {
 #[test]
 fn bad_headers_and_melds() {
     for header in 0..=255u8 {
-        let mut log = [0; 20];
+        let mut log = [0; 40];
         log[0] = header;
-        let bad = header >> 4 > 5 || header >> 4 == 4 || [1, 5].contains(&(header >> 4)) && header & 15 != 0;
+        let set = header >> 4 == 4 && ![1, 2, 3].contains(&(header & 15));
+        let bad = header >> 4 > 5 || set || [1, 5].contains(&(header >> 4)) && header & 15 != 0;
         assert_eq!(next(&log, 0) == Next::Bad(14), bad, "{header:02x}");
     }
     for m in 0..8u8 {
@@ -66,6 +67,37 @@ fn bad_headers_and_melds() {
         match (next(&log, 0), size) {
             (Next::Entry { part, .. }, Some(&size)) => assert_eq!(part.len(), size),
             (other, _) => assert_eq!((other, m > 4), (Next::Bad(14), true)),
+        }
+    }
+}
+
+#[test]
+fn sets_of_every_length_and_every_cut() {
+    let mut rng = Rng::new(42);
+    for number in 1..=3u8 {
+        for _ in 0..60 {
+            let hands: Vec<Hand> = (0..number).map(|_| themed(&mut rng)).collect();
+            let records: Vec<u8> = hands.iter().flat_map(pack).collect();
+            let booking = Booking::Many { number, records };
+            let entry = booking.bytes();
+            assert_eq!(entry.len(), 1 + hands.iter().map(|hand| [13, 12, 11, 10, 8][hand.m as usize]).sum::<usize>());
+            let log = [&[0x00], entry.as_slice(), &[0x30]].concat();
+            assert_eq!(next(&log, 1), Next::Entry { kind: MANY, argument: number, part: &entry });
+            assert_eq!(bookings(&log).0[1], booking);
+            for end in 2..entry.len() + 1 {
+                assert_eq!(next(&log[..end], 1), Next::Bad(14));
+            }
+            // The m of each record over 4.
+            let mut at = 1;
+            for hand in &hands {
+                for m in 5..8u8 {
+                    let mut bad = entry.clone();
+                    bad[at + 2] = bad[at + 2] & !3 | m >> 1;
+                    bad[at + 3] = bad[at + 3] & 0x7F | m << 7;
+                    assert_eq!(next(&bad, 0), Next::Bad(14), "m {m} at {at}");
+                }
+                at += pack(hand).len();
+            }
         }
     }
 }
@@ -94,7 +126,7 @@ fn the_byte_of_a_feed() {
 
 #[test]
 fn tally_stops_at_14_without_a_line() {
-    let lines = tally_lines(&[0x00, 0x40, 0x00]);
+    let lines = tally_lines(&[0x00, 0x60, 0x00]);
     assert_eq!(lines, "1 R 0 29000 30000 30000 30000 1\n");
 }
 
@@ -131,7 +163,7 @@ fn examples_cover_everything_and_agree_with_the_ledger() {
         for (at, booking) in list.iter().enumerate() {
             let (next, number) = ledger.after(booking);
             let ([a, b, c, d], sticks) = (next.scores, next.sticks);
-            let letter = ['R', 'W', 'D', 'C', '?', 'P'][(booking.bytes()[0] >> 4) as usize];
+            let letter = ['R', 'W', 'D', 'C', 'M', 'P'][(booking.bytes()[0] >> 4) as usize];
             lines += &format!("{} {letter} {number} {a} {b} {c} {d} {sticks}\n", at + 1);
             ledger = next;
         }

@@ -1,17 +1,57 @@
-// The lowest score that a game from a fresh one can reach, by a run: in each of 200 hands seat 1 declares riichi, at 1,000, and
-// discards into the dealer's yakuman, at 48,000 and 300 for each of the counters, 0 in the first hand to 199 in the last. Seat 1 then has
-// 30,000 - 200 * 49,000 - 300 * 19,900 = -15,740,000, and the game is over.
+// The lowest score that a game from a fresh one can reach, by a run: in each of 200 hands seat 1 declares riichi, at 1,000, and discards a tile on which the three
+// others win with a yakuman, at 48,000 to the dealer, 32,000 to each of the two children, and 300 for each of the counters, 0 in the first hand to 199 in the last.
+// Seat 1 then has 30,000 - 200 * 113,000 - 300 * 19,900 = -28,540,000, and the game is over.
 use ledger::Game;
 use libc::STDOUT_FILENO;
 
-// Thirteen orphans won by seat 0 from seat 1.
-const WIN: [u8; 13] = [136, 30, 0, 0, 65, 40, 164, 211, 110, 58, 243, 240, 66];
+// Thirteen orphans won from seat 1 by seats 0, 2 and 3.
+const WINS: [u8; 39] = [
+    136,
+    30,
+    0,
+    0,
+    65,
+    40,
+    164,
+    211,
+    110,
+    58,
+    243,
+    240,
+    66,
+    200,
+    30,
+    0,
+    0,
+    65,
+    40,
+    164,
+    211,
+    110,
+    58,
+    243,
+    240,
+    66,
+    232,
+    30,
+    0,
+    0,
+    65,
+    40,
+    164,
+    211,
+    110,
+    58,
+    243,
+    240,
+    66,
+];
 
 fn hand_of(g: Game) -> Game {
     let a = game::riichi(g, 1);
     let h = a.game;
-    let record = WIN;
-    let b = wins::win(h, &record);
+    let records = WINS;
+    let b = sets::many(h, 3, &records);
     b.game
 }
 
@@ -35,7 +75,7 @@ fn main() {
         let h = hand_of(g);
         g = h;
     }
-    show(g, 400, b'W', 0);
+    show(g, 400, b'M', 0);
     let after = game::draw(g, 0);
     let h = after.game;
     show(h, 401, b'D', after.refusal);

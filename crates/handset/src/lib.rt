@@ -161,6 +161,16 @@ pub extern "C" fn hb_chombo(g: &mut Game, seat: u8) -> u8
     b.refusal
 }
 
+// Several rons on one tile: their number, and the records end to end.
+#[no_mangle]
+pub extern "C" fn hb_many(g: &mut Game, number: u8, records: &[u8]) -> u8
+    ensures { λ r. ⌜ Booked (now (g .entry)) (Booking.many number (now (records .entry))) r (now (g .exit)) ⌝ }
+{
+    let b = sets::many(*g, number, records);
+    *g = b.game;
+    b.refusal
+}
+
 // The feeder of a holder's yaku, 28 or 29, named for this hand.
 #[no_mangle]
 pub extern "C" fn hb_feed(g: &mut Game, holder: u8, feeder: u8, yaku: u8) -> u8

@@ -8,13 +8,15 @@ use lib.IntN.{pos, negℤ, _+ℤ_}
 use lib.Signed.{ltZ}
 use lib.ListN.{getD}
 use Rattle.tiles.specs.Below.{any}
+use Rattle.hand.specs.Hand.{isRon}
 use Rattle.hand_record.specs.Record.{IsSound}
 use Rattle.hand_record.specs.Claims.{sound}
 use Rattle.reading.specs.declared.Reading.{Reading}
 use Rattle.groups.specs.Tests.{winds}
 use Rattle.score.specs.Named.{groupsOf, IsReadingOf, scoredAs}
 use Rattle.ledger.specs.declared.Game.{Game}
-use Rattle.ledger.specs.Booking.{Booking, draw}
+use Rattle.records.specs.Records.{recordsOf, isWinner, discarderOf, firstWinner, turnsAfter}
+use Rattle.ledger.specs.Booking.{Booking, win, draw, many}
 use Rattle.ledger.specs.Ledger.{fresh, scoreAt, declarations, feederAt, floor, outOfForm, notOpen, handFor, refusalFor, settles, repeatGives, wholeOf, fedPays, wonBy, holdsFourWinds, fineOf, chomboGives, chomboOf, isAtFault, effectOf, after, ledgerFrom, ledger}
 use Rattle.ledger.specs.Runs.{Runs, Every}
 pub use Rattle.ledger.specs.Runs.{refusalsFrom}
@@ -29,6 +31,8 @@ use Rattle.ledger.specs.laws.NotReady as not-ready
 use Rattle.ledger.specs.laws.Fed as fed
 use Rattle.ledger.specs.laws.Tiles as tiles
 use Rattle.ledger.specs.laws.Winds as by-tiles
+use Rattle.ledger.specs.laws.One as one
+use Rattle.ledger.specs.laws.Sets as sets
 
 -- demand 3
 pub demand-3 : (bs : List Booking) (ns : List ℕ) (g : Game) → Runs fresh bs ns g → Demand3 bs ns g
@@ -38,7 +42,7 @@ demand-3 = laws.demand-3
 pub runs-exists : (bs : List Booking) (l : Game) → Runs l bs (refusalsFrom l bs) (ledgerFrom l bs)
 runs-exists = lists.runs-exist
 
--- "From a fresh game no score falls under" the floor, which "becomes −15,740,000" (02, S-5), and the game stays in form
+-- "From a fresh game no score falls under" the floor, which "becomes −28,540,000" (02, S-6), and the game stays in form
 pub never-below-floor : (bs : List Booking) → (outOfForm (ledger bs) ≡ false) × ((i : ℕ) → i < 4 → ltZ (scoreAt (ledger bs) i) floor ≡ false)
 never-below-floor = laws.never-below-floor
 
@@ -125,3 +129,15 @@ feeders-lapse = fed.feeders-lapse
 pub feeders-stay : (l : Game) (b : Booking) → refusalFor l b ≡ 0 → effectOf l b .finishes ≡ false
     → (place : ℕ) → (feederAt l place ≡ 0 → ⊥) → feederAt (after l b) place ≡ feederAt l place
 feeders-stay = fed.feeders-stay
+
+-- ---- two or three rons on one tile (02, S-6)
+
+-- one record is the same as Win of it, where it is a ron
+pub one-is-win : (l : Game) (s : List ℕ) → isRon (handFor s .fields) ≡ true → (refusalFor l (many 1 s) ≡ refusalFor l (win s)) × (after l (many 1 s) ≡ after l (win s))
+one-is-win = one.one-is-win
+
+-- "the first winner in turn order after the discarder": of an accepted set it is a winner, and no winner comes before it
+pub first-winner : (l : Game) (number : ℕ) (s : List ℕ) → refusalFor l (many number s) ≡ 0 →
+    let rs = recordsOf number s in
+    (isWinner rs (firstWinner rs) ≡ true) × ((seat : ℕ) → isWinner rs seat ≡ true → turnsAfter (discarderOf rs) (firstWinner rs) ≤ turnsAfter (discarderOf rs) seat)
+first-winner = sets.first-winner

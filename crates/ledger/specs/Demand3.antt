@@ -2,7 +2,7 @@
 use mathlib.Core.Path.{_≡_}
 use mathlib.Core.Logic.{_⊎_, _↔_}
 use mathlib.Core.Bool.{true, false, _&&_, cond}
-use mathlib.Core.List.{List}
+use mathlib.Core.List.{List, [], _∷_}
 use Prim.Native.Nat.{ℕ, _*_, _≤_, _<_}
 use lib.Dec.{eqb}
 use lib.IntN.{ℤ, pos, _+ℤ_}
@@ -13,7 +13,8 @@ use Rattle.reading.specs.declared.Reading.{Reading}
 use Rattle.groups.specs.Tests.{winds}
 use Rattle.score.specs.Named.{groupsOf, IsReadingOf, ReadsWithYaku, IsReported, gainIn, scoredAs}
 use Rattle.ledger.specs.declared.Game.{Game}
-use Rattle.ledger.specs.Booking.{Booking, win}
+use Rattle.ledger.specs.Booking.{Booking, win, many}
+use Rattle.records.specs.Records.{recordsOf, noSet, firstWinner}
 use Rattle.ledger.specs.Ledger.{startingScore, pointsInPlay, fresh, scoreAt, totalOf, notOpen, handFor, riichiMismatch, refusalFor, wonBy, addedBy, fedIn, after, ledger, givenFrom}
 use Rattle.ledger.specs.Runs.{Every}
 
@@ -32,9 +33,9 @@ module _ (l : Game) (s : List ℕ) where
   abbrev pub changeBy : Reading → ℕ → ℤ
   changeBy r i = getD (scoredAs (handFor s) (l .dealer) (l .wind) r .changes) i (pos 0)
 
-  -- "the winner 1,000 a stick"
-  abbrev pub sticksTo : ℕ → ℤ
-  sticksTo i = cond (eqb i (handFor s .fields .winner)) (pos (1000 * l .sticks)) (pos 0)
+  -- "the winner 1,000 a stick", of k sticks
+  abbrev pub sticksTo : ℕ → ℕ → ℤ
+  sticksTo k i = cond (eqb i (handFor s .fields .winner)) (pos (1000 * k)) (pos 0)
 
   -- "If the holder then wins with that yaku reported (for 29, with four wind triplets, not three and a pair)" (02, S-8), r being reported: 0, or 1 + the feeder
   abbrev pub fedBy : Reading → ℕ
@@ -42,25 +43,29 @@ module _ (l : Game) (s : List ℕ) where
       let yaku = scoredAs (handFor s) (l .dealer) (l .wind) r .yaku in
       fedIn l (handFor s .fields .winner) (getD yaku 28 false) (getD yaku 29 false && eqb (winds (groupsOf (handFor s) r)) 4)
 
-  -- what r gives or takes of seat i: its change, "compared with article 67" (02, S-8), and what the counters add (02, S-5)
-  abbrev pub paidIn : Reading → ℕ → ℤ
-  paidIn r i = wonBy l s (fedBy r) (changeBy r) i +ℤ addedBy l s (fedBy r) i
+  -- what r gives or takes of seat i: its change, "compared with article 67" (02, S-8), and what n counters add (02, S-5)
+  abbrev pub paidIn : Reading → ℕ → ℕ → ℤ
+  paidIn r n i = wonBy l s (fedBy r) (changeBy r) i +ℤ addedBy l s (fedBy r) n i
 
   -- each score moved by what r gives or takes, and the sticks
   abbrev pub PaidBy : Reading → Type 0
-  PaidBy r = (i : ℕ) → i < 4 → scoreAt (after l (win s)) i ≡ scoreAt l i +ℤ paidIn r i +ℤ sticksTo i
+  PaidBy r = (i : ℕ) → i < 4 → scoreAt (after l (win s)) i ≡ scoreAt l i +ℤ paidIn r (l .counter) i +ℤ sticksTo (l .sticks) i
+
+  -- r is the reported reading (01, Readings), and no reading with a yaku gives the winner more
+  abbrev pub IsBest : Reading → Type 0
+  IsBest r = IsReported (handFor s) (l .dealer) (l .wind) r × ((q : Reading) → HasYaku q → gainBy q ≤ gainBy r)
 
   -- accepted exactly when no refusal meets it (01, Win): the game was open, the record sound, a reading of its tiles has a yaku, and riichi field and declaration agree
   abbrev pub AcceptedWhen : ℕ → Type 0
   AcceptedWhen n = (n ≡ 0) ↔ ((notOpen l ≡ false) × IsSound s × ((r : Reading) × HasYaku r) × (riichiMismatch l (handFor s) ≡ false))
 
-  -- accepted: paid by a reading with a yaku, the reported one (01, Readings), and no reading with a yaku gives the winner more
+  -- accepted: paid by a reading with a yaku, the best one
   abbrev pub PaidByBest : ℕ → Type 0
-  PaidByBest n = n ≡ 0 → (r : Reading) × IsReported (handFor s) (l .dealer) (l .wind) r × PaidBy r × ((q : Reading) → HasYaku q → gainBy q ≤ gainBy r)
+  PaidByBest n = n ≡ 0 → (r : Reading) × IsBest r × PaidBy r
 
   -- what r gives the winner with the counters
   abbrev pub gainWithCounters : Reading → ℤ
-  gainWithCounters r = paidIn r (handFor s .fields .winner)
+  gainWithCounters r = paidIn r (l .counter) (handFor s .fields .winner)
 
   -- accepted: paid by the reported reading, and no reading with a yaku gives the winner more with the counters: "equal for every reading of the tiles, so the best one
   -- stays best" (02, S-5)
@@ -84,6 +89,45 @@ module _ (l : Game) (s : List ℕ) where
 abbrev pub OfWin : (Game → List ℕ → ℕ → Type 0) → Game → Booking → ℕ → Type 0
 OfWin P l b n = (s : List ℕ) → b ≡ win s → P l s n
 
+-- ---- several records that got the refusal n (02, S-6)
+
+module _ (l : Game) where
+  -- each record is sound, a reading of its tiles has a yaku, and riichi field and declaration agree
+  abbrev pub EachWins : List (List ℕ) → Type 0
+  EachWins [] = Unit {0}
+  EachWins (s ∷ ss) = (IsSound s × ((r : Reading) × HasYaku l s r) × (riichiMismatch l (handFor s) ≡ false)) × EachWins ss
+
+  -- accepted exactly when no refusal meets it, "the set as one booking"
+  abbrev pub SetAcceptedWhen : ℕ → List ℕ → ℕ → Type 0
+  SetAcceptedWhen number s n =
+      let ss = recordsOf number s in
+      (n ≡ 0) ↔ ((notOpen l ≡ false) × (0 < number) × (number ≤ 3) × EachWins ss × (noSet ss ≡ false))
+
+  -- "each of the winners has the best reading of that winner's tiles": one reading of each record
+  abbrev pub EachBest : List (List ℕ) → List Reading → Type 0
+  EachBest [] [] = Unit {0}
+  EachBest (s ∷ ss) (r ∷ rs) = IsBest l s r × EachBest ss rs
+  EachBest [] (r ∷ rs) = ⊥
+  EachBest (s ∷ ss) [] = ⊥
+
+  -- what the readings give or take of seat i: "Sticks and counters go to the first winner"
+  abbrev pub givenIn : ℕ → List (List ℕ) → List Reading → ℕ → ℤ
+  givenIn first (s ∷ ss) (r ∷ rs) i =
+      let takes = eqb (handFor s .fields .winner) first in
+      paidIn l s r (cond takes (l .counter) 0) i +ℤ sticksTo l s (cond takes (l .sticks) 0) i +ℤ givenIn first ss rs i
+  givenIn first [] rs i = pos 0
+  givenIn first (s ∷ ss) [] i = pos 0
+
+  -- accepted: each score moved by what the best readings of all records give or take
+  abbrev pub SetPaid : ℕ → List ℕ → ℕ → Type 0
+  SetPaid number s n =
+      let ss = recordsOf number s in
+      n ≡ 0 → (rs : List Reading) × EachBest ss rs × ((i : ℕ) → i < 4 → scoreAt (after l (many number s)) i ≡ scoreAt l i +ℤ givenIn (firstWinner ss) ss rs i)
+
+-- P, where the booking is of several records
+abbrev pub OfMany : (Game → ℕ → List ℕ → ℕ → Type 0) → Game → Booking → ℕ → Type 0
+OfMany P l b n = (number : ℕ) (s : List ℕ) → b ≡ many number s → P l number s n
+
 -- ---- a list
 
 -- "a single claim about the whole list": the bookings bs got the refusals ns and left the game g
@@ -100,6 +144,9 @@ pub record Demand3 (bs : List Booking) (ns : List ℕ) (g : Game) : Type 0 where
   pub wins : Every (OfWin AcceptedWhen) fresh bs ns
   -- "Each accepted win was paid by a reading of its tiles that has a yaku, and the winner's gain in it is at least that in every other reading of the same tiles that has a yaku."
   pub paid : Every (OfWin PaidByBest) fresh bs ns
+  -- the same of several records, "the set as one booking", and "each of the winners has the best reading of that winner's tiles" (02, S-6)
+  pub sets-accepted : Every (OfMany SetAcceptedWhen) fresh bs ns
+  pub sets : Every (OfMany SetPaid) fresh bs ns
   -- "A win of a sound record in an open game was refused for its tiles exactly when no reading of them has a yaku."
   pub tiles : Every (OfWin TilesRefused) fresh bs ns
   -- with 6 exactly when there is no reading, and with 7 exactly when there are readings

@@ -1,4 +1,4 @@
--- The ledger (01, The game and its paragraph "Ledger"; 02, S-5, S-7 and S-8): kept from the bookings' arguments alone, with the game's fields.
+-- The ledger (01, The game and its paragraph "Ledger"; 02, S-5 to S-8): kept from the bookings' arguments alone, with the game's fields.
 -- The game's numbers; its fields; refusals; what an accepted booking does, as one structure; the fields after it; the ledger of a list.
 use mathlib.Core.Bool.{Bool, true, false, _&&_, _||_, not, cond}
 use mathlib.Core.List.{List, [], _∷_}
@@ -10,11 +10,12 @@ use lib.ListN.{getD, set, replicate}
 use Rattle.tiles.specs.Below.{all, any, count, sum, tabulate}
 use Rattle.hand.specs.declared.Hand.{Hand}
 use Rattle.hand.specs.Hand.{isRon, handTally}
-use Rattle.hand_record.specs.Record.{handOf, readOf}
 use Rattle.score.specs.declared.Scored.{Scored}
 use Rattle.score.specs.Score.{scoreOf}
 use Rattle.ledger.specs.declared.Game.{Game}
-use Rattle.ledger.specs.Booking.{Booking, riichi, win, draw, chombo, feed}
+use Rattle.ledger.specs.Booking.{Booking, riichi, win, draw, chombo, feed, many}
+pub use Rattle.records.specs.Records.{handFor}
+use Rattle.records.specs.Records.{recordsOf, firstUnread, noSet, isWinner, firstWinner}
 
 -- ---- the game's numbers, each named once
 
@@ -30,9 +31,9 @@ pointsInPlay = pos 120000
 abbrev pub lastHand : ℕ
 lastHand = 200
 
--- "The floor of a score becomes −15,740,000" (02, S-5)
+-- "so the floor of a score becomes −28,540,000" (02, S-6)
 abbrev pub floor : ℤ
-floor = negℤ (pos 15740000)
+floor = negℤ (pos 28540000)
 
 -- ---- the fields
 
@@ -114,17 +115,22 @@ outOfForm l =
 unfoldable pub notOpen : Game → Bool
 notOpen l = isOver l || outOfForm l
 
--- the hand that Read gives of a win's record
-abbrev pub handFor : List ℕ → Hand
-handFor s = handOf (readOf s)
-
--- what Score gives of it, "with the game's dealer and wind"
+-- what Score gives of a win's record, "with the game's dealer and wind"
 abbrev pub scoredFor : Game → List ℕ → Scored
 scoredFor l s = scoreOf s (l .dealer) (l .wind)
 
 -- 11: "riichi field non-zero and winner not declared, or the reverse"
 abbrev pub riichiMismatch : Game → Hand → Bool
 riichiMismatch l h = cond (ltb 0 (h .fields .riichi)) (not (isDeclared l (h .fields .winner))) (isDeclared l (h .fields .winner))
+
+-- of a win's record in an open game: "Score's 1 to 7 with the game's dealer and wind; 11"
+abbrev pub winRefusal : Game → List ℕ → ℕ
+winRefusal l s = cond (ltb 0 (scoredFor l s .refusal)) (scoredFor l s .refusal) (cond (riichiMismatch l (handFor s)) 11 0)
+
+-- "6, 7 or 11 of the first record that meets one" (02, S-6); 0 where none does
+unfoldable pub firstRefused : Game → List (List ℕ) → ℕ
+firstRefused l [] = 0
+firstRefused l (s ∷ ss) = cond (ltb 0 (winRefusal l s)) (winRefusal l s) (firstRefused l ss)
 
 -- "four bits, seat 0 first, set for ready"
 abbrev pub isReady : ℕ → ℕ → Bool
@@ -134,16 +140,19 @@ isReady bits i = eqb (bits / 2 ^ (3 - i) % 2) 1
 abbrev pub wrongFeed : Game → ℕ → ℕ → ℕ → Bool
 wrongFeed l holder feeder yaku = eqb holder feeder || not (eqb yaku 28 || eqb yaku 29) || isSet (feederAt l (feederPlace holder yaku))
 
--- "Where refusals meet a booking by the ledger's fields, the first listed is its number"; 0 where none does. Of a draw "12 is never given now" (02, S-7)
+-- "Where refusals meet a booking by the ledger's fields, the first listed is its number"; 0 where none does. Of a draw "12 is never given now" (02, S-7);
+-- of several records "After 9 it refuses with 17 an empty set or one over three, then ..." (02, S-6)
 unfoldable pub refusalFor : Game → Booking → ℕ
 refusalFor l (riichi seat) = cond (ltb 3 seat) 8 (cond (notOpen l) 9 (cond (isDeclared l seat) 10 0))
-refusalFor l (win s) =
-    cond (notOpen l) 9
-    (cond (ltb 0 (scoredFor l s .refusal)) (scoredFor l s .refusal)
-    (cond (riichiMismatch l (handFor s)) 11 0))
+refusalFor l (win s) = cond (notOpen l) 9 (winRefusal l s)
 refusalFor l (draw bits) = cond (ltb 15 bits) 8 (cond (notOpen l) 9 0)
 refusalFor l (chombo seat) = cond (ltb 3 seat) 8 (cond (notOpen l) 9 0)
 refusalFor l (feed holder feeder yaku) = cond (ltb 3 holder || ltb 3 feeder) 8 (cond (notOpen l) 9 (cond (wrongFeed l holder feeder yaku) 18 0))
+refusalFor l (many number s) =
+    cond (notOpen l) 9
+    (cond (eqb number 0 || ltb 3 number) 17
+    (cond (ltb 0 (firstUnread (recordsOf number s))) (firstUnread (recordsOf number s))
+    (cond (noSet (recordsOf number s)) 17 (firstRefused l (recordsOf number s)))))
 
 -- ---- what an accepted booking does
 
@@ -206,10 +215,10 @@ module _ (l : Game) (s : List ℕ) (fed : ℕ) where
       let f = handFor s .fields in
       cond (isSet fed) (settles (f .winner) (fedPays (f .winner) (f .discarder) (fed - 1) (isRon f) (wholeOf (isDealersWin l s))) i) (c i)
 
-  -- what the counters give it: "the feeder pays the whole on tsumo, counters included. On ron .. the discarder paying the counters" (02, S-8);
+  -- what n counters give it: "the feeder pays the whole on tsumo, counters included. On ron .. the discarder paying the counters" (02, S-8);
   -- on a tsumo that nobody fed all pay them, and `fed - 1` is not read
-  abbrev pub addedBy : ℕ → ℤ
-  addedBy = let f = handFor s .fields in repeatGives (f .winner) (cond (isRon f) (f .discarder) (fed - 1)) (isRon f || isSet fed) (l .counter)
+  abbrev pub addedBy : ℕ → ℕ → ℤ
+  addedBy n = let f = handFor s .fields in repeatGives (f .winner) (cond (isRon f) (f .discarder) (fed - 1)) (isRon f || isSet fed) n
 
 -- "If the holder then wins with that yaku reported (for 29, with four wind triplets, not three and a pair)" (02, S-8): 0, or 1 + the feeder that is named
 abbrev pub fedIn : Game → ℕ → Bool → Bool → ℕ
@@ -226,11 +235,18 @@ fedFor l s =
     fedIn l (handFor s .fields .winner) (getD yaku 28 false) (getD yaku 29 false && holdsFourWinds (handFor s))
 
 -- "A win gives the four changes of the reported reading, and the winner 1,000 a stick"; "document 01's plus this addition" (02, S-5);
--- "compared with article 67" (02, S-8)
-unfoldable pub winGives : Game → List ℕ → ℕ → ℤ
-winGives l s i =
-    wonBy l s (fedFor l s) (λ j. getD (scoredFor l s .changes) j (pos 0)) i +ℤ addedBy l s (fedFor l s) i
-    +ℤ cond (eqb i (handFor s .fields .winner)) (pos (1000 * l .sticks)) (pos 0)
+-- "compared with article 67" (02, S-8): what a win with record s gives seat i, the winner taking n counters and k sticks
+unfoldable pub winGives : Game → List ℕ → ℕ → ℕ → ℕ → ℤ
+winGives l s n k i =
+    wonBy l s (fedFor l s) (λ j. getD (scoredFor l s .changes) j (pos 0)) i +ℤ addedBy l s (fedFor l s) n i
+    +ℤ cond (eqb i (handFor s .fields .winner)) (pos (1000 * k)) (pos 0)
+
+-- what all records give it: "all against the game as it was before. Sticks and counters go to the first winner" (02, S-6)
+unfoldable pub setGives : Game → ℕ → List (List ℕ) → ℕ → ℤ
+setGives l first [] i = pos 0
+setGives l first (s ∷ ss) i =
+    let takes = eqb (handFor s .fields .winner) first in
+    winGives l s (cond takes (l .counter) 0) (cond takes (l .sticks) 0) i +ℤ setGives l first ss i
 
 -- "r ready": how many seats
 abbrev pub readySeats : ℕ → ℕ
@@ -271,15 +287,19 @@ isAtFault l bits i = isDeclared l i && not (isReady bits i)
 -- riichi "adds a stick and declares the seat"; a win "leaving none"; "A draw in which a declared seat isn't ready" is "a chombo" of "each such seat" (02, S-7);
 -- "The deal passes on a child's win or a draw with the dealer not ready";
 -- the counter "rises by one at each dealer's win and each draw, returns to 0 at a child's win, and isn't touched by a chombo" (02, S-5);
--- feed "names holder, feeder and yaku" (02, S-8)
+-- feed "names holder, feeder and yaku" (02, S-8);
+-- of several records "If the dealer is a winner the deal stays and the counter rises; otherwise the deal passes and the counter clears" (02, S-6)
 unfoldable pub effectOf : Game → Booking → Effect
 effectOf l (riichi seat) = going l (riichiGives seat) (l .sticks + 1) (λ i. eqb i seat || isDeclared l i) (l .feeders)
-effectOf l (win s) = finishing (winGives l s) 0 (not (isDealersWin l s)) (cond (isDealersWin l s) (l .counter + 1) 0)
+effectOf l (win s) = finishing (winGives l s (l .counter) (l .sticks)) 0 (not (isDealersWin l s)) (cond (isDealersWin l s) (l .counter + 1) 0)
 effectOf l (draw bits) =
     cond (any 4 (isAtFault l bits)) (chomboOf l (isAtFault l bits))
     (finishing (drawGives bits) (l .sticks) (not (isReady bits (l .dealer))) (l .counter + 1))
 effectOf l (chombo seat) = chomboOf l (λ i. eqb i seat)
 effectOf l (feed holder feeder yaku) = going l (λ i. pos 0) (l .sticks) (isDeclared l) (set (l .feeders) (feederPlace holder yaku) (1 + feeder))
+effectOf l (many number s) =
+    let rs = recordsOf number s in
+    finishing (setGives l (firstWinner rs) rs) 0 (not (isWinner rs (l .dealer))) (cond (isWinner rs (l .dealer)) (l .counter + 1) 0)
 
 -- ---- the fields after it
 

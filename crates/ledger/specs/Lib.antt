@@ -1,10 +1,10 @@
--- Booking    the five bookings
+-- Booking    the bookings
 -- Ledger     the ledger, kept from the bookings' arguments alone (01, Ledger)
 -- Runs       a list of bookings, each lent the game as the last one left it
 -- Demand3    what demand 3 claims of such a list
 -- NotReady   what a draw does in which a declared seat is not ready
 -- Article67  what a win gives each seat whose yaku was fed
--- Claims     the theorems: demand 3, never below the floor, repeat counters, declared yet not ready, who fed the dragons
+-- Claims     the theorems: demand 3, never below the floor, repeat counters, declared yet not ready, who fed the dragons, several rons
 -- laws       what they stand on
 pub mod Booking
 pub mod Ledger

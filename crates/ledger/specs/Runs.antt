@@ -1,6 +1,6 @@
 -- Lists of bookings, "each booked in the game as the last one left it".
--- The ledger's step is each booking's contract: `game::riichi`, `draw`, `chombo` and `feed`, `wins::win`, and the handset's `hb_*` over them, each promise
--- `Booked`. So a run of calls is a run of the ledger, demand 3's `ledger` and `named` hold by it, and their content is in those five contracts.
+-- The ledger's step is each booking's contract: `game::riichi`, `draw`, `chombo` and `feed`, `wins::win`, `sets::many`, and the handset's `hb_*` over them, each promise
+-- `Booked`. So a run of calls is a run of the ledger, demand 3's `ledger` and `named` hold by it, and their content is in those six contracts.
 use mathlib.Core.Path.{_≡_}
 use mathlib.Core.List.{List, [], _∷_}
 use Prim.Native.Nat.{ℕ}

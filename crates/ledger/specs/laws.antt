@@ -9,6 +9,9 @@ pub mod Repeat
 pub mod Fed
 pub mod Fines
 pub mod Fair
+pub mod Sets
+pub mod Each
+pub mod One
 pub mod Kept
 pub mod Lists
 pub mod NotReady

@@ -16,9 +16,9 @@ pub struct Game {
     pub feeders: [u8; 8],
 }
 
-// "200 hands finished", "scores plus 1,000 times sticks" (01, The game), "The floor of a score" (02, S-5): `lastHand`, `pointsInPlay`, `floor` of specs/Ledger.
+// "200 hands finished", "scores plus 1,000 times sticks" (01, The game), "the floor of a score" (02, S-6): `lastHand`, `pointsInPlay`, `floor` of specs/Ledger.
 pub const LAST_HAND: u8 = 200;
 
-pub const FLOOR: i32 = -15740000;
+pub const FLOOR: i32 = -28540000;
 
 pub const POINTS_IN_PLAY: i64 = 120000;

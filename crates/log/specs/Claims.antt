@@ -1,14 +1,15 @@
--- The theorems of the log (01, Log; 02, S-8; "Before the batch is burned": "a walk saying "end" with bytes left" falls by them).
+-- The theorems of the log (01, Log; 02, S-6 and S-8; "Before the batch is burned": "a walk saying "end" with bytes left" falls by them).
 use mathlib.Core.Path.{_≡_}
 use mathlib.Core.Bool.{true, false}
 use mathlib.Core.Logic.{_⊎_, _↔_}
-use mathlib.Core.List.{List, _∷_}
+use mathlib.Core.List.{List, [], _∷_}
 use Prim.Native.Nat.{ℕ, _+_, _*_, _-_, _≤_, _<_}
 use native.Mathlib.Omega.{arith}
 use lib.ListN.{length, getD, take, drop}
 use Rattle.hand_record.specs.Record.{countIn, wrongLength}
 use Rattle.record_lengths.specs.Lengths.{isBroken}
-use Rattle.log.specs.Kinds.{kindIn, argumentIn, holderIn, feederIn, yakuIn, isOtherForm}
+use Rattle.records.specs.Records.{recordsOf}
+use Rattle.log.specs.Kinds.{kindIn, argumentIn, hasBroken, holderIn, feederIn, yakuIn, isOtherForm}
 use Rattle.log.specs.Log.{partAt, refusalAt, partsOf, laid, stopOf}
 use Rattle.log.specs.laws.Next as next
 use Rattle.log.specs.laws.Walk as laws
@@ -17,8 +18,9 @@ use Rattle.log.specs.laws.Walk as laws
 pub end-only-at-end : (log : List ℕ) (at : ℕ) → ((length (partAt log at) ≡ 0) × (refusalAt log at ≡ 0)) ↔ (length log ≤ at)
 end-only-at-end log at = laws.end-exactly log at
 
--- "Refusal 14: kind over 3, win argument not 0, m over 4, or bytes missing"; S-8: of kind 5 "any other form is 14": there and nowhere else
-pub bad-only-when-named : (log : List ℕ) (at : ℕ) → let s = drop at log in (refusalAt log at ≡ 14) ↔ ((at < length log) × (((3 < kindIn s) × (kindIn s ≡ 5 → ⊥)) ⊎ ((kindIn s ≡ 1) × ((argumentIn s ≡ 0 → ⊥) ⊎ (isBroken (drop 1 s) ≡ true))) ⊎ ((kindIn s ≡ 5) × ((argumentIn s ≡ 0 → ⊥) ⊎ (isOtherForm (drop 1 s) ≡ true)))))
+-- "Refusal 14: kind over 3, win argument not 0, m over 4, or bytes missing"; S-6: of kind 4 "an argument of 0 or over 3, a record with m over 4, or missing bytes, is 14";
+-- S-8: of kind 5 "any other form is 14": there and nowhere else
+pub bad-only-when-named : (log : List ℕ) (at : ℕ) → let s = drop at log in (refusalAt log at ≡ 14) ↔ ((at < length log) × ((5 < kindIn s) ⊎ ((kindIn s ≡ 1) × ((argumentIn s ≡ 0 → ⊥) ⊎ (isBroken (drop 1 s) ≡ true))) ⊎ ((kindIn s ≡ 4) × ((argumentIn s ≡ 0) ⊎ (3 < argumentIn s) ⊎ (hasBroken (argumentIn s) (drop 1 s) ≡ true))) ⊎ ((kindIn s ≡ 5) × ((argumentIn s ≡ 0 → ⊥) ⊎ (isOtherForm (drop 1 s) ≡ true)))))
 bad-only-when-named log at = laws.bad-exactly log at
 
 -- "it returns an empty part"
@@ -29,8 +31,8 @@ bad-empty log at h = laws.bad-part log at h
 pub part-inside : (log : List ℕ) (at : ℕ) → 0 < length (partAt log at) → at + length (partAt log at) ≤ length log
 part-inside log at h = omega (arith, h, next.part-inside log at)
 
--- "kind 4 bits (0 riichi, 1 win, 2 draw, 3 chombo), argument 4"; S-8: "kind 5"; any other is refused
-pub kind-and-argument : (log : List ℕ) (at : ℕ) → 0 < length (partAt log at) → ((kindIn (partAt log at) ≤ 3) ⊎ (kindIn (partAt log at) ≡ 5)) × (argumentIn (partAt log at) ≤ 15)
+-- "kind 4 bits (0 riichi, 1 win, 2 draw, 3 chombo), argument 4"; S-6: "kind 4"; S-8: "kind 5"; any other is refused
+pub kind-and-argument : (log : List ℕ) (at : ℕ) → 0 < length (partAt log at) → (kindIn (partAt log at) ≤ 5) × (argumentIn (partAt log at) ≤ 15)
 unfolding partAt
 kind-and-argument log at h = (next.part-kind (drop at log) h, omega arith)
 
@@ -38,6 +40,11 @@ kind-and-argument log at h = (next.part-kind (drop at log) h, omega arith)
 pub win-record : (log : List ℕ) (at : ℕ) → 0 < length (partAt log at) → kindIn (partAt log at) ≡ 1 → (argumentIn (partAt log at) ≡ 0) × (wrongLength (length (drop 1 (partAt log at))) (countIn (drop 1 (partAt log at))) ≡ false)
 unfolding partAt
 win-record log at h w = next.part-win (drop at log) h w
+
+-- S-6: "its argument being how many records follow", one to three: these lie "end to end", fill the part, and each has the length that Read wants
+pub many-records : (log : List ℕ) (at : ℕ) → 0 < length (partAt log at) → kindIn (partAt log at) ≡ 4 → let n = argumentIn (partAt log at) in let s = drop 1 (partAt log at) in let rs = recordsOf n s in (0 < n) × (n ≤ 3) × (length rs ≡ n) × (laid rs ≡ s) × ((k : ℕ) → k < n → wrongLength (length (getD rs k [])) (countIn (getD rs k [])) ≡ false)
+unfolding partAt
+many-records log at h w = next.part-many (drop at log) h w
 
 -- S-8: "argument 0, then a byte: holder 2 bits, feeder 2, yaku 1 (0 for 28), three zero bits": one byte follows the header, and it is these fields,
 -- each of as many bits, and no other bit

@@ -1,10 +1,11 @@
--- The kinds of a log's entries (01, Log; 02, S-8): the number, the letter and the length of each, in this one place.
-use mathlib.Core.Bool.{Bool, _||_, cond}
+-- The kinds of a log's entries (01, Log; 02, S-6 and S-8): the number, the letter and the length of each, in this one place.
+use mathlib.Core.Bool.{Bool, false, _||_, cond}
 use mathlib.Core.List.{List, [], _∷_}
-use Prim.Native.Nat.{ℕ, _+_, _/_, _%_}
+use Prim.Native.Nat.{ℕ, zero, suc, _+_, _/_, _%_}
 use lib.Dec.{ltb, eqb}
-use lib.ListN.{length, getD}
-use Rattle.record_lengths.specs.Lengths.{recordLength}
+use lib.ListN.{length, getD, take, drop}
+use Rattle.hand_record.specs.Record.{lengthOf, countIn}
+use Rattle.record_lengths.specs.Lengths.{isBroken, recordLength}
 
 -- "kind 4 bits (0 riichi, 1 win, 2 draw, 3 chombo)"
 abbrev pub riichiKind : ℕ
@@ -19,13 +20,18 @@ drawKind = 2
 abbrev pub chomboKind : ℕ
 chomboKind = 3
 
+-- S-6: "Log kind 4"
+abbrev pub manyKind : ℕ
+manyKind = 4
+
 -- S-8: "In the log it is kind 5"
 abbrev pub feedKind : ℕ
 feedKind = 5
 
--- "letter R W D C"; S-8: "letter P"
+-- "letter R W D C"; S-6: "letter M"; S-8: "letter P"
 abbrev pub letterOf : ℕ → ℕ
-letterOf kind = cond (eqb kind riichiKind) 82 (cond (eqb kind winKind) 87 (cond (eqb kind drawKind) 68 (cond (eqb kind feedKind) 80 67)))
+letterOf kind =
+    cond (eqb kind riichiKind) 82 (cond (eqb kind winKind) 87 (cond (eqb kind drawKind) 68 (cond (eqb kind manyKind) 77 (cond (eqb kind feedKind) 80 67))))
 
 -- "Header byte: kind 4 bits": that of an entry's bytes
 abbrev pub kindIn : List ℕ → ℕ
@@ -34,6 +40,20 @@ kindIn s = getD s 0 0 / 16
 -- "argument 4"
 abbrev pub argumentIn : List ℕ → ℕ
 argumentIn s = getD s 0 0 % 16
+
+-- S-6: "They lie end to end", each "as long as its m says": of n records from the start of bytes one has "m over 4, or missing bytes"
+unfoldable pub hasBroken : ℕ → List ℕ → Bool
+hasBroken zero s = false
+hasBroken (suc n) s = isBroken s || hasBroken n (drop (lengthOf (countIn s)) s)
+
+-- how many bytes the n records are by their m
+unfoldable pub spanOf : ℕ → List ℕ → ℕ
+spanOf zero s = 0
+spanOf (suc n) s = lengthOf (countIn s) + spanOf n (drop (lengthOf (countIn s)) s)
+
+-- how many bytes the n records have that bytes start with; 0 where one is broken
+unfoldable pub recordsLength : ℕ → List ℕ → ℕ
+recordsLength n s = cond (hasBroken n s) 0 (spanOf n s)
 
 -- S-8: "then a byte: holder 2 bits, feeder 2, yaku 1 (0 for 28), three zero bits", the first of the bytes after the header
 abbrev pub holderIn : List ℕ → ℕ
@@ -59,14 +79,18 @@ withHeader n = cond (eqb n 0) 0 (n + 1)
 abbrev pub winLength : ℕ → List ℕ → ℕ
 winLength argument rest = cond (eqb argument 0) (withHeader (recordLength rest)) 0
 
+-- S-6: "its argument being how many records follow"; bad: "an argument of 0 or over 3, a record with m over 4, or missing bytes"
+abbrev pub manyLength : ℕ → List ℕ → ℕ
+manyLength argument rest = cond (eqb argument 0 || ltb 3 argument) 0 (withHeader (recordsLength argument rest))
+
 -- S-8: "argument 0, then a byte"; bad: "any other form is 14"
 abbrev pub feedLength : ℕ → List ℕ → ℕ
 feedLength argument rest = cond (eqb argument 0) (cond (isOtherForm rest) 0 2) 0
 
--- of a kind: of riichi, draw and chombo the header alone; bad: "kind over 3" other than S-8's
+-- of a kind: of riichi, draw and chombo the header alone; bad: "kind over 3" other than S-6's and S-8's
 unfoldable pub lengthBy : ℕ → ℕ → List ℕ → ℕ
 lengthBy kind argument rest =
-    cond (eqb kind riichiKind) 1 (cond (eqb kind winKind) (winLength argument rest) (cond (eqb kind drawKind) 1 (cond (eqb kind chomboKind) 1 (cond (eqb kind feedKind) (feedLength argument rest) 0))))
+    cond (eqb kind riichiKind) 1 (cond (eqb kind winKind) (winLength argument rest) (cond (eqb kind drawKind) 1 (cond (eqb kind chomboKind) 1 (cond (eqb kind manyKind) (manyLength argument rest) (cond (eqb kind feedKind) (feedLength argument rest) 0)))))
 
 -- how many bytes the entry has that bytes start with, "from its header on"; 0 where there is none
 unfoldable pub entryLength : List ℕ → ℕ

@@ -1,7 +1,7 @@
-// The log (01, Log; 02, S-8): the kinds of its entries, and Next entry. The public calls take all input.
+// The log (01, Log; 02, S-6 and S-8): the kinds of its entries, and Next entry. The public calls take all input.
 ghost use mathlib.Core.Path.{_≡_};
-ghost use Prim.Native.Nat.{_+_, _/_, _%_};
-ghost use Rattle.log.specs.Kinds.{letterOf, winLength, feedLength, lengthBy, entryLength};
+ghost use Prim.Native.Nat.{_+_, _/_, _%_, _≤_};
+ghost use Rattle.log.specs.Kinds.{letterOf, recordsLength, withHeader, winLength, manyLength, feedLength, lengthBy, entryLength};
 ghost use Rattle.log.specs.Log.{partAt, refusalAt};
 
 // The kinds by their numbers. Each one's letter stands in `letter`, its length in `length_by`.
@@ -13,6 +13,8 @@ pub const DRAW: u8 = 2;
 
 pub const CHOMBO: u8 = 3;
 
+pub const MANY: u8 = 4;
+
 pub const FEED: u8 = 5;
 
 // The kind that a header byte names.
@@ -22,7 +24,7 @@ pub fn kind(header: u8) -> u8
     header / 16
 }
 
-// A header byte's argument: a seat, or who is ready.
+// A header byte's argument: a seat, who is ready, or how many records follow.
 pub fn argument(header: u8) -> u8
     ensures { λ r. ⌜ r ≡ header % 16 ⌝ }
 {
@@ -63,10 +65,41 @@ pub fn letter(kind: u8) -> u8
     if kind == DRAW {
         return b'D';
     }
+    if kind == MANY {
+        return b'M';
+    }
     if kind == FEED {
         return b'P';
     }
     b'C'
+}
+
+// How many bytes n records have that lie end to end from the start of bytes, 0 where one is broken.
+fn records_length(n: u8, s: &[u8]) -> usize
+    ensures { λ r. ⌜ r ≡ recordsLength n (now (s .entry)) ⌝ }
+{
+    let mut at: usize = 0;
+    let mut left = n;
+    while 0 < left {
+        let k = record_lengths::record_length(&s[at..]);
+        if k == 0 {
+            return 0;
+        }
+        at += k;
+        left -= 1;
+    }
+    at
+}
+
+// A header and the bytes that follow it; 0 stays 0.
+fn with_header(n: usize) -> usize
+    requires { ⌜ n ≤ 39 ⌝ }
+    ensures { λ r. ⌜ r ≡ withHeader n ⌝ }
+{
+    if n == 0 {
+        return 0;
+    }
+    n + 1
 }
 
 // How many bytes a win has, its header included, by its argument and the bytes after the header; 0 where it is bad.
@@ -76,11 +109,20 @@ fn win_length(argument: u8, rest: &[u8]) -> usize
     if argument != 0 {
         return 0;
     }
-    let n = record_lengths::record_length(rest);
-    if n == 0 {
+    with_header(record_lengths::record_length(rest))
+}
+
+// The same of one to three rons on one tile: so many records follow.
+fn many_length(argument: u8, rest: &[u8]) -> usize
+    ensures { λ r. ⌜ r ≡ manyLength argument (now (rest .entry)) ⌝ }
+{
+    if argument == 0 {
         return 0;
     }
-    n + 1
+    if 3 < argument {
+        return 0;
+    }
+    with_header(records_length(argument, rest))
 }
 
 // The same of a feed: one byte follows, with its last three bits zero.
@@ -105,6 +147,9 @@ fn length_by(kind: u8, argument: u8, rest: &[u8]) -> usize
 {
     if kind == WIN {
         return win_length(argument, rest);
+    }
+    if kind == MANY {
+        return many_length(argument, rest);
     }
     if kind == FEED {
         return feed_length(argument, rest);

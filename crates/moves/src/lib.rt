@@ -16,8 +16,8 @@ use form::set_marks;
 use ledger::Game;
 use ledger::LAST_HAND;
 
-// The scores with what each seat is given.
-fn pay(s: [i32; 4], by: [i32; 4]) -> [i32; 4]
+// The scores with what each seat is given; also what two wins give each seat.
+pub fn pay(s: [i32; 4], by: [i32; 4]) -> [i32; 4]
     requires { ⌜ Small s × Small by ⌝ }
     ensures { λ r. ⌜ r ≡ paid s by ⌝ }
 {

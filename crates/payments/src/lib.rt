@@ -10,9 +10,9 @@ ghost use Rattle.hand.specs.Hand.{isRon};
 ghost use Rattle.hand.specs.Refusals.{wrongDiscarder};
 ghost use Rattle.score.specs.laws.Z.{Within};
 ghost use Rattle.ledger.specs.Ledger.{lastHand, isSet, settles, repeatGives, wholeOf, fedPays, shareOf, fineOf};
-ghost use Rattle.ledger.specs.laws.Bounds.{amount, mostChange, mostSticks};
+ghost use Rattle.ledger.specs.laws.Bounds.{amount, mostChange, mostSticks, mostGift};
 ghost use Rattle.ledger.specs.laws.Fines.{finedBy};
-ghost use Rattle.ledger.specs.laws.Sums.{Small, Changes};
+ghost use Rattle.ledger.specs.laws.Sums.{Small, Changes, Gifts};
 use form::count_true;
 use hand::Fields;
 
@@ -227,7 +227,7 @@ pub fn added(f: Fields, fed: u8, n: u32) -> [i32; 4]
 // What a win gives a seat: its change, what the counters add, and the sticks if it wins.
 fn winning(change: i32, added: i32, wins: bool, sticks: u32) -> i32
     requires { ⌜ Within change mostChange × Within added mostChange × (sticks ≤ mostSticks) ⌝ }
-    ensures { λ r. ⌜ (r ≡ change +ℤ added +ℤ cond wins (pos (1000 * sticks)) (pos 0)) × Within r amount ⌝ }
+    ensures { λ r. ⌜ (r ≡ change +ℤ added +ℤ cond wins (pos (1000 * sticks)) (pos 0)) × Within r mostGift ⌝ }
 {
     let sum = change + added;
     if wins {
@@ -240,7 +240,7 @@ fn winning(change: i32, added: i32, wins: bool, sticks: u32) -> i32
 // What a win gives each seat: its change, what the counters add, and the winner the sticks.
 pub fn winnings(c: [i32; 4], a: [i32; 4], winner: u8, sticks: u32) -> [i32; 4]
     requires { ⌜ Changes c × Changes a × (sticks ≤ mostSticks) ⌝ }
-    ensures { λ r. ⌜ (r ≡ tabulate 4 0 (λ i. getD c i (pos 0) +ℤ getD a i (pos 0) +ℤ cond (eqb i winner) (pos (1000 * sticks)) (pos 0))) × Small r ⌝ }
+    ensures { λ r. ⌜ (r ≡ tabulate 4 0 (λ i. getD c i (pos 0) +ℤ getD a i (pos 0) +ℤ cond (eqb i winner) (pos (1000 * sticks)) (pos 0))) × Gifts r ⌝ }
 {
     [
         winning(c[0], a[0], 0 == winner, sticks),

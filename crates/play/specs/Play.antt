@@ -1,4 +1,4 @@
--- A log booked into a game (01, Log; 02, S-8): its bookings, one entry booked, and the text that program `tally` prints.
+-- A log booked into a game (01, Log; 02, S-6 and S-8): its bookings, one entry booked, and the text that program `tally` prints.
 use mathlib.Core.Path.{_≡_}
 use mathlib.Core.Bool.{_||_, cond}
 use mathlib.Core.List.{List, [], _∷_, _++_, map}
@@ -6,9 +6,9 @@ use Prim.Native.Nat.{ℕ, _+_}
 use lib.Dec.{ltb, eqb}
 use lib.ListN.{length, take, drop}
 use Rattle.ledger.specs.declared.Game.{Game}
-use Rattle.ledger.specs.Booking.{Booking, riichi, win, draw, chombo, feed}
+use Rattle.ledger.specs.Booking.{Booking, riichi, win, draw, chombo, feed, many}
 use Rattle.ledger.specs.Ledger.{fresh, refusalFor, after}
-use Rattle.log.specs.Kinds.{riichiKind, winKind, drawKind, feedKind, letterOf, kindIn, argumentIn, holderIn, feederIn, yakuIn}
+use Rattle.log.specs.Kinds.{riichiKind, winKind, drawKind, manyKind, feedKind, letterOf, kindIn, argumentIn, holderIn, feederIn, yakuIn}
 use Rattle.log.specs.Log.{partAt, refusalAt, partsOf}
 use Rattle.text.specs.Text.{lineOf}
 use Rattle.play.specs.declared.BookedEntry.{BookedEntry}
@@ -16,14 +16,15 @@ use Rattle.play.specs.declared.Step.{Step}
 use Rattle.play.specs.declared.Walk.{Walk}
 use Rattle.play.specs.declared.Printed.{Printed}
 
--- "kind (0 riichi, 1 win, 2 draw, 3 chombo)"; "kind 5" names a feeder (02, S-8); Next entry gives no other
+-- "kind (0 riichi, 1 win, 2 draw, 3 chombo)"; "kind 4 .. its argument being how many records follow" (02, S-6); "kind 5" names a feeder (02, S-8); Next entry gives no other
 abbrev pub bookingBy : ℕ → ℕ → List ℕ → Booking
 bookingBy kind argument s =
     cond (eqb kind riichiKind) (riichi argument)
     (cond (eqb kind winKind) (win s)
     (cond (eqb kind drawKind) (draw argument)
+    (cond (eqb kind manyKind) (many argument s)
     (cond (eqb kind feedKind) (feed (holderIn s) (feederIn s) (yakuIn s))
-    (chombo argument))))
+    (chombo argument)))))
 
 -- of a win "its record follows" the header, and "is passed on as that stretch"
 unfoldable pub bookingOf : List ℕ → Booking

@@ -1,4 +1,4 @@
-// A log booked into a game, entry by entry, and where a walk over it stands (01, Log; 02, S-8). The public calls take all input.
+// A log booked into a game, entry by entry, and where a walk over it stands (01, Log; 02, S-6 and S-8). The public calls take all input.
 ghost use mathlib.Core.Path.{_≡_};
 ghost use lib.ListN.{getD};
 ghost use Rattle.ledger.specs.Booking as Booking;
@@ -43,7 +43,7 @@ fn book_feed(g: Game, s: &[u8]) -> Outcome
     game::feed(g, holder, feeder, yaku)
 }
 
-// The booking of a kind, with its argument and the bytes after the header: of a win its record, of a named feeder who and for what.
+// The booking of a kind, with its argument and the bytes after the header: of a win its record, of several rons all of them, of a named feeder who and for what.
 fn book(g: Game, kind: u8, argument: u8, s: &[u8]) -> Outcome
     ensures { λ r. ⌜ Booked g (bookingBy kind argument (now (s .entry))) (r .refusal) (r .game) ⌝ }
 {
@@ -55,6 +55,9 @@ fn book(g: Game, kind: u8, argument: u8, s: &[u8]) -> Outcome
     }
     if kind == log::DRAW {
         return game::draw(g, argument);
+    }
+    if kind == log::MANY {
+        return sets::many(g, argument, s);
     }
     if kind == log::FEED {
         return book_feed(g, s);

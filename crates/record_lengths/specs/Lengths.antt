@@ -1,4 +1,4 @@
--- How long the record is that bytes start with, by its m (01, Tiles and the hand record; Log: "its record follows").
+-- How long the record is that bytes start with, by its m (01, Tiles and the hand record; Log: "its record follows"; 02, S-6: "as long as its m says").
 use mathlib.Core.Bool.{Bool, _||_, cond}
 use mathlib.Core.List.{List}
 use Prim.Native.Nat.{ℕ}

@@ -8,9 +8,10 @@ ghost use Rattle.hand.specs.Refusals.{wrongDiscarder};
 ghost use Rattle.ledger.specs.Booking as Booking;
 ghost use Rattle.ledger.specs.Ledger.{lastHand, fedIn, holdsFourWinds};
 ghost use Rattle.ledger.specs.Runs.{Booked};
+ghost use Rattle.ledger.specs.laws.Bounds.{mostSticks};
 ghost use Rattle.ledger.specs.laws.Form.{Open};
 ghost use Rattle.ledger.specs.laws.Sums.{Changes};
-ghost use Rattle.wins.specs.laws.Won.{Won};
+ghost use Rattle.wins.specs.laws.Won.{nothing, Won, IsSettled};
 use game::Outcome;
 use hand::Fields;
 use hand::Hand;
@@ -25,7 +26,7 @@ fn mismatch(riichi: u8, declared: bool) -> bool
 }
 
 // The counter after a win, the dealer's or a child's, where there were n.
-fn counter_after(n: u32, dealers: bool) -> u32
+pub fn counter_after(n: u32, dealers: bool) -> u32
     requires { ⌜ n ≤ lastHand ⌝ }
     ensures { λ r. ⌜ r ≡ cond dealers (n + 1) 0 ⌝ }
 {
@@ -58,45 +59,69 @@ fn fed_by(g: Game, h: Hand, yaku: [bool; 37]) -> u8
     0
 }
 
-// The win of a record that read, in an open game: its fields, what it scores, and who fed the yaku that is reported.
-fn win_scored(g: Game, f: Fields, v: Scored, fed: u8) -> Outcome
-    requires { ⌜ Open g × (f .winner ≤ 3) × (f .discarder ≤ 3) × (wrongDiscarder f ≡ false) × Changes (v .changes) × (fed ≤ 4) × (fed ≡ 1 + f .winner → ⊥) ⌝ }
-    ensures { λ r. ⌜ Won g f v fed (r .refusal) (r .game) ⌝ }
+// What a win comes to: 0, the winner and what it gives each seat; or the refusal, and nothing.
+pub struct Settled {
+    pub refusal: u8,
+    pub winner: u8,
+    pub gives: [i32; 4],
+}
+
+// Nothing, with a refusal.
+pub fn refused(refusal: u8) -> Settled
+    ensures { λ r. ⌜ r ≡ nothing refusal ⌝ }
+{
+    let gives = [0i32, 0, 0, 0];
+    Settled {
+        refusal,
+        winner: 0,
+        gives,
+    }
+}
+
+// What the win of a record that read comes to, by its fields, what it scores, and who fed the yaku that is reported.
+fn settle_scored(g: Game, f: Fields, v: Scored, fed: u8, n: u32, k: u32) -> Settled
+    requires { ⌜ Open g × (f .winner ≤ 3) × (f .discarder ≤ 3) × (wrongDiscarder f ≡ false) × Changes (v .changes) × (fed ≤ 4) × (fed ≡ 1 + f .winner → ⊥) × (n ≤ lastHand) × (k ≤ mostSticks) ⌝ }
+    ensures { λ r. ⌜ Won g f v fed n k r ⌝ }
 {
     if 0 < v.refusal {
-        return Outcome {
-            refusal: v.refusal,
-            game: g,
-        };
+        return refused(v.refusal);
     }
     let d = g.declared;
     let winner = f.winner;
     let i = winner as usize;
     if mismatch(f.riichi, 0 < d[i]) {
-        return Outcome {
-            refusal: 11,
-            game: g,
-        };
+        return refused(11);
     }
-    let dealers = winner == g.dealer;
     let changes = v.changes;
-    let c = payments::won(f, changes, fed, dealers);
-    let a = payments::added(f, fed, g.counter);
-    let k = moves::finish(
-        g,
-        payments::winnings(c, a, winner, g.sticks),
-        0,
-        !dealers,
-        counter_after(g.counter, dealers),
-    );
-    Outcome {
+    let c = payments::won(f, changes, fed, winner == g.dealer);
+    let a = payments::added(f, fed, n);
+    let gives = payments::winnings(c, a, winner, k);
+    Settled {
         refusal: 0,
-        game: k,
+        winner,
+        gives,
     }
 }
 
-// Win: the record's best reading and the counters are paid, by article 67 where its yaku was fed, and the winner takes the sticks. Refused with 9, a game that is not open; Score's 1 to 7;
-// 11, a riichi in the record without a declaration of the winner, or the reverse.
+// The settling of one win in an open game, by its record, the winner taking n counters and k sticks: the record's best reading and the counters are paid,
+// by article 67 where its yaku was fed. Refused with Score's 1 to 7; 11, a riichi in the record without a declaration of the winner, or the reverse.
+pub fn settle(g: Game, s: &[u8], n: u32, k: u32) -> Settled
+    requires { ⌜ Open g × (n ≤ lastHand) × (k ≤ mostSticks) ⌝ }
+    ensures { λ r. ⌜ IsSettled g (now (s .entry)) n k r ⌝ }
+{
+    let r = hand_record::read_hand(s);
+    if 0 < r.refusal {
+        return refused(r.refusal);
+    }
+    let h = r.hand;
+    let v = score::settle(h, g.dealer, g.wind);
+    let yaku = v.yaku;
+    let fed = fed_by(g, h, yaku);
+    let f = h.fields;
+    settle_scored(g, f, v, fed, n, k)
+}
+
+// Win: the record is settled, and the winner takes the counters and the sticks. Refused with 9, a game that is not open; what its settling is refused with.
 pub fn win(g: Game, s: &[u8]) -> Outcome
     ensures { λ r. ⌜ Booked g (Booking.win (now (s .entry))) (r .refusal) (r .game) ⌝ }
 {
@@ -106,17 +131,18 @@ pub fn win(g: Game, s: &[u8]) -> Outcome
             game: g,
         };
     }
-    let r = hand_record::read_hand(s);
-    if 0 < r.refusal {
+    let t = settle(g, s, g.counter, g.sticks);
+    if 0 < t.refusal {
         return Outcome {
-            refusal: r.refusal,
+            refusal: t.refusal,
             game: g,
         };
     }
-    let h = r.hand;
-    let v = score::settle(h, g.dealer, g.wind);
-    let yaku = v.yaku;
-    let fed = fed_by(g, h, yaku);
-    let f = h.fields;
-    win_scored(g, f, v, fed)
+    let dealers = t.winner == g.dealer;
+    let by = t.gives;
+    let k = moves::finish(g, by, 0, !dealers, counter_after(g.counter, dealers));
+    Outcome {
+        refusal: 0,
+        game: k,
+    }
 }

@@ -15,10 +15,11 @@ pub struct Games {
     ledger: Ledger,
 }
 
-/// A booking in words, its record in hexadecimal.
+/// A booking in words, its records in hexadecimal.
 fn words(booking: &Booking) -> String {
     match booking {
         Booking::Win(record) => format!("Win({})", to_hex(record)),
+        Booking::Many { number, records } => format!("Many({number}, {})", to_hex(records)),
         other => format!("{other:?}"),
     }
 }
@@ -45,6 +46,7 @@ impl Games {
             Booking::Win(record) => archive::win(game, record),
             Booking::Draw(bits) => archive::draw(game, *bits),
             Booking::Chombo(seat) => archive::chombo(game, *seat),
+            Booking::Many { number, records } => archive::many(game, *number, records),
             Booking::Feed { holder, feeder, yaku } => archive::feed(game, *holder, *feeder, *yaku),
         };
         self.settle(differences, before, booking, got, input);

@@ -235,6 +235,7 @@ extern "C" {
     fn hb_win(game: &mut Game, record: *const u8, len: usize) -> u8;
     fn hb_draw(game: &mut Game, bits: u8) -> u8;
     fn hb_chombo(game: &mut Game, seat: u8) -> u8;
+    fn hb_many(game: &mut Game, number: u8, records: *const u8, len: usize) -> u8;
     fn hb_feed(game: &mut Game, holder: u8, feeder: u8, yaku: u8) -> u8;
     fn hb_next(log: *const u8, len: usize, at: usize) -> NextEntry;
     fn hb_book(game: &mut Game, part: *const u8, len: usize) -> u8;
@@ -309,6 +310,11 @@ pub fn draw(game: &mut Game, bits: u8) -> u8 {
 /// Chombo.
 pub fn chombo(game: &mut Game, seat: u8) -> u8 {
     unsafe { hb_chombo(game, seat) }
+}
+
+/// Many: so many rons on one tile.
+pub fn many(game: &mut Game, number: u8, records: &[u8]) -> u8 {
+    unsafe { hb_many(game, number, records.as_ptr(), records.len()) }
 }
 
 /// Feed.

@@ -4,7 +4,7 @@ use archive::{same, Games, Walk};
 use other_scorer::damage::noise;
 use other_scorer::example::{example, End};
 use other_scorer::game::book;
-use other_scorer::log::{booking, next, size, tally_lines, Next, FEED, LONGEST};
+use other_scorer::log::{booking, next, size, tally_lines, Next, FEED, LONGEST, MANY};
 use other_scorer::notation::hex::to_hex as hex;
 use other_scorer::rng::Rng;
 use other_scorer::{Booking, Game};
@@ -16,8 +16,9 @@ use crate::{buffers, cases, chance, games, lines};
 const PAST: usize = 12;
 const TRIED: usize = 2000;
 
-/// The bookings of a chain in a game of any state.
+/// The bookings of a chain in a game of any state, and the chains for each log.
 const CHAIN: usize = 10;
+const CHAINS: usize = 25;
 
 /// So many logs meet every case.
 const ENOUGH: usize = 64;
@@ -29,6 +30,7 @@ fn section(booking: &Booking) -> &'static str {
         Booking::Win(_) => "Win by refusal",
         Booking::Draw(_) => "Draw by refusal",
         Booking::Chombo(_) => "Chombo by refusal",
+        Booking::Many { .. } => "Many by refusal",
         Booking::Feed { .. } => "Feed by refusal",
     }
 }
@@ -75,18 +77,19 @@ fn played(rng: &mut Rng, keep: bool) -> Vec<u8> {
     log
 }
 
-/// Entries of one byte with any argument, feeds, mostly in form, and wins of any bytes; at times a feed's first byte last.
+/// Entries of one byte with any argument, feeds, mostly in form, and wins and sets of any bytes; at times a feed's first byte last.
 fn sown(rng: &mut Rng) -> Vec<u8> {
     let mut log = Vec::new();
     for _ in 0..rng.below(80) {
         match rng.below(8) {
             0 => log.extend(Booking::Win(noise(rng)).bytes()),
             1 => log.push(rng.next() as u8),
+            3 => log.extend(Booking::Many { number: rng.within(0, 4), records: [noise(rng), noise(rng)].concat() }.bytes()),
             2 => log.extend([0x50 | rng.pick(&[0, 0, 0, 1, 8]), rng.next() as u8 & rng.pick(&[0xf8, 0xf8, 0xf8, 0xff])]),
             _ => log.push(rng.pick(&[0x00, 0x20, 0x30]) | rng.within(0, 15)),
         }
     }
-    log.extend(rng.percent(20).then_some(0x50));
+    log.extend(rng.percent(50).then_some(0x50));
     log
 }
 
@@ -134,14 +137,25 @@ fn make(rng: &mut Rng, index: usize) -> Vec<u8> {
     log
 }
 
-/// The ways in which an entry of a feed is bad.
-const DAMAGED: [&str; 3] = ["feed in a log: bytes missing", "feed in a log: argument not 0", "feed in a log: a zero bit set"];
+/// The ways in which an entry of a set or a feed is bad.
+const DAMAGED: [&str; 6] = [
+    "set in a log: no records or over three",
+    "set in a log: m over 4",
+    "set in a log: bytes missing",
+    "feed in a log: bytes missing",
+    "feed in a log: argument not 0",
+    "feed in a log: a zero bit set",
+];
 
-/// How the feed that a stretch begins with is bad (02, S-8).
-fn damaged_feed(rest: &[u8]) -> Option<&'static str> {
-    match size(rest) {
-        Ok(_) => None,
-        Err(fault) => Some(DAMAGED[fault - 3]),
+/// How the set or feed that a stretch begins with is bad (02, S-6 and S-8).
+fn damaged_entry(rest: &[u8]) -> Option<&'static str> {
+    let fault = if rest.is_empty() { return None } else { size(rest).err()? };
+    match (rest[0] >> 4, fault) {
+        (MANY, 6) => Some(DAMAGED[0]),
+        (MANY, 2) => Some(DAMAGED[1]),
+        (MANY, _) => Some(DAMAGED[2]),
+        (FEED, _) => Some(DAMAGED[fault]), // 3 to 5
+        _ => None,
     }
 }
 
@@ -150,9 +164,7 @@ fn compare_entries(report: &mut Report, log: &[u8]) {
     let last = log.len() + 2;
     for at in (0..=last).chain([usize::MAX - 16, usize::MAX - 1, usize::MAX]) {
         let wanted = same::entry(log, at);
-        if let Some(case) = log.get(at..).filter(|rest| rest.first().is_some_and(|header| header >> 4 == FEED)).and_then(damaged_feed) {
-            report.meet(case);
-        }
+        log.get(at..).and_then(damaged_entry).into_iter().for_each(|case| report.meet(case));
         match (wanted.refusal, wanted.end) {
             (0, 0) => report.count("entries by kind", wanted.kind),
             (0, _) => report.count("no entry (0 end, 14 refused)", 0u8),
@@ -245,7 +257,7 @@ fn compare_chain(report: &mut Report, rng: &mut Rng) {
     }
 }
 
-/// Compares so many random logs, and ten chains of bookings for each.
+/// Compares so many random logs, and some chains of bookings for each.
 pub fn run(report: &mut Report, rng: &mut Rng, count: usize) {
     if count >= ENOUGH {
         cases::CASES.iter().chain(&DAMAGED).for_each(|case| report.need(case));
@@ -256,6 +268,6 @@ pub fn run(report: &mut Report, rng: &mut Rng, count: usize) {
         compare_entries(report, &log);
         compare_walk(report, rng, &log);
         compare_lines(report, rng, &log);
-        (0..10).for_each(|_| compare_chain(report, rng));
+        (0..CHAINS).for_each(|_| compare_chain(report, rng));
     }
 }

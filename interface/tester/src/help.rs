@@ -139,6 +139,7 @@ A text of bookings gives the bytes of a log; the bytes of a log, or hexadecimal 
   win 234567m345p67s22s+8s seat=1 ron=3     as for `tester hand`, or win HEX; dealer and wind are the game's
   draw 0 2                                  seats 0 and 2 are ready; draw alone: nobody
   chombo 3
+  many 234567m345p67s22s+8s seat=1 ron=3 / HAND / HAND     one to three rons on one tile, each as for a win
   feed holder=1 feeder=3 yaku=28            seat 3 feeds seat 1's three dragon triplets; 29: four wind triplets
   bytes 40 ff                               these bytes as they are
   # a comment
@@ -156,11 +157,11 @@ The game of a log, text or bytes as for `tester log`: a line for each entry with
 its refusal (0 accepted), the scores, sticks and counter after it, and the feeders named (3 to 1 28: seat 3 feeds yaku 28
 to seat 1), if there are any. Bytes past 65,536 are not read.
 
-  --words    why an entry was refused, whose chombo a draw was, or who fed a win and pays for it, below it
+  --words    why an entry was refused, whose chombo a draw was, who fed a win and pays for it, or who takes
+             sticks and counters of several rons, below it
   --bytes    FILE holds the bytes of a log, even if they look like text
 
-For scripts: the lines of the program tally; with --words the refusal, whose chombo a draw was, or who fed a win, at the end of
-its line.
+For scripts: the lines of the program tally; with --words what it says at the end of a line.
 ";
 
 pub const DAMAGE: &str = "\

@@ -1,14 +1,14 @@
 //! Each refusal in words, and which of its conditions was met, worked out by the other scorer.
 
-use other_scorer::codec::{length, length_fault, meld_count, unpack, LENGTH_FAULTS};
+use other_scorer::codec::{length, length_fault, meld_count, read, unpack, LENGTH_FAULTS};
 use other_scorer::fed;
-use other_scorer::game::liable;
+use other_scorer::game::{book, liable};
 use other_scorer::log::{size, ENTRY_FAULTS};
 use other_scorer::notation::text;
 use other_scorer::record::RON;
 use other_scorer::score::valued;
 use other_scorer::sound::{field_faults, situation_faults, FIELD_FAULTS, SITUATION_FAULTS};
-use other_scorer::{unfinished, Booking, Game};
+use other_scorer::{set, unfinished, Booking, Game, Hand};
 
 use crate::names::count;
 
@@ -35,6 +35,7 @@ pub fn refusal(number: u8) -> &'static str {
         14 => "the log's entry is bad or cut",
         15 => "a discard is no kind",
         16 => "the page is shorter than a slip",
+        17 => "the hands are no rons on one tile, or none or over three",
         18 => "the feed does not fit, or is named already",
         19 => "no such suit or size, or the buffer is shorter than the list",
         22 => "the claim is faulty",
@@ -116,7 +117,23 @@ pub fn of_unfinished(refusal: u8, bytes: &[u8], discards: &[u8]) -> Vec<String> 
     }
 }
 
-/// The conditions met by the refusal of a booking in a game (01, The game; 02, S-8).
+/// The conditions met by the refusal of a set: how its hands do not belong together, or those of the first record that meets the
+/// refusal, with its number from 1 (02, S-6).
+fn of_set(refusal: u8, list: &[&[u8]], game: &Game) -> Vec<String> {
+    if refusal == 17 {
+        let hands: Vec<Hand> = list.iter().filter_map(|record| read(record).ok()).collect();
+        return holding(&set::FAULTS, &set::faults(&hands));
+    }
+    let refused = |record: &&[u8]| match read(record) {
+        Err(_) => refusal <= 5,
+        Ok(_) => refusal > 5 && book(&mut { *game }, &Booking::Win(record.to_vec())) != 0,
+    };
+    let at = list.iter().position(refused);
+    let own = at.map_or(Vec::new(), |at| of_booking(refusal, &Booking::Win(list[at].to_vec()), game));
+    own.iter().map(|why| format!("record {}: {why}", at.unwrap_or(0) + 1)).collect()
+}
+
+/// The conditions met by the refusal of a booking in a game (01, The game; 02, S-6 and S-8).
 pub fn of_booking(refusal: u8, booking: &Booking, game: &Game) -> Vec<String> {
     match (refusal, booking) {
         (9, _) if game.hands == 200 => vec!["200 hands are finished".into()],
@@ -132,6 +149,7 @@ pub fn of_booking(refusal: u8, booking: &Booking, game: &Game) -> Vec<String> {
             let feeder = game.feeder(*holder, *yaku).map(|seat| format!("seat {seat} is named for yaku {yaku} of seat {holder}"));
             feeder.into_iter().collect()
         }
+        (_, Booking::Many { number, records }) => of_set(refusal, &set::split(*number, records), game),
         (_, Booking::Win(record)) => of_record(refusal, record, game.dealer, game.wind),
         _ => Vec::new(),
     }
@@ -144,15 +162,27 @@ pub fn of_draw(booking: &Booking, game: &Game) -> Option<String> {
     (!seats.is_empty()).then(|| format!("a chombo, declared and not ready: {}", seats.join("; ")))
 }
 
-/// Who pays an accepted win that was fed, by article 67 (02, S-8).
-pub fn of_win(booking: &Booking, game: &Game) -> Option<String> {
-    let Booking::Win(record) = booking else { return None };
-    let hand = unpack(record).ok()?.0;
-    let (feeder, yaku) = (liable(game, &hand)?, fed::yaku(&hand, game.dealer, game.wind)?);
+/// Who pays an accepted win that was fed, by article 67, and who takes sticks and counters of several (02, S-6 and S-8).
+pub fn of_wins(booking: &Booking, game: &Game) -> Option<String> {
+    let hands = match booking {
+        Booking::Win(record) => read(record).map(|hand| vec![hand]),
+        Booking::Many { number, records } => set::hands(*number, records),
+        _ => return None,
+    };
+    let hands = hands.ok()?;
+    let first = (hands.len() > 1).then(|| format!("sticks and counters are seat {}'s", set::first_winner(&hands)));
+    let counters = if hands.len() > 1 { ["", ""] } else { [" and the counters", ", with the counters"] };
+    let said: Vec<String> = first.into_iter().chain(hands.iter().filter_map(|hand| of_fed(hand, game, counters))).collect();
+    (!said.is_empty()).then(|| said.join("; "))
+}
+
+/// Who pays a win that was fed, by article 67, with words on the counters by ron and by tsumo (02, S-8).
+fn of_fed(hand: &Hand, game: &Game, counters: [&str; 2]) -> Option<String> {
+    let (feeder, yaku) = (liable(game, hand)?, fed::yaku(hand, game.dealer, game.wind)?);
     let pays = match hand.how {
         RON if hand.discarder == feeder => "pays all, as the discarder too".to_string(),
-        RON => format!("pays half, seat {} the other half and the counters", hand.discarder),
-        _ => "pays the whole, with the counters".to_string(),
+        RON => format!("pays half, seat {} the other half{}", hand.discarder, counters[0]),
+        _ => format!("pays the whole{}", counters[1]),
     };
     Some(format!("seat {feeder} fed yaku {yaku} to seat {} and {pays}", hand.winner))
 }

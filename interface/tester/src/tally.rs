@@ -8,12 +8,13 @@ use crate::input;
 use crate::log::entries;
 use crate::names::{count, points, wind};
 use crate::page::{table, Page};
-use crate::refusals::{of_booking, of_draw, of_entry, of_win, sentence};
+use crate::refusals::{of_booking, of_draw, of_entry, of_wins, sentence};
 use crate::text;
 use crate::walk::{whole, Step, Walk};
 use crate::words::{Bad, Words};
 
-/// The game of a log, entry by entry; with --words also why an entry is refused, that a draw was a chombo, or that a win was fed.
+/// The game of a log, entry by entry; with --words also why an entry is refused, that a draw was a chombo, that a win was
+/// fed, or who takes sticks and counters of several.
 pub fn run(core: &mut Core, mut words: Words) -> Result<String, Bad> {
     let (plain, raw, why) = (words.take_flag("--plain"), words.take_flag("--bytes"), words.take_flag("--words"));
     let log = input::log(core, &words, raw)?.bytes;
@@ -46,11 +47,11 @@ pub fn run(core: &mut Core, mut words: Words) -> Result<String, Bad> {
     Ok(page.finish())
 }
 
-/// Why an entry was refused, or what an accepted draw was besides one, or who pays a win that was fed.
+/// Why an entry was refused, or what an accepted draw was besides one, or who pays and takes what of wins that are no plain ones.
 fn remark(step: &Step) -> Option<String> {
     let before = &step.before.other;
     match step.refusal {
-        0 => of_draw(&step.booking, before).or_else(|| of_win(&step.booking, before)),
+        0 => of_draw(&step.booking, before).or_else(|| of_wins(&step.booking, before)),
         refusal => Some(sentence(refusal, &of_booking(refusal, &step.booking, before))),
     }
 }

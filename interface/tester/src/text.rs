@@ -4,7 +4,7 @@ use other_scorer::codec::unpack;
 use other_scorer::game::is_ready;
 use other_scorer::notation::hex::to_hex;
 use other_scorer::notation::print;
-use other_scorer::Booking;
+use other_scorer::{set, Booking};
 
 use crate::both::Core;
 use crate::input;
@@ -25,9 +25,9 @@ fn entry(core: &mut Core, mut words: Words) -> Result<Vec<u8>, Bad> {
     let first = words.texts().first().map(|word| word.to_ascii_lowercase());
     let kind = match first.as_deref() {
         None => return Ok(Vec::new()),
-        Some(kind @ ("riichi" | "win" | "draw" | "chombo" | "feed" | "bytes")) => kind,
+        Some(kind @ ("riichi" | "win" | "draw" | "chombo" | "many" | "feed" | "bytes")) => kind,
         Some(_) => {
-            let why = "a line begins with riichi, win, draw, chombo, feed or bytes (--bytes if the file is no text)";
+            let why = "a line begins with riichi, win, draw, chombo, many, feed or bytes (--bytes if the file is no text)";
             return Err(words.bad(0, why));
         }
     };
@@ -37,6 +37,7 @@ fn entry(core: &mut Core, mut words: Words) -> Result<Vec<u8>, Bad> {
         "chombo" => Booking::Chombo(argument(&words)?),
         "draw" => Booking::Draw(ready(&words)?),
         "win" => Booking::Win(record(core, &words)?),
+        "many" => many(core, &words)?,
         "feed" => feed(words)?,
         _ => return input::bytes(&words).unwrap_or_else(|| Err(words.bad(0, "hexadecimal digits are needed"))),
     };
@@ -68,6 +69,16 @@ fn ready(words: &Words) -> Result<u8, Bad> {
     Ok(bits)
 }
 
+/// The rons of a set, as for a win, with / between them.
+fn many(core: &mut Core, words: &Words) -> Result<Booking, Bad> {
+    let parts = words.split("/");
+    if let Some(fourth) = parts.get(3) {
+        return Err(fourth.bad(0, "a fourth hand, at most 3 fit"));
+    }
+    let records: Vec<Vec<u8>> = parts.iter().map(|part| record(core, part)).collect::<Result<_, _>>()?;
+    Ok(Booking::Many { number: records.len() as u8, records: records.concat() })
+}
+
 /// Who fed whom with which yaku; the holder himself has a place in a log, and is refused by the game.
 fn feed(mut words: Words) -> Result<Booking, Bad> {
     let number = |low: u8, high: u8, why: &'static str| {
@@ -94,7 +105,7 @@ fn record(core: &mut Core, words: &Words) -> Result<Vec<u8>, Bad> {
     }
 }
 
-/// The line of a booking: a win in notation if that gives this very record, else in hexadecimal.
+/// The line of a booking.
 pub fn line(booking: &Booking) -> String {
     match booking {
         Booking::Riichi(seat) => format!("riichi {seat}"),
@@ -104,9 +115,16 @@ pub fn line(booking: &Booking) -> String {
             let seats = (0..4).filter(|&seat| is_ready(*bits, seat)).map(|seat| format!(" {seat}"));
             format!("draw{}", seats.collect::<String>())
         }
-        Booking::Win(record) => {
-            let notation = unpack(record).ok().filter(|(_, padding)| !padding).and_then(|(hand, _)| print(&hand));
-            format!("win {}", notation.unwrap_or_else(|| to_hex(record)))
+        Booking::Win(record) => format!("win {}", hand(record)),
+        Booking::Many { number, records } => {
+            let hands: Vec<String> = set::split(*number, records).into_iter().map(hand).collect();
+            format!("many {}", hands.join(" / "))
         }
     }
+}
+
+/// A record in notation if that gives this very record, else in hexadecimal.
+fn hand(record: &[u8]) -> String {
+    let notation = unpack(record).ok().filter(|(_, padding)| !padding).and_then(|(hand, _)| print(&hand));
+    notation.unwrap_or_else(|| to_hex(record))
 }

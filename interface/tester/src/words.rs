@@ -51,6 +51,23 @@ impl Words {
         self.list.iter().map(|(_, text)| text.as_str()).collect()
     }
 
+    /// The words left in parts, between words that are this one.
+    pub fn split(&self, at: &str) -> Vec<Words> {
+        let mut parts = vec![Words { source: self.source.clone(), list: Vec::new(), last: self.last.clone() }];
+        for word in &self.list {
+            let part = parts.last_mut().expect("a part");
+            if word.1 != at || part.list.is_empty() {
+                part.last = Some(word.clone());
+            }
+            if word.1 == at {
+                parts.push(Words { source: self.source.clone(), list: Vec::new(), last: Some(word.clone()) });
+            } else {
+                part.list.push(word.clone());
+            }
+        }
+        parts
+    }
+
     /// Takes the first word.
     pub fn take_first(&mut self) -> Option<String> {
         (!self.list.is_empty()).then(|| self.list.remove(0).1)

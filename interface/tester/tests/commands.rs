@@ -394,7 +394,7 @@ fn the_worked_logs() {
     assert_eq!(answer(&format!("tally {second} --plain")), lines);
     let out = answer(&format!("tally {second} --words"));
     assert!(out.contains("refusal 8, an argument is out of range: seat 4 over 3\n"), "{out}");
-    assert!(out.contains("stopped at byte 16, 40: refusal 14, the log's entry is bad or cut: no such kind\n"), "{out}");
+    assert!(out.contains("stopped at byte 16, 40: refusal 14, the log's entry is bad or cut: no records or over three\n"), "{out}");
     assert!(out.contains("3 entries, 1 refused; 2 hands finished; E2 is on\n"), "{out}");
     let third = answer(&format!("tally 2f 10 {LINE_1}"));
     let counters: Vec<&str> = third.lines().take(3).map(|line| line.split_whitespace().nth(if line.starts_with("entry") { 12 } else { 8 }).unwrap_or("")).collect();
@@ -466,10 +466,65 @@ fn a_win_that_was_fed() {
     let text = "feed holder=1 feeder=3 yaku=28\nwin 234m99pPPPFFFCC+C seat=1 tsumo indicator=5s\nfeed holder=1 feeder=1 yaku=28\n\
         feed holder=1 feeder=2 yaku=29\nfeed holder=1 feeder=3 yaku=29\nbytes 51  # refusal 14, the log's entry is bad or cut: feed argument not 0\n";
     assert_eq!(answer(&format!("log {log}")), text);
-    for (log, why) in [("50", "bytes missing"), ("50 71", "a zero bit of a feed set"), ("5f 70", "feed argument not 0"), ("60", "no such kind")] {
+    for (log, why) in [("50", "bytes missing"), ("50 71", "a zero bit of a feed set"), ("5f 70", "feed argument not 0"), ("60", "kind over 5")] {
         let out = answer(&format!("tally {log}"));
         assert!(out.contains(&format!(": refusal 14, the log's entry is bad or cut: {why}\n")), "{out}");
     }
+}
+
+#[test]
+fn rons_on_one_tile() {
+    let two = LINE_1.replacen("b8", "d8", 1);
+    let log = format!("2f 42 {LINE_1} {two} 41 {} 4f", LINE_1.replacen("b8", "20", 1));
+    let lines = "1 D 0 30000 30000 30000 30000 0\n2 M 0 30000 32300 32000 25700 0 sticks and counters are seat 1's\n\
+        3 M 17 30000 32300 32000 25700 0 refusal 17, the hands are no rons on one tile, or none or over three: a record isn't ron\n";
+    assert_eq!(answer(&format!("tally {log} --plain --words")), lines);
+    let hand = "234567m345p2267s+8s";
+    let text = format!(
+        "draw 0 1 2 3\nmany {hand} seat=1 ron=3 indicator=N / {hand} seat=2 ron=3 indicator=N\nmany {hand} seat=1 tsumo indicator=N\n\
+        bytes 4f  # refusal 14, the log's entry is bad or cut: no records or over three\n"
+    );
+    assert_eq!(answer(&format!("log {log}")), text);
+    let back = run_in(Path::new("."), "log - --plain", text.as_bytes());
+    assert_eq!(back.out.trim_end(), log.replace(' ', ""));
+    for (log, why) in [
+        ("40".into(), "no records or over three"),
+        ("44".into(), "no records or over three"),
+        (format!("42 {LINE_1}"), "bytes missing"),
+        (format!("42 {LINE_1} {}", &two[..24]), "bytes missing"),
+        (format!("42 {LINE_1} {}", two.replace("6402", "6782")), "m over 4"),
+    ] {
+        let out = answer(&format!("tally {log}"));
+        assert!(out.contains(&format!(": refusal 14, the log's entry is bad or cut: {why}\n")), "{out}");
+    }
+}
+
+#[test]
+fn refusals_of_a_set_say_which_record_meets_them() {
+    let hand = "234567m345p67s22s+8s";
+    for (text, words) in [
+        (format!("{hand} seat=1 ron=3 / {hand} seat=1 ron=3"), "17, the hands are no rons on one tile, or none or over three: two have one winner"),
+        (
+            format!("{hand} seat=1 ron=3 / {hand} seat=2 ron=0 last / 234567m345p78s22s+6s seat=0 ron=3 indicator=E"),
+            "17, the hands are no rons on one tile, or none or over three: they differ in discarder; they differ in winning tile; \
+            they differ in indicator; they differ in situation",
+        ),
+        (format!("{hand} seat=1 ron=3 / {hand} seat=2 ron=3 rinshan"), "5, riichi or situation does not fit the hand: record 2: rinshan on ron; record 2: rinshan without a kan"),
+        (format!("{hand} seat=1 ron=3 / 456p79s234s99p+8s chi=123m seat=2 ron=3"), "7, readings but none with a yaku: record 2: 1 reading"),
+        (
+            format!("{hand} seat=1 ron=3 riichi / 456p79s234s99p+8s chi=123m seat=2 ron=3"),
+            "11, the riichi field and the declaration differ: record 1: the record has riichi, seat 1 has not declared",
+        ),
+    ] {
+        let ran = run_in(Path::new("."), "tally - --plain --words", format!("many {text}\n").as_bytes());
+        let refusal: &str = words.split(',').next().unwrap_or("");
+        assert_eq!(ran.out, format!("1 M {refusal} 30000 30000 30000 30000 0 refusal {words}\n"));
+    }
+    let fed = "feed holder=0 feeder=1 yaku=28\nfeed holder=2 feeder=0 yaku=28\nMANY 234m99pPPPFFFCC+C seat=2 ron=3 indicator=5s / 234m99pPPPFFFCC+C seat=0 ron=3 indicator=5s\n";
+    let ran = run_in(Path::new("."), "tally - --plain --words", fed.as_bytes());
+    let last = "3 M 0 62000 6000 62000 -10000 0 sticks and counters are seat 0's; seat 0 fed yaku 28 to seat 2 and pays half, seat 3 the other half; \
+        seat 1 fed yaku 28 to seat 0 and pays half, seat 3 the other half\n";
+    assert!(ran.out.ends_with(last), "{}", ran.out);
 }
 
 #[test]

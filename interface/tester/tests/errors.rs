@@ -106,7 +106,7 @@ fn of_a_log() {
 #[test]
 fn of_a_text() {
     for (line, message) in [
-        ("richi 1", "word 1, \"richi\": a line begins with riichi, win, draw, chombo, feed or bytes (--bytes if the file is no text)"),
+        ("richi 1", "word 1, \"richi\": a line begins with riichi, win, draw, chombo, many, feed or bytes (--bytes if the file is no text)"),
         ("riichi", "after word 1, \"riichi\": the seat is missing, 0 to 3"),
         ("riichi 1 2", "word 3, \"2\": one seat is enough"),
         ("chombo 16", "word 2, \"16\": a seat is 0, 1, 2 or 3 (up to 15 to see it refused)"),
@@ -115,6 +115,12 @@ fn of_a_text() {
         ("win # nothing", "after word 1, \"win\": no hand, such as 234567m345p67s22s+8s seat=1 ron=3"),
         ("win 234567m345p67s22s+8s seat=1", "after word 3, \"seat=1\": tsumo or ron=, such as ron=3, is missing"),
         ("win 234567m345p67s22s+8s seat=1 tsumo wind=E", "word 5, \"wind=E\": in a log the game says who deals and which wind blows"),
+        ("many", "after word 1, \"many\": no hand, such as 234567m345p67s22s+8s seat=1 ron=3"),
+        ("many 234567m345p67s22s+8s seat=1 ron=3 /", "after word 5, \"/\": no hand, such as 234567m345p67s22s+8s seat=1 ron=3"),
+        ("many / 00", "after word 2, \"/\": no hand, such as 234567m345p67s22s+8s seat=1 ron=3"),
+        ("many 234567m345p67s22s+8s seat=1 / 00", "after word 3, \"seat=1\": tsumo or ron=, such as ron=3, is missing"),
+        ("many 00 / 234567m345p67s22s+8s seat=5", "word 5, \"seat=5\": a seat is 0, 1, 2 or 3"),
+        ("many 00 / 00 / 00 / 00", "word 8, \"00\": a fourth hand, at most 3 fit"),
         ("feed", "after word 1, \"feed\": holder=, feeder= and yaku= are needed, such as holder=1 feeder=3 yaku=28"),
         ("feed holder=1 yaku=28", "after word 3, \"yaku=28\": holder=, feeder= and yaku= are needed, such as holder=1 feeder=3 yaku=28"),
         ("feed holder=4 feeder=1 yaku=28", "word 2, \"holder=4\": a seat is 0, 1, 2 or 3"),

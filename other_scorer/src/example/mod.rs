@@ -18,8 +18,8 @@ pub enum End {
     Hands,
 }
 
-/// All scenes that keep the deal, those of feeders if they are wanted, in random order.
-fn scenes(rng: &mut Rng, feeders: bool) -> Vec<Scene> {
+/// All scenes that keep the deal, in random order; those of feeders and sets the first time alone.
+fn scenes(rng: &mut Rng, first: bool) -> Vec<Scene> {
     let mut all = Vec::new();
     all.extend((1..=36).filter(|&n| n != 27).map(Scene::Yaku));
     all.extend((0..=4).map(Scene::Melds));
@@ -31,11 +31,15 @@ fn scenes(rng: &mut Rng, feeders: bool) -> Vec<Scene> {
     all.extend((0..=4).flat_map(|n| [Scene::Chombo(n, true), Scene::Chombo(n, false)]));
     all.extend([Scene::Carried, Scene::Seat, Scene::Again]);
     all.extend([Scene::Undeclared, Scene::Silent, Scene::NoYaku]);
-    if feeders {
+    if first {
         let froms = [From::Wall, From::Feeder, From::Another];
         all.extend([28, 29].iter().flat_map(|&yaku| froms.map(|from| Scene::Fed(yaku, from))));
         all.extend([Scene::ThreeWinds, Scene::OtherHolder, Scene::OtherYaku, Scene::FedTwice]);
         all.extend("WDUC".chars().map(Scene::Lapsed));
+        all.extend((1..=3).map(Scene::Set));
+        all.extend((0..3).map(Scene::SetFed));
+        all.extend((0..6).map(Scene::SetUnfit));
+        all.extend([2, 3, 4, 5, 6, 7, 11].map(Scene::SetRefused));
     }
     rng.shuffle(&mut all);
     all

@@ -1,13 +1,15 @@
-//! Scenes of an example log; each starts and ends with no seat declared and no feeder named (01, The game; 02, S-7 and S-8).
+//! Scenes of an example log; each starts and ends with no seat declared and no feeder named (01, The game; 02, S-6 to S-8).
 
 use super::script::Script;
-use crate::booking::Booking::{Chombo, Draw, Feed, Riichi, Win};
-use crate::codec::pack;
-use crate::deal::{drawn, near};
+use crate::booking::Booking::{Chombo, Draw, Feed, Many, Riichi, Win};
+use crate::codec::{length, pack, read};
+use crate::deal::{drawn, near, on_tile_of};
 use crate::fault::{self, FAULTS};
 use crate::fed::{self, DRAGONS, WINDS};
-use crate::record::{Hand, RON, TSUMO};
+use crate::record::{Hand, LAST_TILE, ORDINARY, RON, TSUMO};
 use crate::score::Scored;
+use crate::set;
+use crate::sound::refusal;
 
 /// Whose tile a win that was fed takes.
 #[derive(Clone, Copy, Debug, PartialEq, Eq)]
@@ -48,6 +50,14 @@ pub enum Scene {
     FedTwice,
     /// A feeder named, the hand's end by a win, a draw, a draw with a seat that is not ready (U) or a chombo; then that win.
     Lapsed(char),
+    /// So many rons on one tile, the dealer's among them (02, S-6).
+    Set(u8),
+    /// Rons of the dealer, who was fed, and another: from the feeder, from another, or with the feeder as the other winner.
+    SetFed(u8),
+    /// Two rons that make no set, in this way of `set::FAULTS` (refusal 17).
+    SetUnfit(usize),
+    /// Two rons, one of which is refused with 2 to 7 or 11.
+    SetRefused(u8),
     /// Sticks carried over two draws, a draw with a seat that is not ready and a chombo to a win.
     Carried,
     /// Riichi and chombo with an argument over 3 (refusal 8).
@@ -102,6 +112,10 @@ impl Scene {
             }
             Scene::FedTwice => fed_twice(script),
             Scene::Lapsed(by) => lapsed(script, by),
+            Scene::Set(number) => rons(script, number as usize),
+            Scene::SetFed(way) => set_fed(script, way),
+            Scene::SetUnfit(fault) => set_unfit(script, fault),
+            Scene::SetRefused(number) => set_refused(script, number),
             Scene::Carried => carried(script),
             Scene::Seat => {
                 let over = script.rng.within(4, 15);
@@ -243,6 +257,99 @@ fn lapsed(script: &mut Script, by: char) {
     with_fed_yaku(script, dealer, yaku, |_| true);
 }
 
+/// A set of so many rons, the dealer's among them: two with records of two lengths and a stick of the seat that pays, or three with
+/// a declared winner and the first winner last (02, S-6).
+fn rons(script: &mut Script, number: usize) {
+    let mut winners = script.seats(&[script.game.dealer])[..number].to_vec();
+    let from = (0..4).find(|seat| !winners.contains(seat)).expect("a seat that pays");
+    winners.sort_by_key(|seat| (from + 4 - seat) % 4);
+    let hands = loop {
+        let hands = script.hands(&winners, from, |hand| number < 3 || hand.riichi > 0);
+        if number != 2 || length(hands[0].m) != length(hands[1].m) {
+            break hands;
+        }
+    };
+    if number == 2 {
+        script.add(Riichi(from));
+    }
+    script.set(&hands, true);
+}
+
+/// A set with the dealer's win that was fed (02, S-6 and S-8).
+fn set_fed(script: &mut Script, way: u8) {
+    let (dealer, wind, yaku) = (script.game.dealer, script.game.wind, script.rng.pick(&[DRAGONS, WINDS]));
+    let seats = script.seats(&[dealer]);
+    let feeder = [seats[2], seats[3], seats[1]][way as usize];
+    let hands = script.hands(&seats[..2], seats[2], |hand| fed::yaku(hand, dealer, wind) == Some(yaku));
+    script.add(Feed { holder: dealer, feeder, yaku });
+    script.set(&hands, true);
+}
+
+/// Two hands on one tile, the dealer's first, neither with riichi.
+fn two(script: &mut Script) -> [Hand; 2] {
+    let seats = script.seats(&[script.game.dealer]);
+    loop {
+        let hands = script.hands(&seats[..2], seats[2], |hand| hand.riichi == 0);
+        if hands[1].riichi == 0 {
+            return [hands[0], hands[1]];
+        }
+    }
+}
+
+/// Two sound hands that make no set in this way (refusal 17).
+fn set_unfit(script: &mut Script, fault: usize) {
+    loop {
+        let [one, mut two] = two(script);
+        let (at, kind) = (script.rng.below(13 - 3 * two.m as usize), script.rng.within(0, 33));
+        match fault {
+            0 => (two.how, two.discarder) = (TSUMO, 0),
+            1 => two.winner = one.winner,
+            2 => two.discarder = 6 - one.winner - two.winner - one.discarder,
+            3 => std::mem::swap(&mut two.winning, &mut two.concealed[at]),
+            4 => two.indicator = kind,
+            _ => two.situation = if one.situation == ORDINARY { LAST_TILE } else { ORDINARY },
+        }
+        two.concealed[..13 - 3 * two.m as usize].sort();
+        if refusal(&two) == 0 && set::faults(&[one, two])[fault] {
+            script.set(&[one, two], false);
+            return;
+        }
+    }
+}
+
+/// Two rons of which one, the first or the second, is refused with 2 to 7 or 11.
+fn set_refused(script: &mut Script, number: u8) {
+    let second = script.rng.percent(50);
+    loop {
+        let [one, two] = two(script);
+        let at = script.rng.below(13 - 3 * two.m as usize);
+        let mut spoiled = two;
+        match number {
+            6 => {
+                spoiled.concealed[at] = script.rng.within(0, 33);
+                spoiled.concealed[..13 - 3 * two.m as usize].sort();
+            }
+            7 => match on_tile_of(&mut script.rng, &one, two.winner, 0) {
+                Some(hand) => spoiled = hand,
+                None => continue,
+            },
+            _ => spoiled.riichi = 1,
+        }
+        let fault = script.rng.below(FAULTS);
+        let record = if number < 6 { fault::record(&mut script.rng, fault) } else { pack(&spoiled) };
+        let fits = match number {
+            2..=5 => read(&record) == Err(number),
+            6..=7 => refusal(&spoiled) == 0 && script.score(&spoiled).refusal == number,
+            _ => refusal(&spoiled) == 0,
+        };
+        if fits {
+            let list = if second { [pack(&one), record] } else { [record, pack(&one)] };
+            script.add(Many { number: 2, records: list.concat() });
+            return;
+        }
+    }
+}
+
 /// Sticks carried over two draws, a draw with a declared seat that is not ready and a chombo, to a win of the dealer.
 fn carried(script: &mut Script) {
     let seats = script.seats(&[script.game.dealer]);
@@ -261,7 +368,8 @@ fn carried(script: &mut Script) {
 }
 
 /// The scene that passes the deal for the time after this many (01, The game); the first and the third go on with wins of a deal
-/// with no counter, by ron and by tsumo, and a draw with no stick, so that each log has them; the fourth is a win that was fed.
+/// with no counter, by ron and by tsumo, and a draw with no stick, so that each log has them; the fourth is a win that was fed, the
+/// sixth a set of rons.
 pub fn pass(script: &mut Script, deal: usize) {
     let dealer = script.game.dealer;
     let child = script.child();
@@ -287,7 +395,8 @@ pub fn pass(script: &mut Script, deal: usize) {
         }
         4 => script.win(child, |_, scored| scored.yaku >> 27 & 1 == 1),
         5 => {
-            script.draw(&others);
+            let hands = script.hands(&others[..2], dealer, |_| true);
+            script.set(&hands, true);
         }
         6 => script.win(child, |hand, _| hand.riichi == 1),
         _ => {
@@ -312,6 +421,9 @@ pub fn after_the_end(script: &mut Script) {
     script.add(Chombo(4));
     named(script, seat, DRAGONS);
     script.add(Feed { holder: seat, feeder: seat, yaku: WINDS });
+    let hands = two(script);
+    script.set(&hands, false);
+    set_unfit(script, 1);
     let whole = Win(pack(&script.find(seat, any))).bytes();
     let cut = 5 + script.rng.below(whole.len() - 5);
     script.log.extend(&whole[..cut]);

@@ -2,7 +2,7 @@
 
 use crate::booking::Booking;
 use crate::codec::pack;
-use crate::deal::themed;
+use crate::deal::{on_tile_of, themed};
 use crate::game::{book, Game};
 use crate::record::{Hand, RON};
 use crate::rng::Rng;
@@ -65,6 +65,27 @@ impl Script {
             self.add(Booking::Riichi(winner));
         }
         self.add(Booking::Win(pack(&hand)));
+    }
+
+    /// Hands of some winners on one tile of a seat, the first of which passes a test; each would be paid, had its seat declared what
+    /// it shows (02, S-6).
+    pub fn hands(&mut self, winners: &[u8], from: u8, test: impl Fn(&Hand) -> bool) -> Vec<Hand> {
+        let is_ron = |hand: &Hand, scored: &Scored| hand.how == RON && hand.discarder == from && scored.refusal == 0 && test(hand);
+        let mut hands = vec![self.find(winners[0], is_ron)];
+        while hands.len() < winners.len() {
+            let riichi = self.rng.pick(&[0, 0, 1]);
+            let hand = on_tile_of(&mut self.rng, &hands[0], winners[hands.len()], riichi);
+            hands.extend(hand.filter(|hand| self.score(hand).refusal == 0));
+        }
+        hands
+    }
+
+    /// A set of these hands; the riichi of those that have it first, where it is to be paid (02, S-6).
+    pub fn set(&mut self, hands: &[Hand], paid: bool) -> u8 {
+        for hand in hands.iter().filter(|hand| paid && hand.riichi > 0) {
+            self.add(Booking::Riichi(hand.winner));
+        }
+        self.add(Booking::Many { number: hands.len() as u8, records: hands.iter().flat_map(pack).collect() })
     }
 
     /// A draw with these seats ready (01, Draw).

@@ -1,23 +1,24 @@
-//! What a log covers, counted by walking it with a fresh game (01, The game; Log; 02, S-7 and S-8).
+//! What a log covers, counted by walking it with a fresh game (01, The game; Log; 02, S-6 to S-8).
 
 use crate::booking::Booking;
-use crate::codec::{pack, read};
+use crate::codec::{length, pack, read};
 use crate::cover::Cover;
 use crate::fed::{self, DRAGONS, WINDS};
 use crate::game::{book, is_ready, liable, Game};
 use crate::log::{bookings, letter};
 use crate::record::{Hand, RON};
 use crate::score::score;
+use crate::set;
 
 const SEATS: [&str; 2] = ["child", "dealer"];
 
 /// The names of all counts and the labels that must be reached.
 fn expected() -> Cover {
     let mut cover = Cover::default();
-    cover.expect("accepted", &["R", "W", "D", "C", "P"]);
-    cover.expect("refused", &["R", "W", "D", "C", "P"]);
-    cover.expect("refusal", &["2", "3", "4", "5", "6", "7", "8", "9", "10", "11", "14", "18"]);
-    cover.expect("refused after the end", &["R 8", "R 9", "W 9", "D 9", "C 8", "C 9", "P 9"]);
+    cover.expect("accepted", &["R", "W", "D", "C", "M", "P"]);
+    cover.expect("refused", &["R", "W", "D", "C", "M", "P"]);
+    cover.expect("refusal", &["2", "3", "4", "5", "6", "7", "8", "9", "10", "11", "14", "17", "18"]);
+    cover.expect("refused after the end", &["R 8", "R 9", "W 9", "D 9", "C 8", "C 9", "M 9", "P 9"]);
     cover.expect("refusal 11", &["field without riichi", "riichi without field"]);
     cover.expect("win", &["tsumo dealer", "tsumo child", "ron dealer", "ron child"]);
     cover.expect("win with sticks", &["none", "this hand's", "older"]);
@@ -35,6 +36,11 @@ fn expected() -> Cover {
     cover.expect_numbers("chombo declared", 0, 4);
     cover.expect("chombo by", &["dealer", "child", "declared seat", "other seat"]);
     cover.expect("chombo with older sticks", &["yes"]);
+    cover.expect_numbers("set of", 1, 3);
+    cover.expect("set", &["dealer wins", "dealer does not win", "sticks", "counters", "a declared winner", "records of two lengths", "first winner not first"]);
+    cover.expect("set refused", &["2", "3", "4", "5", "6", "7", "9", "11", "17"]);
+    cover.expect("set of 17", &set::FAULTS);
+    cover.expect("set fed", &["from the feeder", "from another", "the feeder wins too"]);
     cover.expect("feed", &["28", "29", "a second holder of a yaku", "both yaku of a holder", "a seat declared"]);
     cover.expect("refusal 18", &["holder is the feeder", "named with the same feeder", "named with another feeder"]);
     cover.expect("win fed with 28", &["tsumo", "ron from the feeder", "ron from another"]);
@@ -42,9 +48,9 @@ fn expected() -> Cover {
     cover.expect("win fed", &["dealer", "child", "counters", "sticks"]);
     cover.expect("riichi since a feed", &["yes"]);
     cover.expect("win not fed", &["no such yaku", "three winds and a pair", "the yaku of another holder", "the other yaku", "lapsed"]);
-    cover.expect("feeders lapse by", &["W fed", "W", "D", "D of a chombo", "C"]);
-    cover.expect("deal repeats by", &["W", "D", "C"]);
-    cover.expect("deal passes by", &["W", "D"]);
+    cover.expect("feeders lapse by", &["W fed", "W", "D", "D of a chombo", "C", "M"]);
+    cover.expect("deal repeats by", &["W", "D", "C", "M"]);
+    cover.expect("deal passes by", &["W", "D", "M"]);
     cover.expect("wind turns South", &["yes"]);
     cover.expect("over", &["yes"]);
     cover.expect("sticks left at the end", &["yes"]);
@@ -94,6 +100,22 @@ fn note_fed(cover: &mut Cover, before: &Game, hand: &Hand, lapsed: &[(u8, u8)]) 
         cover.add_if((0..4).any(|seat| before.feeder(seat, yaku).is_some()), "win not fed", "the yaku of another holder");
         cover.add_if(named(DRAGONS + WINDS - yaku), "win not fed", "the other yaku");
         cover.add_if(lapsed.contains(&(hand.winner, yaku)), "win not fed", "lapsed");
+    }
+}
+
+/// Counts an accepted set of rons (02, S-6).
+fn note_set(cover: &mut Cover, before: &Game, hands: &[Hand]) {
+    let (from, wins) = (hands[0].discarder, |seat: u8| hands.iter().any(|hand| hand.winner == seat));
+    cover.add("set of", hands.len());
+    cover.add("set", if wins(before.dealer) { "dealer wins" } else { "dealer does not win" });
+    cover.add_if(before.sticks > 0, "set", "sticks");
+    cover.add_if(before.counter > 0, "set", "counters");
+    cover.add_if(hands.iter().any(|hand| hand.riichi > 0), "set", "a declared winner");
+    cover.add_if(hands.iter().any(|hand| length(hand.m) != length(hands[0].m)), "set", "records of two lengths");
+    cover.add_if(set::first_winner(hands) != hands[0].winner, "set", "first winner not first");
+    for feeder in hands.iter().filter_map(|hand| liable(before, hand)) {
+        cover.add("set fed", if feeder == from { "from the feeder" } else { "from another" });
+        cover.add_if(wins(feeder), "set fed", "the feeder wins too");
     }
 }
 
@@ -186,6 +208,11 @@ fn note_refused(cover: &mut Cover, before: &Game, booking: &Booking, refusal: u8
         let field = read(record).is_ok_and(|hand| hand.riichi != 0);
         cover.add("refusal 11", if field { "field without riichi" } else { "riichi without field" });
     }
+    if let Booking::Many { number, records } = booking {
+        cover.add("set refused", refusal);
+        let faults = set::hands(*number, records).map_or([false; 6], |hands| set::faults(&hands));
+        (0..6).filter(|&fault| refusal == 17 && faults[fault]).for_each(|fault| cover.add("set of 17", set::FAULTS[fault]));
+    }
     if let (Booking::Feed { holder, feeder, yaku }, 18) = (booking, refusal) {
         cover.add("refusal 18", match before.feeder(*holder, *yaku) {
             _ if holder == feeder => "holder is the feeder",
@@ -218,6 +245,7 @@ pub fn survey(log: &[u8]) -> (usize, u8, Cover) {
             }
             Booking::Draw(bits) => note_draw(&mut cover, &before, *bits),
             Booking::Chombo(seat) => note_chombo(&mut cover, &before, *seat),
+            Booking::Many { number, records } => note_set(&mut cover, &before, &set::hands(*number, records).expect("an accepted set")),
             Booking::Feed { holder, yaku, .. } => note_feed(&mut cover, &before, *holder, *yaku),
         }
         note_lapse(&mut cover, &before, &game, booking);

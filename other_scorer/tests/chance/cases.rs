@@ -1,14 +1,14 @@
-//! What of feeders a booking meets, for counting: a run that leaves one out has not tested it (02, S-8).
+//! What of feeders and sets a booking meets, for counting: a run that leaves one out has not tested it (02, S-6 and S-8).
 
 use other_scorer::codec::read;
 use other_scorer::fed::{self, DRAGONS, WINDS};
-use other_scorer::game::liable;
-use other_scorer::record::RON;
+use other_scorer::game::{book, liable};
+use other_scorer::record::{Hand, RON};
 use other_scorer::score::score;
-use other_scorer::{Booking, Game};
+use other_scorer::{set, Booking, Game};
 
 /// All cases.
-pub const CASES: [&str; 24] = [
+pub const CASES: [&str; 63] = [
     "28 fed, tsumo",
     "28 fed, ron from the feeder",
     "28 fed, ron from another",
@@ -33,7 +33,51 @@ pub const CASES: [&str; 24] = [
     "lapse by a draw",
     "lapse by a draw that is a chombo",
     "lapse by a chombo",
+    "lapse by a set",
+    "set of 1",
+    "set of 2",
+    "set of 3",
+    "set: the dealer wins",
+    "set: the dealer pays",
+    "set: the dealer does neither",
+    "set: counters",
+    "set: sticks",
+    "set: the first winner in a later record",
+    "set: a declared winner",
+    "set: records of two lengths",
+    "set: fed, from the feeder",
+    "set: fed, from another",
+    "set: fed, the feeder wins too",
+    "set: fed, two winners",
+    "set refused: none or over three",
+    "set refused: a record isn't ron",
+    "set refused: two have one winner",
+    "set refused: they differ in discarder",
+    "set refused: they differ in winning tile",
+    "set refused: they differ in indicator",
+    "set refused: they differ in situation",
+    "set refused: first record 1",
+    "set refused: first record 2",
+    "set refused: first record 3",
+    "set refused: first record 4",
+    "set refused: first record 5",
+    "set refused: first record 6",
+    "set refused: first record 7",
+    "set refused: first record 11",
+    "set refused: later record 1",
+    "set refused: later record 2",
+    "set refused: later record 3",
+    "set refused: later record 4",
+    "set refused: later record 5",
+    "set refused: later record 6",
+    "set refused: later record 7",
+    "set refused: later record 11",
 ];
+
+/// The case of this name.
+fn case(name: String) -> &'static str {
+    CASES.into_iter().find(|case| *case == name).unwrap_or_else(|| panic!("{name}"))
+}
 
 /// Whether a seat is named as the holder of a yaku.
 fn named(game: &Game, holder: u8, yaku: u8) -> bool {
@@ -75,10 +119,51 @@ fn of_feed(before: &Game, (holder, feeder, yaku): (u8, u8, u8), refusal: u8) -> 
     }
 }
 
+/// The cases of an accepted set.
+fn of_set(before: &Game, hands: &[Hand]) -> Vec<&'static str> {
+    let (from, wins) = (hands[0].discarder, |seat: u8| hands.iter().any(|hand| hand.winner == seat));
+    let feeders: Vec<u8> = hands.iter().filter_map(|hand| liable(before, hand)).collect();
+    let first = set::first_winner(hands);
+    let tests = [
+        (wins(before.dealer), "set: the dealer wins"),
+        (before.dealer == from, "set: the dealer pays"),
+        (!wins(before.dealer) && before.dealer != from, "set: the dealer does neither"),
+        (before.counter > 0, "set: counters"),
+        (before.sticks > 0, "set: sticks"),
+        (hands[0].winner != first, "set: the first winner in a later record"),
+        (hands.iter().any(|hand| hand.riichi > 0), "set: a declared winner"),
+        (hands.iter().any(|hand| hand.m != hands[0].m), "set: records of two lengths"),
+        (feeders.contains(&from), "set: fed, from the feeder"),
+        (feeders.iter().any(|&seat| seat != from), "set: fed, from another"),
+        (feeders.iter().any(|&seat| wins(seat)), "set: fed, the feeder wins too"),
+        (feeders.len() > 1, "set: fed, two winners"),
+    ];
+    let met = tests.into_iter().filter(|(holds, _)| *holds).map(|(_, case)| case);
+    met.chain([case(format!("set of {}", hands.len()))]).collect()
+}
+
+/// The cases of a refused set.
+fn of_refused_set(before: &Game, number: u8, records: &[u8], refusal: u8) -> Vec<&'static str> {
+    if number == 0 || number > 3 {
+        return vec!["set refused: none or over three"];
+    }
+    if refusal == 17 {
+        let hands = set::hands(number, records).expect("a set that reads");
+        let faults = set::FAULTS.into_iter().zip(set::faults(&hands)).filter(|(_, holds)| *holds);
+        return faults.map(|(fault, _)| case(format!("set refused: {fault}"))).collect();
+    }
+    let own = |record: &[u8]| book(&mut { *before }, &Booking::Win(record.to_vec()));
+    let meets = |record: &[u8]| if refusal <= 5 { read(record).is_err() } else { own(record) != 0 };
+    let at = set::split(number, records).into_iter().position(meets).expect("a refused record");
+    vec![case(format!("set refused: {} record {refusal}", if at == 0 { "first" } else { "later" }))]
+}
+
 /// The cases that a booking in a game meets, with its refusal.
 pub fn met(before: &Game, booking: &Booking, refusal: u8) -> Vec<&'static str> {
     let mut met = match (booking, refusal) {
         (Booking::Win(record), 0) => of_win(before, record),
+        (Booking::Many { number, records }, 0) => of_set(before, &set::hands(*number, records).expect("an accepted set")),
+        (Booking::Many { number, records }, 1..=7 | 11 | 17) => of_refused_set(before, *number, records, refusal),
         (Booking::Feed { holder, feeder, yaku }, _) => of_feed(before, (*holder, *feeder, *yaku), refusal),
         _ => vec![],
     };
@@ -92,6 +177,7 @@ pub fn met(before: &Game, booking: &Booking, refusal: u8) -> Vec<&'static str> {
             Booking::Draw(bits) if before.unready(*bits).is_empty() => Some("lapse by a draw"),
             Booking::Draw(_) => Some("lapse by a draw that is a chombo"),
             Booking::Chombo(_) => Some("lapse by a chombo"),
+            Booking::Many { .. } => Some("lapse by a set"),
             Booking::Riichi(_) | Booking::Feed { .. } => None,
         });
     }

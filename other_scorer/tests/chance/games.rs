@@ -10,7 +10,7 @@ fn score(rng: &mut Rng) -> i64 {
         0 => FLOOR as i64,
         1 => FLOOR as i64 + rng.below(60_000) as i64,
         2 => 30_000,
-        _ => FLOOR as i64 + rng.below(63_080_001) as i64,
+        _ => FLOOR as i64 + rng.below(114_280_001) as i64,
     }
 }
 
@@ -24,7 +24,7 @@ fn feeders(rng: &mut Rng) -> [u8; 8] {
 pub fn in_form(rng: &mut Rng) -> Game {
     loop {
         let mut game = Game::fresh();
-        game.sticks = rng.pick(&[0, 1, 4, 5, 63_000]);
+        game.sticks = rng.pick(&[0, 1, 4, 5, 114_000]);
         for seat in 0..4 {
             game.declared[seat] = game.sticks > seat as u32 && rng.percent(30);
         }

@@ -1,11 +1,11 @@
 //! Random bookings for the tests.
 
-use other_scorer::codec::pack;
+use other_scorer::codec::{pack, read};
 use other_scorer::damage::{damaged, noise};
-use other_scorer::deal::{deal, near, themed};
+use other_scorer::deal::{deal, near, on_tile_of, taking, themed};
 use other_scorer::fault::{self, FAULTS};
 use other_scorer::fed::{DRAGONS, WINDS};
-use other_scorer::record::{Hand, RON};
+use other_scorer::record::{Hand, LAST_TILE, ORDINARY, RON, TSUMO};
 use other_scorer::rng::Rng;
 use other_scorer::sound::refusal;
 use other_scorer::themes::yakuman::{big_dragons, big_winds, little_winds};
@@ -72,9 +72,108 @@ fn seat(rng: &mut Rng) -> u8 {
 /// A feeder of a holder, often of this seat, and of a yaku, seldom of another than the two.
 fn feed(rng: &mut Rng, often: u8) -> Booking {
     let (near, any) = (rng.within(27, 30), rng.next() as u8);
-    let yaku = if rng.percent(90) { rng.pick(&[DRAGONS, WINDS]) } else { rng.pick(&[near, any]) };
+    let yaku = if rng.percent(85) { rng.pick(&[DRAGONS, WINDS]) } else { rng.pick(&[near, any]) };
     let holder = if rng.percent(40) { often } else { seat(rng) };
     Booking::Feed { holder, feeder: seat(rng), yaku }
+}
+
+/// A ron of this seat, or of any, that fits the declarations; where feeders are named often of a holder with the yaku.
+fn ron(rng: &mut Rng, game: &Game, winner: u8, keep: bool) -> Hand {
+    loop {
+        let Booking::Win(record) = win(rng, game, winner, keep) else { continue };
+        if let Some(hand) = read(&record).ok().filter(|hand| hand.how == RON) {
+            return hand;
+        }
+    }
+}
+
+/// One to three rons on one tile that fit the declarations, in any order; with `keep` this seat's among them, if there is one.
+fn rons(rng: &mut Rng, game: &Game, winner: u8, keep: bool) -> Vec<Hand> {
+    let first = ron(rng, game, winner, keep);
+    let others: Vec<u8> = (0..4).filter(|&seat| seat != first.winner && seat != first.discarder).collect();
+    let mut hands = vec![first];
+    for seat in others {
+        while rng.percent(98) && !hands.iter().any(|hand| hand.winner == seat) {
+            let riichi = if game.declared[seat as usize] { rng.within(1, 2) } else { 0 };
+            let fed = [DRAGONS, WINDS].into_iter().find(|&yaku| game.feeder(seat, yaku).is_some());
+            hands.extend(match fed.filter(|_| rng.percent(80)) {
+                Some(yaku) => read(&fed_record(rng, game, seat, yaku)).ok().and_then(|hand| taking(hand, &first)),
+                None => on_tile_of(rng, &first, seat, riichi),
+            });
+        }
+    }
+    rng.shuffle(&mut hands);
+    hands.sort_by_key(|hand| keep && hand.winner != winner);
+    hands.truncate(1 + rng.below(3));
+    rng.shuffle(&mut hands);
+    hands
+}
+
+/// One of the hands changed in a field that a set shares, or so that two have one winner, or that one is no ron.
+fn spoiled(rng: &mut Rng, hands: &mut [Hand]) {
+    let (at, other, kind) = (rng.below(hands.len()), hands[rng.below(hands.len())].winner, rng.within(0, 33));
+    let hand = &mut hands[at];
+    let before = *hand;
+    match rng.below(6) {
+        0 => (hand.how, hand.discarder) = (TSUMO, 0),
+        1 => hand.winner = other,
+        2 => hand.discarder = rng.within(0, 3),
+        3 => {
+            let held = &mut hand.concealed[..13 - 3 * hand.m as usize];
+            std::mem::swap(&mut hand.winning, &mut held[rng.below(held.len())]);
+            held.sort();
+        }
+        4 => hand.indicator = kind,
+        _ => hand.situation = if hand.situation == ORDINARY { LAST_TILE } else { ORDINARY },
+    }
+    if refusal(hand) != 0 && rng.percent(80) {
+        *hand = before;
+    }
+}
+
+/// A set of rons: mostly one that is booked, else with a wrong number, wrong bytes, a spoiled hand or other records.
+fn many(rng: &mut Rng, game: &Game, winner: u8, keep: bool) -> Booking {
+    let mut hands = rons(rng, game, winner, keep);
+    let mut number = hands.len() as u8;
+    let way = rng.below(20);
+    match way {
+        0 => number = rng.pick(&[0, 4, 5, 255, number + 1, number - 1]),
+        1..=4 => spoiled(rng, &mut hands),
+        5 => {
+            let at = rng.below(hands.len());
+            hands[at].riichi = rng.within(0, 2);
+        }
+        _ => {}
+    }
+    let mut records: Vec<Vec<u8>> = hands.iter().map(pack).collect();
+    let at = rng.below(records.len());
+    match way {
+        6 => records[at] = record(rng, game, winner),
+        9..=10 => {
+            let fault = rng.below(FAULTS);
+            records[at] = fault::record(rng, fault);
+        }
+        7 => {
+            let whole = std::mem::take(&mut records[at]);
+            records[at] = damaged(rng, whole);
+        }
+        8 => {
+            let mut hand = hands[at];
+            let held = &mut hand.concealed[..13 - 3 * hand.m as usize];
+            held[rng.below(held.len())] = rng.within(0, 33);
+            held.sort();
+            records[at] = pack(&hand);
+        }
+        _ => {}
+    }
+    let mut records = records.concat();
+    match rng.below(30) {
+        0 => records.truncate(rng.below(records.len() + 1)),
+        1 => records.extend(noise(rng)),
+        2 => records = noise(rng),
+        _ => {}
+    }
+    Booking::Many { number, records }
 }
 
 /// A win of a seat; where feeders are named often of a holder with the yaku, of this seat alone with `keep`, or of this seat with
@@ -96,9 +195,10 @@ pub fn booking(rng: &mut Rng, game: &Game, keep: bool) -> Booking {
     let dealer = game.dealer % 4;
     let declared = (0..4).filter(|&seat| game.declared[seat]).fold(0, |bits, seat| bits | 8 >> seat);
     let often = if keep { dealer } else { rng.within(0, 3) };
-    match rng.below(12) {
+    match rng.below(14) {
         0..=2 => Booking::Riichi(seat(rng)),
-        3..=6 => win(rng, game, often, keep),
+        3..=5 => win(rng, game, often, keep),
+        6 | 12..=13 => many(rng, game, often, keep),
         7..=8 => {
             let bits = match rng.below(10) {
                 0 => rng.next() as u8,

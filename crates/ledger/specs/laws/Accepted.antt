@@ -8,6 +8,7 @@ use borrow.Author.Tests.{ltb-false, ltb-true}
 use lib.Dec.{ltb}
 use Rattle.tiles.specs.laws.Below.{or-both}
 use Rattle.hand_record.specs.Record.{refusalIn, readOf}
+use Rattle.records.specs.laws.Sets.{own-zero}
 use Rattle.score.specs.declared.Scored.{Scored}
 use Rattle.score.specs.laws.Settled.{score-unread}
 use Rattle.ledger.specs.declared.Game.{Game}
@@ -15,16 +16,9 @@ use Rattle.ledger.specs.Booking.{riichi, win, draw, chombo, feed}
 use Rattle.ledger.specs.Ledger.{isDeclared, notOpen, handFor, scoredFor, riichiMismatch, wrongFeed, refusalFor}
 use Rattle.ledger.specs.laws.Form.{open-of}
 
-cond-zero : (b : Bool) (n m : ℕ) → cond b (suc n) m ≡ 0 → (b ≡ false) × (m ≡ 0)
+pub cond-zero : (b : Bool) (n m : ℕ) → cond b (suc n) m ≡ 0 → (b ≡ false) × (m ≡ 0)
 cond-zero true n m e = absurd (omega arith)
 cond-zero false n m e = (refl, e)
-
-own-zero : (n m : ℕ) → cond (ltb 0 n) n m ≡ 0 → (n ≡ 0) × (m ≡ 0)
-own-zero n m e = go (ltb 0 n) refl e
-  where
-    go : (b : Bool) → ltb 0 n ≡ b → cond b n m ≡ 0 → (n ≡ 0) × (m ≡ 0)
-    go true q e = absurd (omega (arith, ltb-true 0 n q))
-    go false q e = (omega (arith, ltb-false 0 n q), e)
 
 module _ (g : Game) where
   pub riichi-accepted : (seat : ℕ) → refusalFor g (riichi seat) ≡ 0 → (seat ≤ 3) × (notOpen g ≡ false) × (isDeclared g seat ≡ false)

@@ -11,9 +11,9 @@ use Rattle.ledger.specs.Ledger.{startingScore, lastHand, floor}
 abbrev pub depth : ℕ
 depth = dn floor
 
--- the most that a seat pays in the hand that follows h finished ones, its stick left out: a yakuman dealt to the dealer, or fed, with h counters
+-- the most that a seat pays in the hand that follows h finished ones, its stick left out: "One discarder may now pay 112,000 in a hand" (02, S-6), with h counters
 abbrev pub costs : ℕ → ℕ
-costs h = 48000 + 300 * h
+costs h = 112000 + 300 * h
 
 -- the most that a seat has paid in h hands, a stick in each
 unfoldable pub worst : ℕ → ℕ
@@ -42,8 +42,7 @@ worst-low h zero l m = omega (arith, worst-le h lastHand (omega arith), worst-al
 worst-low h (suc zero) l m = omega (arith, worst-le (h + 1) lastHand (omega arith), worst-step h, worst-all)
 worst-low h (suc (suc d)) l m = absurd (omega arith)
 
--- ---- room: two amounts add up within 32 bits, and no score, no gift and no 1,000 times the sticks is more than one.
--- There is room for the floor −28,540,000 of document 02 too.
+-- ---- room: two amounts add up within 32 bits, and no score, no three wins' gifts and no 1,000 times the sticks is more than one
 
 abbrev pub amount : ℕ
 amount = 1000000000
@@ -54,4 +53,8 @@ mostChange = 200000
 
 -- more sticks than a game in form has
 abbrev pub mostSticks : ℕ
-mostSticks = 900000
+mostSticks = 200000
+
+-- more than the most that a win gives or takes, its sticks too
+abbrev pub mostGift : ℕ
+mostGift = 300000000

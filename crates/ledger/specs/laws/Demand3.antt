@@ -6,11 +6,11 @@ use Prim.Native.Nat.{ℕ, _≤_, _<_}
 use lib.IntN.{ℤ, _+ℤ_}
 use lib.Signed.{ltZ}
 use Rattle.ledger.specs.declared.Game.{Game}
-use Rattle.ledger.specs.Booking.{Booking, win}
+use Rattle.ledger.specs.Booking.{Booking, win, many}
 use Rattle.ledger.specs.Ledger.{fresh, scoreAt, totalOf, floor, outOfForm, refusalFor, ledgerFrom, ledger, givenFrom}
 use Rattle.ledger.specs.Runs.{Runs, Every}
-use Rattle.ledger.specs.Demand3.{AcceptedWhen, PaidByBest, BestWithCounters, TilesRefused, SixOrSeven, OfWin, Demand3}
-use Rattle.ledger.specs.laws.Tiles.{win-accepted-when, win-paid, win-best, win-tiles, win-six-or-seven}
+use Rattle.ledger.specs.Demand3.{AcceptedWhen, PaidByBest, BestWithCounters, TilesRefused, SixOrSeven, OfWin, SetAcceptedWhen, SetPaid, OfMany, Demand3}
+use Rattle.ledger.specs.laws.Tiles.{win-accepted-when, win-paid, win-best, win-tiles, win-six-or-seven, set-accepted-when, set-paid}
 use Rattle.ledger.specs.laws.Form.{of-form, low-not}
 use Rattle.ledger.specs.laws.Kept.{fresh-kept, kept-form, ledger-kept}
 use Rattle.ledger.specs.laws.Lists.{fresh-score, scores-given, runs-ledger, every-of}
@@ -19,6 +19,11 @@ use Rattle.ledger.specs.laws.Lists.{fresh-score, scores-given, runs-ledg
 module _ (P : Game → List ℕ → ℕ → Type 0) (each : (l : Game) (s : List ℕ) (n : ℕ) → n ≡ refusalFor l (win s) → P l s n) where
   of-wins : {g : Game} {bs : List Booking} {ns : List ℕ} → Runs fresh bs ns g → Every (OfWin P) fresh bs ns
   of-wins r = every-of (OfWin P) (λ l b n f e s q. each l s n (e ∙ ap (refusalFor l) q)) r fresh-kept
+
+-- and what holds of several records
+module _ (P : Game → ℕ → List ℕ → ℕ → Type 0) (each : (l : Game) (number : ℕ) (s : List ℕ) (n : ℕ) → n ≡ refusalFor l (many number s) → P l number s n) where
+  of-sets : {g : Game} {bs : List Booking} {ns : List ℕ} → Runs fresh bs ns g → Every (OfMany P) fresh bs ns
+  of-sets r = every-of (OfMany P) (λ l b n f e number s q. each l number s n (e ∙ ap (refusalFor l) q)) r fresh-kept
 
 pub demand-3 : (bs : List Booking) (ns : List ℕ) (g : Game) → Runs fresh bs ns g → Demand3 bs ns g
 unfolding ledger
@@ -29,6 +34,8 @@ demand-3 bs ns g r = record {
   named = every-of (λ l b n. n ≡ refusalFor l b) (λ l b n f e. e) r fresh-kept;
   wins = of-wins AcceptedWhen win-accepted-when r;
   paid = of-wins PaidByBest win-paid r;
+  sets-accepted = of-sets SetAcceptedWhen set-accepted-when r;
+  sets = of-sets SetPaid set-paid r;
   tiles = of-wins TilesRefused win-tiles r;
   six-or-seven = of-wins SixOrSeven win-six-or-seven r;
 }

@@ -1,4 +1,4 @@
--- Each booking's effect is fair: what it gives comes from the seats or the sticks, and no seat loses more than a hand may cost.
+-- The effect of each booking but of several records is fair: what it gives comes from the seats or the sticks, and no seat loses more than a hand may cost.
 use mathlib.Core.Path.{_≡_, refl, ap, _∙_}
 use mathlib.Core.Bool.{Bool, true, false, not, _||_, cond}
 use mathlib.Core.List.{List}
@@ -14,7 +14,7 @@ use Rattle.tiles.specs.laws.Below.{or-both}
 use Rattle.hand.specs.Hand.{isRon}
 use Rattle.hand_record.specs.laws.Bounds.{read-bounds}
 use Rattle.score.specs.laws.Z.{up, dn, add-law, parts-eq}
-use Rattle.score.specs.laws.Changes.{score-within, zero-sum}
+use Rattle.score.specs.laws.Changes.{score-within, score-child, zero-sum}
 use Rattle.ledger.specs.declared.Game.{Game}
 use Rattle.ledger.specs.Booking.{Booking, riichi, win, draw, chombo, feed}
 use Rattle.ledger.specs.Ledger.{lastHand, mark, isDeclared, declarations, notOpen, isReady, handFor, scoredFor, readySeats, shareOf, refusalFor, wrongFeed, finishing, riichiGives, settles, wholeOf, fedPays, isSet, isDealersWin, wonBy, addedBy, fedFor, winGives, drawGives, fineOf, backTo, chomboGives, chomboOf, isAtFault, effectOf}
@@ -36,6 +36,10 @@ Turns f k m = up (f 0) + up (f 1) + up (f 2) + up (f 3) + 1000 * m ≡ dn (f 0) 
 -- two gifts: one that the seats pay, one that comes from the sticks
 both-turn : (f x : ℕ → ℤ) (k m : ℕ) → Turns f 0 0 → Turns x k m → Turns (λ i. f i +ℤ x i) k m
 both-turn f x k m e d = omega (arith, e, d, add-law (f 0) (x 0), add-law (f 1) (x 1), add-law (f 2) (x 2), add-law (f 3) (x 3))
+
+-- two gifts that come from sticks
+pub all-turn : (f x : ℕ → ℤ) (k m : ℕ) → Turns f k 0 → Turns x m 0 → Turns (λ i. f i +ℤ x i) (k + m) 0
+all-turn f x k m e d = omega (arith, e, d, add-law (f 0) (x 0), add-law (f 1) (x 1), add-law (f 2) (x 2), add-law (f 3) (x 3))
 
 -- ---- riichi: the stick
 
@@ -140,7 +144,7 @@ module _ (g : Game) where
     unfolding chomboGives
     chombo-bounded i l = omega (arith, fine-dn at i l, back-is (isDeclared g i), add-law (fineOf at i) (backTo g i))
 
-    chombo-fair : notOpen g ≡ false → Fair g (chomboOf g at)
+    pub chombo-fair : notOpen g ≡ false → Fair g (chomboOf g at)
     chombo-fair e =
         let o = open-of g e in
         finishing-fair g (chomboGives g at) (g .sticks - declarations g) false (g .counter) (o .hands)
@@ -164,7 +168,8 @@ sum-parts : (f : ℕ → ℤ) → f 0 +ℤ f 1 +ℤ f 2 +ℤ f 3 ≡ pos 0 → T
 sum-parts f e =
     omega (arith, parts-eq (f 0 +ℤ f 1 +ℤ f 2 +ℤ f 3) (pos 0) e, add-law (f 0) (f 1), add-law (f 0 +ℤ f 1) (f 2), add-law (f 0 +ℤ f 1 +ℤ f 2) (f 3))
 
-module _ (g : Game) (s : List ℕ) where
+-- the winner takes n counters and k sticks
+module _ (g : Game) (s : List ℕ) (n k : ℕ) where
   unfoldable scored : ℕ → ℤ
   scored i = getD (scoredFor g s .changes) i (pos 0)
 
@@ -172,42 +177,50 @@ module _ (g : Game) (s : List ℕ) where
   won i = wonBy g s (fedFor g s) scored i
 
   unfoldable added : ℕ → ℤ
-  added i = addedBy g s (fedFor g s) i
+  added i = addedBy g s (fedFor g s) n i
 
   unfoldable pot : ℕ → ℤ
-  pot i = cond (eqb i (handFor s .fields .winner)) (pos (1000 * g .sticks)) (pos 0)
+  pot i = cond (eqb i (handFor s .fields .winner)) (pos (1000 * k)) (pos 0)
 
   scored-even : Even scored
   unfolding scored
   scored-even = let e = sum-parts (λ i. getD (scoredFor g s .changes) i (pos 0)) (zero-sum s (g .dealer) (g .wind)) in omega (arith, e)
 
-  scored-dn : (i : ℕ) → dn (scored i) ≤ 48000
-  unfolding scored
-  scored-dn i = score-within s (g .dealer) (g .wind) i .1
+  -- what a seat pays at most: a yakuman, dealt to the dealer or to a child
+  abbrev most : ℕ
+  most = 32000 + 16000 * mark (isDealersWin g s)
 
-  -- by article 67, where the yaku was fed by n - 1
+  scored-dn : (i : ℕ) → dn (scored i) ≤ most
+  unfolding scored
+  scored-dn i = go (isDealersWin g s) refl
+    where
+      go : (t : Bool) → isDealersWin g s ≡ t → dn (getD (scoredFor g s .changes) i (pos 0)) ≤ 32000 + 16000 * mark t
+      go true e = omega (arith, score-within s (g .dealer) (g .wind) i .1)
+      go false e = omega (arith, score-child s (g .dealer) (g .wind) e i)
+
+  -- by article 67, where the yaku was fed by m - 1
   abbrev fed : ℕ → ℕ → ℤ
-  fed n = let f = handFor s .fields in settles (f .winner) (fedPays (f .winner) (f .discarder) (n - 1) (isRon f) (wholeOf (isDealersWin g s)))
+  fed m = let f = handFor s .fields in settles (f .winner) (fedPays (f .winner) (f .discarder) (m - 1) (isRon f) (wholeOf (isDealersWin g s)))
 
   won-turns : handFor s .fields .winner ≤ 3 → Turns won 0 0
   unfolding won
   won-turns h = let e = go (fedFor g s) (isSet (fedFor g s)) in omega (arith, e)
     where
-      go : (n : ℕ) (t : Bool) → Even (λ i. cond t (fed n i) (scored i))
-      go n true = let f = handFor s .fields in fed-even (f .discarder) (n - 1) (isRon f) (wholeOf (isDealersWin g s)) (f .winner) (omega arith)
-      go n false = scored-even
+      go : (m : ℕ) (t : Bool) → Even (λ i. cond t (fed m i) (scored i))
+      go m true = let f = handFor s .fields in fed-even (f .discarder) (m - 1) (isRon f) (wholeOf (isDealersWin g s)) (f .winner) (omega arith)
+      go m false = scored-even
 
-  whole-le : (t : Bool) → wholeOf t ≤ 48000
-  whole-le true = omega arith
-  whole-le false = omega arith
+  whole-is : (t : Bool) → wholeOf t ≡ 32000 + 16000 * mark t
+  whole-is true = refl
+  whole-is false = refl
 
-  won-dn : (i : ℕ) → dn (won i) ≤ 48000
+  won-dn : (i : ℕ) → dn (won i) ≤ most
   unfolding won
   won-dn i = go (fedFor g s) (isSet (fedFor g s))
     where
-      go : (n : ℕ) (t : Bool) → dn (cond t (fed n i) (scored i)) ≤ 48000
-      go n true = let f = handFor s .fields in omega (arith, fed-dn (f .discarder) (n - 1) (isRon f) (wholeOf (isDealersWin g s)) (f .winner) i, whole-le (isDealersWin g s))
-      go n false = scored-dn i
+      go : (m : ℕ) (t : Bool) → dn (cond t (fed m i) (scored i)) ≤ most
+      go m true = let f = handFor s .fields in omega (arith, fed-dn (f .discarder) (m - 1) (isRon f) (wholeOf (isDealersWin g s)) (f .winner) i, whole-is (isDealersWin g s))
+      go m false = scored-dn i
 
   -- who pays the counters alone, and whether
   abbrev payer : ℕ
@@ -218,31 +231,57 @@ module _ (g : Game) (s : List ℕ) where
 
   added-turns : handFor s .fields .winner ≤ 3 → Turns added 0 0
   unfolding added
-  added-turns h = let e = added-even payer alone (g .counter) (handFor s .fields .winner) (omega arith) in omega (arith, e)
+  added-turns h = let e = added-even payer alone n (handFor s .fields .winner) (omega arith) in omega (arith, e)
 
-  added-most : (i : ℕ) → dn (added i) ≤ 300 * g .counter
+  added-most : (i : ℕ) → dn (added i) ≤ 300 * n
   unfolding added
-  added-most i = added-dn payer alone (g .counter) (handFor s .fields .winner) i
+  added-most i = added-dn payer alone n (handFor s .fields .winner) i
 
-  pot-turns : handFor s .fields .winner ≤ 3 → Turns pot (g .sticks) 0
+  pot-turns : handFor s .fields .winner ≤ 3 → Turns pot k 0
   unfolding pot
-  pot-turns h = pots (handFor s .fields .winner) (g .sticks) h
+  pot-turns h = pots (handFor s .fields .winner) k h
 
   pot-none : (i : ℕ) → dn (pot i) ≡ 0
   unfolding pot
-  pot-none i = pot-dn (eqb i (handFor s .fields .winner)) (1000 * g .sticks)
+  pot-none i = pot-dn (eqb i (handFor s .fields .winner)) (1000 * k)
 
-  win-balanced : handFor s .fields .winner ≤ 3 → Turns (winGives g s) (g .sticks) 0
+  pub win-turns : handFor s .fields .winner ≤ 3 → Turns (winGives g s n k) k 0
   unfolding winGives scored won added pot
-  win-balanced h = both-turn (λ i. won i +ℤ added i) pot (g .sticks) 0 (both-turn won added 0 0 (won-turns h) (added-turns h)) (pot-turns h)
+  win-turns h = both-turn (λ i. won i +ℤ added i) pot k 0 (both-turn won added 0 0 (won-turns h) (added-turns h)) (pot-turns h)
 
-  win-bounded : g .counter ≤ g .hands → (i : ℕ) → dn (winGives g s i) ≤ costs (g .hands) + up (winGives g s i)
+  pub win-dn : (i : ℕ) → dn (winGives g s n k i) ≤ most + 300 * n + up (winGives g s n k i)
   unfolding winGives scored won added pot
-  win-bounded h i = omega (arith, won-dn i, added-most i, pot-none i, add-law (won i) (added i), add-law (won i +ℤ added i) (pot i))
+  win-dn i = omega (arith, won-dn i, added-most i, pot-none i, add-law (won i) (added i), add-law (won i +ℤ added i) (pot i))
 
-won-counter : (deals : Bool) (n h : ℕ) → n ≤ h → cond deals (n + 1) 0 ≤ h + 1
+pub won-counter : (deals : Bool) (n h : ℕ) → n ≤ h → cond deals (n + 1) 0 ≤ h + 1
 won-counter true n h l = omega arith
 won-counter false n h l = omega arith
+
+module _ (g : Game) where
+  pub win-fair : (s : List ℕ) → refusalFor g (win s) ≡ 0 → Fair g (effectOf g (win s))
+  unfolding effectOf
+  win-fair s e =
+      let y = win-accepted g s e in
+      let o = open-of g (y .0) in
+      let m = mark-le (isDealersWin g s) in
+      finishing-fair g (winGives g s (g .counter) (g .sticks)) 0 (not (isDealersWin g s)) (cond (isDealersWin g s) (g .counter + 1) 0) (o .hands)
+      (won-counter (isDealersWin g s) (g .counter) (g .hands) (o .form .counter)) (win-turns g s (g .counter) (g .sticks) (read-bounds s (y .1) .winner))
+      (λ i l. omega (arith, m, o .form .counter, win-dn g s (g .counter) (g .sticks) i))
+
+-- ---- a draw, or the chombo that it is
+
+module _ (g : Game) where
+  pub draw-fair : (bits : ℕ) → refusalFor g (draw bits) ≡ 0 → Fair g (effectOf g (draw bits))
+  unfolding effectOf
+  draw-fair bits e = go (draw-accepted g bits e) (any 4 (isAtFault g bits))
+    where
+      go : notOpen g ≡ false → (t : Bool)
+          → Fair g (cond t (chomboOf g (isAtFault g bits)) (finishing (drawGives bits) (g .sticks) (not (isReady bits (g .dealer))) (g .counter + 1)))
+      go q true = chombo-fair g (isAtFault g bits) q
+      go q false =
+          let o = open-of g q in
+          finishing-fair g (drawGives bits) (g .sticks) (not (isReady bits (g .dealer))) (g .counter + 1) (o .hands)
+          (omega (arith, o .form .counter)) (draw-balanced bits (g .sticks)) (λ i l. omega (arith, draw-bounded bits i))
 
 -- ---- a named feeder: nothing is given
 
@@ -260,26 +299,3 @@ module _ (g : Game) where
         feeders = set-right holder feeder (yaku - 28) (y .0) (y .1) (right-feed g holder feeder yaku (y .3) .0) (g .feeders) (o .form .feeders);
         bounded = λ i l. (omega (arith, o .hands, mark-le (isDeclared g i)), omega arith);
       }
-
--- ---- each booking
-
-module _ (g : Game) where
-  pub effect-fair : (b : Booking) → refusalFor g b ≡ 0 → Fair g (effectOf g b)
-  unfolding effectOf
-  effect-fair (riichi seat) e = riichi-fair g seat e
-  effect-fair (win s) e =
-      let y = win-accepted g s e in
-      let o = open-of g (y .0) in
-      finishing-fair g (winGives g s) 0 (not (isDealersWin g s)) (cond (isDealersWin g s) (g .counter + 1) 0) (o .hands)
-      (won-counter (isDealersWin g s) (g .counter) (g .hands) (o .form .counter)) (win-balanced g s (read-bounds s (y .1) .winner)) (λ i l. win-bounded g s (o .form .counter) i)
-  effect-fair (draw bits) e = go (draw-accepted g bits e) (any 4 (isAtFault g bits))
-    where
-      go : notOpen g ≡ false → (t : Bool)
-          → Fair g (cond t (chomboOf g (isAtFault g bits)) (finishing (drawGives bits) (g .sticks) (not (isReady bits (g .dealer))) (g .counter + 1)))
-      go q true = chombo-fair g (isAtFault g bits) q
-      go q false =
-          let o = open-of g q in
-          finishing-fair g (drawGives bits) (g .sticks) (not (isReady bits (g .dealer))) (g .counter + 1) (o .hands)
-          (omega (arith, o .form .counter)) (draw-balanced bits (g .sticks)) (λ i l. omega (arith, draw-bounded bits i))
-  effect-fair (chombo seat) e = chombo-fair g (λ i. eqb i seat) (chombo-accepted g seat e .1)
-  effect-fair (feed holder feeder yaku) e = feed-fair g holder feeder yaku e

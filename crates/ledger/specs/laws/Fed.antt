@@ -14,7 +14,7 @@ use Rattle.tiles.specs.laws.Below.{or-both}
 use Rattle.points.specs.laws.Balance.{below-four}
 use Rattle.score.specs.laws.Z.{dn, add-law, neg-law, eq-parts}
 use Rattle.ledger.specs.declared.Game.{Game}
-use Rattle.ledger.specs.Booking.{Booking, riichi, win, draw, chombo, feed}
+use Rattle.ledger.specs.Booking.{Booking, riichi, win, draw, chombo, feed, many}
 use Rattle.ledger.specs.Ledger.{isSet, feederAt, feederPlace, wrongFeeder, wrongFeed, refusalFor, Effect, settles, repeatGives, wholeOf, fedPays, fedIn, isAtFault, effectOf, applied, after}
 use Rattle.ledger.specs.Article67.{Article67}
 use Rattle.ledger.specs.laws.Form.{InForm}
@@ -256,6 +256,7 @@ module _ (l : Game) where
   lapsed (draw bits) e i = either-none (any 4 (isAtFault l bits)) _ _ refl refl i
   lapsed (chombo seat) e i = none-left i
   lapsed (feed holder feeder yaku) e i = absurd (false≢true e)
+  lapsed (many number s) e i = none-left i
 
   pub feeders-lapse : (b : Booking) → refusalFor l b ≡ 0 → effectOf l b .finishes ≡ true → (i : ℕ) → feederAt (after l b) i ≡ 0
   unfolding after applied
@@ -274,6 +275,7 @@ module _ (l : Game) where
       let free = ltb-false 0 (feederAt l place) (right-feed l holder feeder yaku (feed-accepted l holder feeder yaku e .3) .2) in
       let other : i ≡ place → ⊥ = λ q. k (ap (feederAt l) q ∙ omega arith) in
       getD-set-other (l .feeders) place i (1 + feeder) 0 other
+  stays (many number s) e f i k = absurd (false≢true (sym f))
 
   pub feeders-stay : (b : Booking) → refusalFor l b ≡ 0 → effectOf l b .finishes ≡ false → (i : ℕ) → (feederAt l i ≡ 0 → ⊥) → feederAt (after l b) i ≡ feederAt l i
   unfolding after applied

@@ -15,7 +15,7 @@ use Rattle.ledger.specs.Ledger.{startingScore, lastHand, mark, fresh, sc
 use Rattle.ledger.specs.laws.Bounds.{depth, worst, worst-low}
 use Rattle.ledger.specs.laws.Form.{InForm}
 use Rattle.ledger.specs.laws.Effect.{mark-le, none-named, Above, Kept, applied-kept}
-use Rattle.ledger.specs.laws.Fair.{effect-fair}
+use Rattle.ledger.specs.laws.Each.{effect-fair}
 
 above-fresh : (i : ℕ) → i < 4 → Above fresh i
 unfolding fresh worst

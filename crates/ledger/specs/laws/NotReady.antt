@@ -1,10 +1,10 @@
 -- A draw in which a declared seat is not ready is a chombo; no booking is refused with 12.
 use mathlib.Core.Path.{_≡_, refl, sym, ap, _∙_}
 use mathlib.Core.Bool.{Bool, true, false, _||_, cond}
-use mathlib.Core.List.{List}
+use mathlib.Core.List.{List, [], _∷_}
 use Prim.Native.Nat.{ℕ, _+_, _-_, _*_, _≤_, _<_}
 use native.Mathlib.Omega.{arith}
-use lib.Dec.{ltb}
+use lib.Dec.{ltb, eqb}
 use lib.IntN.{pos, _+ℤ_, +ℤ-assoc}
 use lib.ListN.{length}
 use Rattle.tiles.specs.Below.{any}
@@ -20,8 +20,9 @@ use Rattle.score.specs.IsScore.{IsScore, eight, unread, read}
 use Rattle.score.specs.Score.{scoreOf, is-score}
 use Rattle.score.specs.laws.Z.{add-law, eq-parts}
 use Rattle.ledger.specs.declared.Game.{Game}
-use Rattle.ledger.specs.Booking.{Booking, riichi, win, draw, chombo, feed}
-use Rattle.ledger.specs.Ledger.{scoreAt, isDeclared, declarations, notOpen, handFor, scoredFor, riichiMismatch, wrongFeed, refusalFor, fineOf, backTo, chomboGives, chomboOf, isAtFault, effectOf, applied, after}
+use Rattle.ledger.specs.Booking.{Booking, riichi, win, draw, chombo, feed, many}
+use Rattle.records.specs.Records.{recordsOf, firstUnread, noSet}
+use Rattle.ledger.specs.Ledger.{scoreAt, isDeclared, declarations, notOpen, handFor, scoredFor, riichiMismatch, winRefusal, firstRefused, wrongFeed, refusalFor, fineOf, backTo, chomboGives, chomboOf, isAtFault, effectOf, applied, after}
 use Rattle.ledger.specs.NotReady.{BookedAsChombo}
 use Rattle.ledger.specs.laws.Effect.{score-applied}
 use Rattle.ledger.specs.laws.Fair.{chombo-balanced}
@@ -106,17 +107,34 @@ neither : (b : Bool) (n m : ℕ) → Not12 n → Not12 m → Not12 (cond b n m)
 neither true n m p q = p
 neither false n m p q = q
 
+unread-12 : (ss : List (List ℕ)) → Not12 (firstUnread ss)
+unfolding firstUnread
+unread-12 [] = λ e. omega arith
+unread-12 (s ∷ ss) = neither (ltb 0 (refusalIn (readOf s .answer))) (refusalIn (readOf s .answer)) _ (λ e. omega (arith, read-le s)) (unread-12 ss)
+
 module _ (l : Game) where
+  win-12 : (s : List ℕ) → Not12 (winRefusal l s)
+  win-12 s =
+      let v : ℕ = scoredFor l s .refusal in
+      neither (ltb 0 v) v _ (λ e. omega (arith, score-le s (l .dealer) (l .wind))) (neither (riichiMismatch l (handFor s)) 11 0 (λ e. omega arith) (λ e. omega arith))
+
+  refused-12 : (ss : List (List ℕ)) → Not12 (firstRefused l ss)
+  unfolding firstRefused
+  refused-12 [] = λ e. omega arith
+  refused-12 (s ∷ ss) = neither (ltb 0 (winRefusal l s)) (winRefusal l s) _ (win-12 s) (refused-12 ss)
+
   pub never-12 : (b : Booking) → Not12 (refusalFor l b)
   unfolding refusalFor
   never-12 (riichi seat) =
       neither (ltb 3 seat) 8 _ (λ e. omega arith) (neither (notOpen l) 9 _ (λ e. omega arith) (neither (isDeclared l seat) 10 0 (λ e. omega arith) (λ e. omega arith)))
-  never-12 (win s) =
-      let v : ℕ = scoredFor l s .refusal in
-      neither (notOpen l) 9 _ (λ e. omega arith)
-      (neither (ltb 0 v) v _ (λ e. omega (arith, score-le s (l .dealer) (l .wind))) (neither (riichiMismatch l (handFor s)) 11 0 (λ e. omega arith) (λ e. omega arith)))
+  never-12 (win s) = neither (notOpen l) 9 _ (λ e. omega arith) (win-12 s)
   never-12 (draw bits) = neither (ltb 15 bits) 8 _ (λ e. omega arith) (neither (notOpen l) 9 0 (λ e. omega arith) (λ e. omega arith))
   never-12 (chombo seat) = neither (ltb 3 seat) 8 _ (λ e. omega arith) (neither (notOpen l) 9 0 (λ e. omega arith) (λ e. omega arith))
   never-12 (feed holder feeder yaku) =
       neither (ltb 3 holder || ltb 3 feeder) 8 _ (λ e. omega arith)
       (neither (notOpen l) 9 _ (λ e. omega arith) (neither (wrongFeed l holder feeder yaku) 18 0 (λ e. omega arith) (λ e. omega arith)))
+  never-12 (many number s) =
+      let rs = recordsOf number s in
+      neither (notOpen l) 9 _ (λ e. omega arith)
+      (neither (eqb number 0 || ltb 3 number) 17 _ (λ e. omega arith)
+      (neither (ltb 0 (firstUnread rs)) (firstUnread rs) _ (unread-12 rs) (neither (noSet rs) 17 (firstRefused l rs) (λ e. omega arith) (refused-12 rs))))

@@ -5,14 +5,12 @@ use mathlib.Core.List.{List}
 use Prim.Native.Nat.{ℕ, _≤_, _<_}
 use native.Mathlib.Omega.{arith}
 use borrow.Author.Tests.{lt-ltb, le-ltb}
-use lib.Dec.{ltb}
-use Rattle.hand_record.specs.Record.{refusalIn, readOf}
-use Rattle.score.specs.laws.Settled.{score-unread}
+use lib.Dec.{ltb, eqb}
+use Rattle.records.specs.Records.{recordsOf, firstUnread, noSet}
 use Rattle.ledger.specs.declared.Game.{Game}
-use Rattle.ledger.specs.Booking.{Booking, riichi, win, draw, chombo, feed}
-use Rattle.ledger.specs.Ledger.{isDeclared, notOpen, handFor, scoredFor, riichiMismatch, wrongFeed, refusalFor, effectOf, applied, after}
+use Rattle.ledger.specs.Booking.{Booking, riichi, win, draw, chombo, feed, many}
+use Rattle.ledger.specs.Ledger.{isDeclared, notOpen, winRefusal, firstRefused, wrongFeed, refusalFor, effectOf, applied, after}
 use Rattle.ledger.specs.Runs.{Booked}
-use Rattle.ledger.specs.laws.Form.{open-of}
 
 -- ---- any booking, by its refusal
 
@@ -77,13 +75,31 @@ module _ (g : Game) (s : List ℕ) where
   unfolding refusalFor
   win-shut o = rw o
 
-  pub win-unread : (n : ℕ) → notOpen g ≡ false → refusalIn (readOf s .answer) ≡ n → 0 < n → refusalFor g (win s) ≡ n
-  unfolding refusalFor
-  win-unread n o e l =
-      let f = open-of g o .form in
-      rw (o, score-unread s (g .dealer) (g .wind) (f .dealer) (f .wind) n e l, lt-ltb 0 n l)
-
   -- in an open game: what Score refuses with, else 11 or 0
-  pub win-by : notOpen g ≡ false → refusalFor g (win s) ≡ cond (ltb 0 (scoredFor g s .refusal)) (scoredFor g s .refusal) (cond (riichiMismatch g (handFor s)) 11 0)
+  pub win-by : notOpen g ≡ false → refusalFor g (win s) ≡ winRefusal g s
   unfolding refusalFor
   win-by o = rw o
+
+-- ---- several records
+
+module _ (g : Game) (number : ℕ) (s : List ℕ) where
+  abbrev rs : List (List ℕ)
+  rs = recordsOf number s
+
+  pub many-shut : notOpen g ≡ true → refusalFor g (many number s) ≡ 9
+  unfolding refusalFor
+  many-shut o = rw o
+
+  module _ (o : notOpen g ≡ false) where
+    pub many-number : eqb number 0 || ltb 3 number ≡ true → refusalFor g (many number s) ≡ 17
+    unfolding refusalFor
+    many-number h = rw (o, h)
+
+    module _ (h : eqb number 0 || ltb 3 number ≡ false) where
+      pub many-unread : (n : ℕ) → n ≡ firstUnread rs → 0 < n → refusalFor g (many number s) ≡ n
+      unfolding refusalFor
+      many-unread n e l = rw (o, h, ← e, lt-ltb 0 n l)
+
+      pub many-by : firstUnread rs ≡ 0 → (b : Bool) → noSet rs ≡ b → refusalFor g (many number s) ≡ cond b 17 (firstRefused g rs)
+      unfolding refusalFor
+      many-by e b q = rw (o, h, e, q)

@@ -10,7 +10,7 @@ use mir.Val.{SFits, toZ, ofZ}
 use mir.Facts.{toZ-ofZ, toZ-pos}
 use Rattle.tiles.specs.Below.{tabulate}
 use Rattle.score.specs.laws.Z.{Within, neg-law, within-add, parts-mag}
-use Rattle.ledger.specs.laws.Bounds.{amount, mostChange}
+use Rattle.ledger.specs.laws.Bounds.{amount, mostChange, mostGift}
 
 -- each of four is an amount, so that a sum of two does not wrap
 abbrev pub Small : List ℤ → Type 0
@@ -19,6 +19,10 @@ Small s = (i : ℕ) → i < 4 → Within (getD s i (pos 0)) amount
 -- each is within what a win's changes, or its counters, give or take
 abbrev pub Changes : List ℤ → Type 0
 Changes c = (i : ℕ) → Within (getD c i (pos 0)) mostChange
+
+-- each is within what a win gives or takes, its sticks too
+abbrev pub Gifts : List ℤ → Type 0
+Gifts c = (i : ℕ) → Within (getD c i (pos 0)) mostGift
 
 -- four scores s with what each seat is given
 abbrev pub paid : List ℤ → List ℤ → List ℤ
@@ -72,9 +76,21 @@ each-within h a b c d p q r s (suc (suc zero)) = r
 each-within h a b c d p q r s (suc (suc (suc zero))) = s
 each-within h a b c d p q r s (suc (suc (suc (suc i)))) = (omega arith, omega arith)
 
+-- the sums of two times four
+pub paid-within : (a b : List ℤ) (x y : ℕ) → ((i : ℕ) → Within (getD a i (pos 0)) x) → ((i : ℕ) → Within (getD b i (pos 0)) y) → (i : ℕ) → Within (getD (paid a b) i (pos 0)) (x + y)
+paid-within a b x y p q =
+    let sum : (i : ℕ) → Within (getD a i (pos 0) +ℤ getD b i (pos 0)) (x + y) = λ i. within-add (getD a i (pos 0)) (getD b i (pos 0)) x y (p i) (q i) in
+    each-within (x + y) (getD a 0 (pos 0) +ℤ getD b 0 (pos 0)) (getD a 1 (pos 0) +ℤ getD b 1 (pos 0)) (getD a 2 (pos 0) +ℤ getD b 2 (pos 0)) (getD a 3 (pos 0) +ℤ getD b 3 (pos 0)) (sum 0) (sum 1) (sum 2) (sum 3)
+
 -- four times nothing
+pub zeros-gifts : Gifts (pos 0 ∷ pos 0 ∷ pos 0 ∷ pos 0 ∷ [])
+zeros-gifts = each-within mostGift (pos 0) (pos 0) (pos 0) (pos 0) (omega arith, omega arith) (omega arith, omega arith) (omega arith, omega arith) (omega arith, omega arith)
+
+pub gifts-small : (l : List ℤ) → Gifts l → Small l
+gifts-small l w i h = let x = w i in (omega arith, omega arith)
+
 pub zeros-small : Small (pos 0 ∷ pos 0 ∷ pos 0 ∷ pos 0 ∷ [])
-zeros-small i l = each-within amount (pos 0) (pos 0) (pos 0) (pos 0) (omega arith, omega arith) (omega arith, omega arith) (omega arith, omega arith) (omega arith, omega arith) i
+zeros-small = gifts-small (pos 0 ∷ pos 0 ∷ pos 0 ∷ pos 0 ∷ []) zeros-gifts
 
 -- an array of four numbers within h, each that of its seat
 pub four-within : (h : ℕ) → h ≤ amount → (a b c d : ℤ) (f : ℕ → ℤ) → (a ≡ f 0) × Within a h → (b ≡ f 1) × Within b h → (c ≡ f 2) × Within c h → (d ≡ f 3) × Within d h

@@ -1,11 +1,11 @@
 -- When a win is accepted, what paid it, and when it is refused for its tiles.
 use mathlib.Core.Path.{_≡_, refl, sym, ap, _∙_}
 use mathlib.Core.Bool.{Bool, true, false, _&&_, _||_, cond}
-use mathlib.Core.List.{List}
+use mathlib.Core.List.{List, [], _∷_}
 use mathlib.Core.Logic.{inl, inr, ⊎-elim, _↔_}
 use Prim.Native.Nat.{ℕ, _+_, _-_, _*_, _≤_, _<_}
 use native.Mathlib.Omega.{arith}
-use borrow.Author.Tests.{ltb-true, ltb-false, lt-ltb}
+use borrow.Author.Tests.{ltb-true, ltb-false, lt-ltb, le-ltb, ne-eqb}
 use lib.Dec.{ltb, eqb}
 use lib.IntN.{ℤ, pos, _+ℤ_, +ℤ-assoc}
 use lib.ListN.{getD}
@@ -24,13 +24,16 @@ use Rattle.score.specs.laws.Z.{add-law}
 use Rattle.score.specs.laws.Settled.{scored}
 use Rattle.score.specs.laws.Named.{accepted, best, most, refused-6, refused-7, for-tiles}
 use Rattle.ledger.specs.declared.Game.{Game}
-use Rattle.ledger.specs.Booking.{win}
-use Rattle.ledger.specs.Ledger.{scoreAt, notOpen, handFor, scoredFor, riichiMismatch, refusalFor, isSet, settles, wholeOf, fedPays, isDealersWin, wonBy, addedBy, fedIn, holdsFourWinds, fedFor, winGives, effectOf, after}
-use Rattle.ledger.specs.Demand3.{gainBy, changeBy, sticksTo, fedBy, paidIn, PaidBy, AcceptedWhen, PaidByBest, BestWithCounters, TilesRefused, SixOrSeven}
+use Rattle.ledger.specs.Booking.{win, many}
+use Rattle.records.specs.Records.{recordsOf, firstUnread, firstWinner}
+use Rattle.ledger.specs.Ledger.{scoreAt, notOpen, handFor, scoredFor, riichiMismatch, winRefusal, firstRefused, refusalFor, isSet, settles, wholeOf, fedPays, isDealersWin, wonBy, addedBy, fedIn, holdsFourWinds, fedFor, winGives, setGives, effectOf, after}
+use Rattle.ledger.specs.Demand3.{gainBy, changeBy, sticksTo, fedBy, paidIn, PaidBy, IsBest, EachWins, SetAcceptedWhen, EachBest, givenIn, SetPaid, AcceptedWhen, PaidByBest, BestWithCounters, TilesRefused, SixOrSeven}
 use Rattle.ledger.specs.laws.Form.{InForm, le-leZ, open-of}
 use Rattle.ledger.specs.laws.Accepted.{win-accepted}
-use Rattle.ledger.specs.laws.Refusals.{win-by}
+use Rattle.ledger.specs.laws.Refusals.{win-by, many-by}
 use Rattle.ledger.specs.laws.Lists.{score-after}
+use Rattle.ledger.specs.laws.Sets.{many-accepted}
+use Rattle.records.specs.laws.Sets.{own-zero, AllRead}
 use Rattle.ledger.specs.laws.Repeat.{winner-added}
 use Rattle.ledger.specs.laws.Fed.{whole-even, winner-fed, fed-seat, payer-small, payer-other}
 use Rattle.ledger.specs.laws.Winds.{winds-by-tiles, yakuman-change}
@@ -66,17 +69,27 @@ module _ (l : Game) (s : List ℕ) where
       ap (λ (x : Scored). fedIn l w (getD (x .yaku) 28 false) (getD (x .yaku) 29 false && holdsFourWinds (handFor s))) e
       ∙ ap (fedIn l w (getD y 28 false)) (behind (getD y 29 false) (holdsFourWinds (handFor s)) (eqb (winds (groupsOf (handFor s) r)) 4) (winds-by-tiles s n (l .dealer) (l .wind) r i))
 
-  -- an accepted win that scores as r moves each score by what r gives or takes, and the sticks
+  -- a record that scores as r gives what r gives or takes, and the sticks
+  gives-in : (r : Reading) → refusalIn (readOf s .answer) ≡ 0 → IsReadingOf (handFor s) r → scoredFor l s ≡ scoredAs (handFor s) (l .dealer) (l .wind) r
+      → (n k i : ℕ) → winGives l s n k i ≡ paidIn l s r n i +ℤ sticksTo l s k i
+  unfolding winGives
+  gives-in r z m e n k i =
+      ap (λ (f : ℕ). wonBy l s f (λ j. getD (scoredFor l s .changes) j (pos 0)) i +ℤ addedBy l s f n i +ℤ sticksTo l s k i) (fed-is r z m e)
+      ∙ ap (λ (x : Scored). wonBy l s (fedBy l s r) (λ j. getD (x .changes) j (pos 0)) i +ℤ addedBy l s (fedBy l s r) n i +ℤ sticksTo l s k i) e
+
+  -- an accepted win that scores as r moves each score by it
   win-moves : (r : Reading) → refusalFor l (win s) ≡ 0 → IsReadingOf (handFor s) r → scoredFor l s ≡ scoredAs (handFor s) (l .dealer) (l .wind) r → PaidBy l s r
-  unfolding effectOf winGives
+  unfolding effectOf
   win-moves r z m e i h =
-      let f = fed-is r (win-accepted l s z .1) m e in
-      let given : scoreAt (after l (win s)) i ≡ scoreAt l i +ℤ (wonBy l s (fedFor l s) (λ j. getD (scoredFor l s .changes) j (pos 0)) i +ℤ addedBy l s (fedFor l s) i +ℤ sticksTo l s i)
-      = rw z at (score-after l (win s) i h) in
-      given
-      ∙ ap (λ (n : ℕ). scoreAt l i +ℤ (wonBy l s n (λ j. getD (scoredFor l s .changes) j (pos 0)) i +ℤ addedBy l s n i +ℤ sticksTo l s i)) f
-      ∙ ap (λ (x : Scored). scoreAt l i +ℤ (wonBy l s (fedBy l s r) (λ j. getD (x .changes) j (pos 0)) i +ℤ addedBy l s (fedBy l s r) i +ℤ sticksTo l s i)) e
-      ∙ sym (+ℤ-assoc (scoreAt l i) (paidIn l s r i) (sticksTo l s i))
+      let given : scoreAt (after l (win s)) i ≡ scoreAt l i +ℤ winGives l s (l .counter) (l .sticks) i = rw z at (score-after l (win s) i h) in
+      given ∙ ap (λ (x : ℤ). scoreAt l i +ℤ x) (gives-in r (win-accepted l s z .1) m e (l .counter) (l .sticks) i)
+      ∙ sym (+ℤ-assoc (scoreAt l i) (paidIn l s r (l .counter) i) (sticksTo l s (l .sticks) i))
+
+  -- of a record that reads and scores: the best reading
+  best-of : notOpen l ≡ false → refusalIn (readOf s .answer) ≡ 0 → scoredFor l s .refusal ≡ 0 → (r : Reading) × IsBest l s r × (scoredFor l s ≡ scoredAs (handFor s) (l .dealer) (l .wind) r)
+  best-of o n z =
+      let r = best (handFor s) (l .dealer) (l .wind) (names o (sound s .1 n)) z in
+      (r .0, (r .1, λ q w. most (handFor s) (l .dealer) (l .wind) (r .0) q (r .1) w), r .2)
 
   -- the winner's change in a reading is its gain
   gain-at : (q : Reading) → handFor s .fields .winner < 4 → changeBy l s q (handFor s .fields .winner) ≡ pos (gainBy l s q)
@@ -129,17 +142,17 @@ module _ (l : Game) (s : List ℕ) where
           go false false d p r = refl
 
       -- 300 a counter, whoever pays them
-      winner-more : addedBy l s (fedBy l s q) w ≡ pos (300 * l .counter)
+      winner-more : addedBy l s (fedBy l s q) (l .counter) w ≡ pos (300 * l .counter)
       winner-more = go (fedBy l s q) (feeder (getD y 28 false) (getD y 29 false && eqb (winds (groupsOf (handFor s) q)) 4))
         where
-          go : (k : ℕ) → IsFeeder k → addedBy l s k w ≡ pos (300 * l .counter)
+          go : (k : ℕ) → IsFeeder k → addedBy l s k (l .counter) w ≡ pos (300 * l .counter)
           go k g =
               let b = read-bounds s n in
               let f = handFor s .fields in
               winner-added w (cond (isRon f) (f .discarder) (k - 1)) (isRon f || isSet k) (l .counter) (b .winner)
               (payer-small (isRon f) (f .discarder) k (b .discarder) (g .0)) (payer-other (isRon f) w (f .discarder) k (other-seat f (b .other)) (g .1))
 
-      pub winner-gains : paidIn l s q w ≡ pos (gainBy l s q) +ℤ pos (300 * l .counter)
+      pub winner-gains : paidIn l s q (l .counter) w ≡ pos (gainBy l s q) +ℤ pos (300 * l .counter)
       winner-gains = let g = gain-at q (omega (arith, read-bounds s n .winner)) in rw (winner-won, winner-more, g)
 
   module _ (n : ℕ) (e : n ≡ refusalFor l (win s)) where
@@ -157,15 +170,15 @@ module _ (l : Game) (s : List ℕ) where
     pub win-paid : PaidByBest l s n
     win-paid z =
         let y = win-accepted l s (sym e ∙ z) in
-        let r = best (handFor s) (l .dealer) (l .wind) (names (y .0) (sound s .1 (y .1))) (y .2) in
-        (r .0, r .1, win-moves (r .0) (sym e ∙ z) (r .1 .yaku .0) (r .2), λ q w. most (handFor s) (l .dealer) (l .wind) (r .0) q (r .1) w)
+        let r = best-of (y .0) (y .1) (y .2) in
+        (r .0, r .1, win-moves (r .0) (sym e ∙ z) (r .1 .0 .yaku .0) (r .2))
 
     pub win-best : BestWithCounters l s n
     win-best z =
         let p = win-paid z in
         let y = win-accepted l s (sym e ∙ z) in
         let w = winner-gains (y .0) (y .1) in
-        (p .0, p .1, p .2, λ q k. rw (w (p .0), w q) (same-order (gainBy l s q) (gainBy l s (p .0)) (pos (300 * l .counter)) (p .3 q k)))
+        (p .0, p .1 .0, p .2, λ q k. rw (w (p .0), w q) (same-order (gainBy l s q) (gainBy l s (p .0)) (pos (300 * l .counter)) (p .1 .1 q k)))
 
     -- a refusal of the scorer's, of a sound record in an open game
     told : notOpen l ≡ false → (j : ℕ) → 0 < j → j < 11 → (n ≡ j) ↔ (scoredFor l s .refusal ≡ j)
@@ -189,3 +202,73 @@ module _ (l : Game) (s : List ℕ) where
         let none = refused-6 (handFor s) (l .dealer) (l .wind) x in
         let some = refused-7 (handFor s) (l .dealer) (l .wind) x in
         ((λ q. none .0 (six .0 q), λ u. six .1 (none .1 u)), (λ q. some .0 (seven .0 q), λ u. seven .1 (some .1 u)))
+
+-- ---- several records
+
+module _ (l : Game) (o : notOpen l ≡ false) (x : ℕ) where
+  -- the readings of records that read and score, and what they give
+  abbrev Found : List (List ℕ) → Type 0
+  Found ss = (rs : List Reading) × EachBest l ss rs × ((i : ℕ) → setGives l x ss i ≡ givenIn l x ss rs i)
+
+  each-found : (ss : List (List ℕ)) → AllRead ss → firstRefused l ss ≡ 0 → Found ss
+  unfolding firstRefused setGives
+  each-found [] r e = ([], tt, λ i. refl)
+  each-found (s ∷ ss) r e =
+      let v : ℕ = scoredFor l s .refusal in
+      let p = own-zero (winRefusal l s) (firstRefused l ss) e in
+      let b = best-of l s o (r .0) (own-zero v (cond (riichiMismatch l (handFor s)) 11 0) (p .0) .0) in
+      let t = each-found ss (r .1) (p .1) in
+      let takes : Bool = eqb (handFor s .fields .winner) x in
+      let n : ℕ = cond takes (l .counter) 0 in
+      let k : ℕ = cond takes (l .sticks) 0 in (
+        b .0 ∷ t .0,
+        (b .1, t .1),
+        λ i.
+            ap (λ (z : ℤ). z +ℤ setGives l x ss i) (gives-in l s (b .0) (r .0) (b .1 .0 .yaku .0) (b .2) n k i)
+            ∙ ap (λ (z : ℤ). paidIn l s (b .0) n i +ℤ sticksTo l s k i +ℤ z) (t .2 i),
+      )
+
+module _ (l : Game) (number : ℕ) (s : List ℕ) where
+  pub set-paid : (n : ℕ) → n ≡ refusalFor l (many number s) → SetPaid l number s n
+  unfolding effectOf
+  set-paid n e z =
+      let q = sym e ∙ z in
+      let a = many-accepted l number s q in
+      let ss = recordsOf number s in
+      let f = each-found l (a .opened) (firstWinner ss) ss (a .read) (a .scored) in (
+        f .0,
+        f .1,
+        λ i h.
+            let given : scoreAt (after l (many number s)) i ≡ scoreAt l i +ℤ setGives l (firstWinner ss) ss i = rw q at (score-after l (many number s) i h) in
+            given ∙ ap (λ (x : ℤ). scoreAt l i +ℤ x) (f .2 i),
+      )
+
+-- ---- when several records are accepted
+
+module _ (l : Game) (o : notOpen l ≡ false) where
+  each-wins : (ss : List (List ℕ)) → AllRead ss → firstRefused l ss ≡ 0 → EachWins l ss
+  unfolding firstRefused
+  each-wins [] r e = tt
+  each-wins (s ∷ ss) r e =
+      let p = own-zero (winRefusal l s) (firstRefused l ss) e in
+      let y = win-accepted-when l s 0 (sym (win-by l s o ∙ p .0)) .0 refl in
+      ((y .1, y .2, y .3), each-wins ss (r .1) (p .1))
+
+  all-won : (ss : List (List ℕ)) → EachWins l ss → (firstUnread ss ≡ 0) × (firstRefused l ss ≡ 0)
+  unfolding firstUnread firstRefused
+  all-won [] w = (refl, refl)
+  all-won (s ∷ ss) w =
+      let t = all-won ss (w .1) in
+      let z : winRefusal l s ≡ 0 = sym (win-by l s o) ∙ win-accepted-when l s (refusalFor l (win s)) refl .1 (o, w .0 .0, w .0 .1, w .0 .2) in
+      (rw (sound s .0 (w .0 .0)) (t .0), rw z (t .1))
+
+module _ (l : Game) (number : ℕ) (s : List ℕ) where
+  pub set-accepted-when : (n : ℕ) → n ≡ refusalFor l (many number s) → SetAcceptedWhen l number s n
+  set-accepted-when n e = (
+    λ z.
+        let a = many-accepted l number s (sym e ∙ z) in
+        (a .opened, a .some, a .few, each-wins l (a .opened) (recordsOf number s) (a .read) (a .scored), a .set),
+    λ y.
+        let t = all-won l (y .0) (recordsOf number s) (y .3) in
+        e ∙ many-by l number s (y .0) (rw (ne-eqb number 0 (λ z. omega (arith, y .1)), le-ltb 3 number (y .2))) (t .0) false (y .4) ∙ t .1,
+  )

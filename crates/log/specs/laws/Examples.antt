@@ -1,11 +1,11 @@
--- Document 01's log, a win, a feed, and each refusal, computed.
+-- Document 01's log, a win, two rons, a feed, and each refusal, computed.
 use mathlib.Core.Path.{_≡_, refl}
-use mathlib.Core.List.{[], _∷_}
+use mathlib.Core.List.{[], _∷_, _++_}
 use lib.ListN.{take, drop}
 use Rattle.hand_record.specs.Record.{headOf}
-use Rattle.hand_record.specs.laws.Examples.{line1}
+use Rattle.hand_record.specs.laws.Examples.{line1, line6}
 use Rattle.record_lengths.specs.Lengths.{recordLength}
-use Rattle.log.specs.Kinds.{holderIn, feederIn, yakuIn, lengthBy, entryLength}
+use Rattle.log.specs.Kinds.{hasBroken, spanOf, recordsLength, holderIn, feederIn, yakuIn, lengthBy, entryLength}
 use Rattle.log.specs.Log.{refusalAt, partsFew, partsOf}
 
 -- "Hexadecimal 01 24": riichi by seat 1 and a draw with seat 1 ready
@@ -13,14 +13,23 @@ pub example : partsOf (1 ∷ 36 ∷ []) ≡ (1 ∷ []) ∷ (36 ∷ []) ∷ []
 unfolding recordLength lengthBy entryLength partsFew partsOf
 example = refl
 
--- a win of 13 bytes, and the same with a byte missing, an argument, m 5; and kinds 4 and 6
+-- a win of 13 bytes, and the same with a byte missing, an argument, m 5; and kind 6
 pub win-whole : entryLength (16 ∷ line1 .bytes) ≡ 14
 unfolding headOf recordLength lengthBy entryLength
 win-whole = refl
 
-pub refusals : (refusalAt (16 ∷ take 12 (line1 .bytes)) 0 ≡ 14) × (refusalAt (17 ∷ line1 .bytes) 0 ≡ 14) × (refusalAt (16 ∷ 0 ∷ 0 ∷ 2 ∷ 128 ∷ drop 4 (line1 .bytes)) 0 ≡ 14) × (refusalAt (64 ∷ []) 0 ≡ 14) × (refusalAt (96 ∷ []) 0 ≡ 14)
+pub refusals : (refusalAt (16 ∷ take 12 (line1 .bytes)) 0 ≡ 14) × (refusalAt (17 ∷ line1 .bytes) 0 ≡ 14) × (refusalAt (16 ∷ 0 ∷ 0 ∷ 2 ∷ 128 ∷ drop 4 (line1 .bytes)) 0 ≡ 14) × (refusalAt (96 ∷ []) 0 ≡ 14)
 unfolding headOf recordLength lengthBy entryLength refusalAt
-refusals = (refl, refl, refl, refl, refl)
+refusals = (refl, refl, refl, refl)
+
+-- S-6: records of 12 and 13 bytes; and the same with no record said, four, a byte missing, and m 5 in the second
+pub many-whole : entryLength (66 ∷ line6 .bytes ++ line1 .bytes ++ 1 ∷ []) ≡ 26
+unfolding headOf recordLength hasBroken spanOf recordsLength lengthBy entryLength
+many-whole = refl
+
+pub many-refusals : (refusalAt (64 ∷ line6 .bytes) 0 ≡ 14) × (refusalAt (68 ∷ line6 .bytes ++ line6 .bytes ++ line6 .bytes ++ line6 .bytes) 0 ≡ 14) × (refusalAt (66 ∷ line6 .bytes ++ take 12 (line1 .bytes)) 0 ≡ 14) × (refusalAt (66 ∷ line6 .bytes ++ 0 ∷ 0 ∷ 2 ∷ 128 ∷ drop 4 (line1 .bytes)) 0 ≡ 14)
+unfolding headOf recordLength hasBroken spanOf recordsLength lengthBy entryLength refusalAt
+many-refusals = (refl, refl, refl, refl)
 
 -- S-8: seat 2 holds, seat 1 fed, yaku 29; and the same with the byte missing, an argument, and each zero bit set
 pub example-feed : entryLength (80 ∷ 152 ∷ []) ≡ 2

@@ -1,9 +1,8 @@
 -- How long the entry is that bytes start with; that its part lies inside the log; and what the part of a kind is.
-use mathlib.Core.Path.{_≡_, refl, sym, ap, _∙_}
-use mathlib.Core.Bool.{Bool, true, false, _||_, cond}
-use mathlib.Core.Logic.{_⊎_, inl, inr}
+use mathlib.Core.Path.{_≡_, refl, ap, _∙_}
+use mathlib.Core.Bool.{Bool, true, false}
 use mathlib.Core.List.{List, [], _∷_}
-use Prim.Native.Nat.{ℕ, zero, suc, _+_, _*_, _-_, _/_, _%_, _≤_, _<_}
+use Prim.Native.Nat.{ℕ, zero, suc, _+_, _*_, _-_, _%_, _≤_, _<_}
 use native.Mathlib.Omega.{arith}
 use native.Mathlib.Numerals.{add-one}
 use borrow.Author.Tests.{ltb-true, ltb-false, leb-true, leb-false, le-leb, lt-leb, eq-eqb, ne-eqb, eqb-true, eqb-false}
@@ -12,9 +11,11 @@ use lib.ListN.{length, getD, take, drop, length-drop}
 use lib.Seq.{length-take-le, take-all}
 use Rattle.hand_record.specs.Record.{countIn, lengthOf, wrongLength}
 use Rattle.record_lengths.specs.laws.Lengths.{unbroken, record-length}
-use Rattle.log.specs.Kinds.{kindIn, argumentIn, holderIn, feederIn, yakuIn, lengthBy, entryLength}
-use Rattle.log.specs.Log.{firstPart, partAt, refusalAt}
-use Rattle.log.specs.laws.Lengths.{Told, bad, won, fed, plain, told-by, feed-form}
+use Rattle.records.specs.Records.{recordsOf}
+use Rattle.log.specs.Kinds.{kindIn, argumentIn, spanOf, holderIn, feederIn, yakuIn, lengthBy, entryLength}
+use Rattle.log.specs.Log.{firstPart, partAt, refusalAt, laid}
+use Rattle.log.specs.laws.Records.{all-unbroken, records-right}
+use Rattle.log.specs.laws.Lengths.{Told, bad, won, many, fed, plain, told-by, feed-form}
 
 -- a stretch from a place on to the end
 pub from-on : (n : ℕ) (s : List ℕ) → take (length s - n) (drop n s) ≡ drop n s
@@ -60,6 +61,7 @@ module _ (s : List ℕ) where
         go : Told kind argument rest (entryLength s) → entryLength s ≤ length s
         go (bad b e) = omega (arith, e)
         go (won k a u e) = omega (arith, e, unbroken rest u, length-drop 1 s)
+        go (many k p o u e) = omega (arith, e, all-unbroken argument rest u, length-drop 1 s)
         go (fed k a u e) = omega (arith, e, feed-form rest u, length-drop 1 s)
         go (plain k l e) = omega (arith, e)
 
@@ -154,14 +156,15 @@ module _ (s : List ℕ) (some : 0 < length (firstPart s)) where
   same-header : getD (firstPart s) 0 0 ≡ getD s 0 0
   same-header = take-first s (entryLength s) (omega (arith, some, part-length s))
 
-  pub part-kind : (kindIn (firstPart s) ≤ 3) ⊎ (kindIn (firstPart s) ≡ 5)
+  pub part-kind : kindIn (firstPart s) ≤ 5
   part-kind = rw same-header (go (told s bytes))
     where
-      go : Told (kindIn s) (argumentIn s) (drop 1 s) (entryLength s) → (kindIn s ≤ 3) ⊎ (kindIn s ≡ 5)
+      go : Told (kindIn s) (argumentIn s) (drop 1 s) (entryLength s) → kindIn s ≤ 5
       go (bad b e) = absurd (omega (arith, e, some, part-length s))
-      go (won k a u e) = inl (omega (arith, k))
-      go (fed k a u e) = inr k
-      go (plain k l e) = inl l
+      go (won k a u e) = omega (arith, k)
+      go (many k p o u e) = omega (arith, k)
+      go (fed k a u e) = omega (arith, k)
+      go (plain k l e) = omega (arith, l)
 
   pub part-win : kindIn (firstPart s) ≡ 1 → (argumentIn (firstPart s) ≡ 0) × (wrongLength (length (drop 1 (firstPart s))) (countIn (drop 1 (firstPart s))) ≡ false)
   part-win w = rw same-header (go (told s bytes))
@@ -169,8 +172,22 @@ module _ (s : List ℕ) (some : 0 < length (firstPart s)) where
       go : Told (kindIn s) (argumentIn s) (drop 1 s) (entryLength s) → (argumentIn s ≡ 0) × (wrongLength (length (drop 1 (firstPart s))) (countIn (drop 1 (firstPart s))) ≡ false)
       go (bad b e) = absurd (omega (arith, e, some, part-length s))
       go (won k a u e) = (a, rw (e, after-header s (lengthOf (countIn (drop 1 s))) bytes) (record-length (drop 1 s) u))
+      go (many k p o u e) = absurd (omega (arith, k, rw same-header at w))
       go (fed k a u e) = absurd (omega (arith, k, rw same-header at w))
       go (plain k l e) = absurd (k (rw same-header at w))
+
+  pub part-many : kindIn (firstPart s) ≡ 4 → let a = argumentIn (firstPart s) in let t = drop 1 (firstPart s) in let rs = recordsOf a t in (0 < a) × (a ≤ 3) × (length rs ≡ a) × (laid rs ≡ t) × ((k : ℕ) → k < a → wrongLength (length (getD rs k [])) (countIn (getD rs k [])) ≡ false)
+  part-many w = rw same-header (go (told s bytes))
+    where
+      go : Told (kindIn s) (argumentIn s) (drop 1 s) (entryLength s) → let a = argumentIn s in let t = drop 1 (firstPart s) in let rs = recordsOf a t in (0 < a) × (a ≤ 3) × (length rs ≡ a) × (laid rs ≡ t) × ((k : ℕ) → k < a → wrongLength (length (getD rs k [])) (countIn (getD rs k [])) ≡ false)
+      go (bad b e) = absurd (omega (arith, e, some, part-length s))
+      go (won k a u e) = absurd (omega (arith, k, rw same-header at w))
+      go (many k p o u e) =
+          let r = records-right (argumentIn s) (drop 1 s) u in
+          let d = ap (λ (n : ℕ). drop 1 (take n s)) e ∙ after-header s (spanOf (argumentIn s) (drop 1 s)) bytes in
+          (p, o, rw d (r .0), rw d (r .1), rw d (r .2))
+      go (fed k a u e) = absurd (omega (arith, k, rw same-header at w))
+      go (plain k l e) = absurd (omega (arith, l, rw same-header at w))
 
   pub part-feed : kindIn (firstPart s) ≡ 5 → let t = drop 1 (firstPart s) in (argumentIn (firstPart s) ≡ 0) × (length t ≡ 1) × (getD t 0 0 ≡ 64 * holderIn t + 16 * feederIn t + 8 * (yakuIn t - 28))
   part-feed w = rw same-header (go (told s bytes))
@@ -178,6 +195,7 @@ module _ (s : List ℕ) (some : 0 < length (firstPart s)) where
       go : Told (kindIn s) (argumentIn s) (drop 1 s) (entryLength s) → let t = drop 1 (firstPart s) in (argumentIn s ≡ 0) × (length t ≡ 1) × (getD t 0 0 ≡ 64 * holderIn t + 16 * feederIn t + 8 * (yakuIn t - 28))
       go (bad b e) = absurd (omega (arith, e, some, part-length s))
       go (won k a u e) = absurd (omega (arith, k, rw same-header at w))
+      go (many k p o u e) = absurd (omega (arith, k, rw same-header at w))
       go (fed k a u e) =
           let f = feed-form (drop 1 s) u in
           let d = ap (λ (n : ℕ). drop 1 (take n s)) e ∙ after-header s 1 bytes in (

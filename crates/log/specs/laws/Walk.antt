@@ -9,7 +9,7 @@ use lib.ListN.{length, take, drop, length-append, length-drop, take-append-drop}
 use lib.Seq.{drop-drop, take-append-seam, take-all}
 use Rattle.log.specs.Kinds.{kindIn, argumentIn, entryLength}
 use Rattle.log.specs.Log.{firstPart, partAt, refusalAt, partsBy, partsFew, partsOf, laid, stopOf}
-use Rattle.log.specs.laws.Lengths.{IsBad, Told, bad, won, fed, plain}
+use Rattle.log.specs.laws.Lengths.{IsBad, Told, bad, won, many, fed, plain}
 use Rattle.log.specs.laws.Next.{told, none-empty, length-inside, part-length, length-part, part-past, some-left, refusal-end, refusal-bad, refusal-entry, by-place}
 
 -- what holds where no entry stands, and at an entry whenever after it, holds of all bytes
@@ -143,6 +143,7 @@ module _ (log : List ℕ) (at : ℕ) where
       go : Told (kindIn (drop at log)) (argumentIn (drop at log)) (drop 1 (drop at log)) (entryLength (drop at log)) → IsBad (kindIn (drop at log)) (argumentIn (drop at log)) (drop 1 (drop at log))
       go (bad b z) = b
       go (won k a u z) = absurd (omega (arith, e, z))
+      go (many k p o u z) = absurd (omega (arith, e, z))
       go (fed k a u z) = absurd (omega (arith, e, z))
       go (plain k h z) = absurd (omega (arith, e, z))
 
@@ -151,17 +152,26 @@ module _ (log : List ℕ) (at : ℕ) where
     where
       go : IsBad (kindIn (drop at log)) (argumentIn (drop at log)) (drop 1 (drop at log)) → Told (kindIn (drop at log)) (argumentIn (drop at log)) (drop 1 (drop at log)) (entryLength (drop at log)) → entryLength (drop at log) ≡ 0
       go x (bad b z) = z
-      go (inl o) (won k a u z) = absurd (omega (arith, o .0, k))
+      go (inl o) (won k a u z) = absurd (omega (arith, o, k))
       go (inr (inl (w, inl o))) (won k a u z) = absurd (o a)
       go (inr (inl (w, inr o))) (won k a u z) = absurd (false≢true (sym u ∙ o))
-      go (inr (inr o)) (won k a u z) = absurd (omega (arith, o .0, k))
-      go (inl o) (fed k a u z) = absurd (o .1 k)
+      go (inr (inr (inl o))) (won k a u z) = absurd (omega (arith, o .0, k))
+      go (inr (inr (inr o))) (won k a u z) = absurd (omega (arith, o .0, k))
+      go (inl o) (many k p l u z) = absurd (omega (arith, o, k))
+      go (inr (inl o)) (many k p l u z) = absurd (omega (arith, o .0, k))
+      go (inr (inr (inl (w, inl o)))) (many k p l u z) = absurd (omega (arith, o, p))
+      go (inr (inr (inl (w, inr (inl o))))) (many k p l u z) = absurd (omega (arith, o, l))
+      go (inr (inr (inl (w, inr (inr o))))) (many k p l u z) = absurd (false≢true (sym u ∙ o))
+      go (inr (inr (inr o))) (many k p l u z) = absurd (omega (arith, o .0, k))
+      go (inl o) (fed k a u z) = absurd (omega (arith, o, k))
       go (inr (inl o)) (fed k a u z) = absurd (omega (arith, o .0, k))
-      go (inr (inr (w, inl o))) (fed k a u z) = absurd (o a)
-      go (inr (inr (w, inr o))) (fed k a u z) = absurd (false≢true (sym u ∙ o))
-      go (inl o) (plain k h z) = absurd (omega (arith, o .0, h))
+      go (inr (inr (inl o))) (fed k a u z) = absurd (omega (arith, o .0, k))
+      go (inr (inr (inr (w, inl o)))) (fed k a u z) = absurd (o a)
+      go (inr (inr (inr (w, inr o)))) (fed k a u z) = absurd (false≢true (sym u ∙ o))
+      go (inl o) (plain k h z) = absurd (omega (arith, o, h))
       go (inr (inl o)) (plain k h z) = absurd (k (o .0))
-      go (inr (inr o)) (plain k h z) = absurd (omega (arith, o .0, h))
+      go (inr (inr (inl o))) (plain k h z) = absurd (omega (arith, o .0, h))
+      go (inr (inr (inr o))) (plain k h z) = absurd (omega (arith, o .0, h))
 
   pub bad-exactly : (refusalAt log at ≡ 14) ↔ ((at < length log) × IsBad (kindIn (drop at log)) (argumentIn (drop at log)) (drop 1 (drop at log)))
   bad-exactly = (λ h. let b = bad-length .0 h in (b .0, zero-bad (b .0) (b .1)), λ h. bad-length .1 (h .0, bad-zero (h .0) (h .1)))

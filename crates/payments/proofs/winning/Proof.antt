@@ -7,7 +7,7 @@ use lib.IntN.{ℤ, pos, _+ℤ_}
 use mir.Syntax.{w32}
 use mir.Val.{SFits, toZ}
 use Rattle.score.specs.laws.Z.{Within, add-law, within-add, eq-parts}
-use Rattle.ledger.specs.laws.Bounds.{amount, mostChange, mostSticks}
+use Rattle.ledger.specs.laws.Bounds.{amount, mostChange, mostSticks, mostGift}
 use Rattle.ledger.specs.laws.Sums.{B32, fit32, held, plain, plus-fits, plus-is}
 use Rattle.payments.proofs.winning.Statement.{statement}
 use Rattle.payments.proofs.winning.Tie as tie
@@ -25,17 +25,17 @@ module _ (z a : ℤ) (k : ℕ) (p : Within z mostChange × Within a mostChange �
   thousands : toZ w32 (1000 * k) ≡ pos (1000 * k)
   thousands = let l = p .2 in plain (1000 * k) (omega arith)
 
-  within : Within (z +ℤ a +ℤ pos (1000 * k)) amount
+  within : Within (z +ℤ a +ℤ pos (1000 * k)) mostGift
   within =
       let l = p .2 in
       let b = within-add (z +ℤ a) (pos (1000 * k)) (mostChange + mostChange) (1000 * mostSticks) sum-within (omega arith, omega arith) in
       (omega arith, omega arith)
 
   all-fits : SFits w32 (B32 (B32 z +ℤ B32 a) +ℤ toZ w32 (1000 * k))
-  all-fits = rw (sum-is, thousands) (fit32 (z +ℤ a +ℤ pos (1000 * k)) amount within (omega arith))
+  all-fits = rw (sum-is, thousands) (fit32 (z +ℤ a +ℤ pos (1000 * k)) mostGift within (omega arith))
 
   all-is : B32 (B32 (B32 z +ℤ B32 a) +ℤ toZ w32 (1000 * k)) ≡ z +ℤ a +ℤ pos (1000 * k)
-  all-is = rw (sum-is, thousands) (held (z +ℤ a +ℤ pos (1000 * k)) within)
+  all-is = rw (sum-is, thousands) (let w = within in held (z +ℤ a +ℤ pos (1000 * k)) (omega arith, omega arith))
 
 plus-zero : (z : ℤ) → z ≡ z +ℤ pos 0
 plus-zero z = eq-parts z (z +ℤ pos 0) (omega (arith, add-law z (pos 0)))

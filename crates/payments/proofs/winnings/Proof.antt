@@ -9,8 +9,8 @@ use lib.Dec.{eqb}
 use lib.IntN.{ℤ, pos, _+ℤ_}
 use lib.ListN.{getD}
 use Rattle.score.specs.laws.Z.{Within}
-use Rattle.ledger.specs.laws.Bounds.{mostChange, mostSticks}
-use Rattle.ledger.specs.laws.Sums.{Changes, B32, held, four}
+use Rattle.ledger.specs.laws.Bounds.{mostChange, mostSticks, mostGift}
+use Rattle.ledger.specs.laws.Sums.{Changes, B32, held, four-within}
 use Rattle.payments.proofs.winnings.Statement.{statement}
 use Rattle.payments.proofs.winnings.Tie as tie
 
@@ -44,7 +44,7 @@ winnings-spec =
     let first = second .before .before .before in
     let start = first .before .before .before in
     let seat = given (start .args .t1) (start .args .t2) (start .pre .0) (start .pre .1) (start .args .winner) (start .args .sticks) in
-    four (first .winning .result) (second .winning2 .result) (third .winning3 .result) (c .winning4 .result)
+    four-within mostGift (omega arith) (first .winning .result) (second .winning2 .result) (third .winning3 .result) (c .winning4 .result)
     (λ i. getD (start .args .t1) i (pos 0) +ℤ getD (start .args .t2) i (pos 0) +ℤ cond (eqb i (start .args .winner)) (pos (1000 * start .args .sticks)) (pos 0))
     (seat 0 (first .winning .result) (first .winning .ensures .0), first .winning .ensures .1) (seat 1 (second .winning2 .result) (second .winning2 .ensures .0), second .winning2 .ensures .1)
     (seat 2 (third .winning3 .result) (third .winning3 .ensures .0), third .winning3 .ensures .1) (seat 3 (c .winning4 .result) (c .winning4 .ensures .0), c .winning4 .ensures .1)))

@@ -15,10 +15,16 @@ book-spec =
     (λ c κs. search needs)
     (λ c. rw (ne-eqb _ 0 (c .before .before .before .if1 .left), ne-eqb _ 1 (c .before .before .if2 .left), eq-eqb _ 2 (c .before .if3 .taken)) (c .draw .ensures))
     (λ c κs. search needs)
+    (λ c. let drawn = c .before .before in rw (ne-eqb _ 0 (drawn .before .before .if1 .left), ne-eqb _ 1 (drawn .before .if2 .left), ne-eqb _ 2 (drawn .if3 .left), eq-eqb _ 4 (c .before .if4 .taken)) (c .many .ensures))
+    (λ c κs. search needs)
     (λ c.
-    rw (ne-eqb _ 0 (c .before .before .before .before .if1 .left), ne-eqb _ 1 (c .before .before .before .if2 .left), ne-eqb _ 2 (c .before .before .if3 .left), eq-eqb _ 5 (c .before .if4 .taken))
+    let some = c .before .before in
+    let drawn = some .before in
+    rw (ne-eqb _ 0 (drawn .before .before .if1 .left), ne-eqb _ 1 (drawn .before .if2 .left), ne-eqb _ 2 (drawn .if3 .left), ne-eqb _ 4 (some .if4 .left), eq-eqb _ 5 (c .before .if5 .taken))
     (c .book-feed .ensures))
     (λ c κs. search needs)
     (λ c.
-    rw (ne-eqb _ 0 (c .before .before .before .before .if1 .left), ne-eqb _ 1 (c .before .before .before .if2 .left), ne-eqb _ 2 (c .before .before .if3 .left), ne-eqb _ 5 (c .before .if4 .left))
+    let some = c .before .before in
+    let drawn = some .before in
+    rw (ne-eqb _ 0 (drawn .before .before .if1 .left), ne-eqb _ 1 (drawn .before .if2 .left), ne-eqb _ 2 (drawn .if3 .left), ne-eqb _ 4 (some .if4 .left), ne-eqb _ 5 (c .before .if5 .left))
     (c .chombo .ensures)))

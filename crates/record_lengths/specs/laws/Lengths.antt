@@ -1,5 +1,5 @@
--- How long a record is, case by case, and that a whole one has the length that Read wants.
-use mathlib.Core.Path.{_≡_, refl}
+-- How long a record is, case by case; what a whole one is, and that Read refuses a broken one.
+use mathlib.Core.Path.{_≡_, refl, sym, ap, _∙_}
 use mathlib.Core.Bool.{Bool, true, false, _||_, cond}
 use mathlib.Core.Logic.{_⊎_, inl, inr}
 use mathlib.Core.List.{List, [], _∷_}
@@ -8,11 +8,12 @@ use native.Mathlib.Nat.{div-one, div-div-eq-div-mul}
 use native.Mathlib.Omega.{arith}
 use borrow.Author.Tests.{ltb-false, lt-ltb, le-ltb}
 use lib.Dec.{ltb}
-use lib.ListN.{length, getD, take}
-use lib.Seq.{length-take-le}
+use lib.ListN.{length, getD, take, length-take}
+use lib.Seq.{length-take-le, take-all}
 use Rattle.tiles.specs.laws.Below.{or-both}
-use Rattle.hand_record.specs.Record.{headOf, countIn, lengthOf, wrongLength}
-use Rattle.hand_record.specs.laws.Read.{whole, length-right}
+use Rattle.hand_record.specs.declared.HandRead.{HandRead}
+use Rattle.hand_record.specs.Record.{headOf, countIn, lengthOf, wrongLength, refusedWith, refusalIn, readOf}
+use Rattle.hand_record.specs.laws.Read.{whole, RightLength, length-right, read-not}
 use Rattle.record_lengths.specs.Lengths.{isBroken, recordLength}
 
 -- m by its two bytes
@@ -70,6 +71,23 @@ module _ (s : List ℕ) where
       go (inl b) = (omega (arith, b .1), omega (arith, b .1))
       go (inr u) = (omega (arith, u .1, unbroken (u .0)), omega (arith, u .1, unbroken (u .0)))
 
+  pub length-zero : recordLength s ≡ 0 → isBroken s ≡ true
+  length-zero z = go broken-or-whole
+    where
+      go : ((isBroken s ≡ true) × (recordLength s ≡ 0)) ⊎ ((isBroken s ≡ false) × (recordLength s ≡ lengthOf (countIn s))) → isBroken s ≡ true
+      go (inl b) = b .0
+      go (inr u) = absurd (omega (arith, z, u .1, unbroken (u .0)))
+
+  pub length-some : (recordLength s ≡ 0 → ⊥) → (isBroken s ≡ false) × (recordLength s ≡ lengthOf (countIn s))
+  length-some l = go broken-or-whole
+    where
+      go : ((isBroken s ≡ true) × (recordLength s ≡ 0)) ⊎ ((isBroken s ≡ false) × (recordLength s ≡ lengthOf (countIn s))) → (isBroken s ≡ false) × (recordLength s ≡ lengthOf (countIn s))
+      go (inl b) = absurd (l (b .1))
+      go (inr u) = u
+
+  pub whole-length : 0 < recordLength s → (recordLength s ≡ lengthOf (countIn s)) × (recordLength s ≤ length s)
+  whole-length h = (length-some (λ z. omega (arith, h, z)) .1, record-inside .1)
+
 -- m stands in the first four bytes
 pub count-take : (s : List ℕ) (n : ℕ) → 4 ≤ n → 4 ≤ length s → countIn (take n s) ≡ countIn s
 unfolding headOf
@@ -89,3 +107,25 @@ record-length s e =
     let u = unbroken s e in
     let l = length-take-le (lengthOf (countIn s)) s (u .3) in
     rw (count-take s (lengthOf (countIn s)) (u .1) (omega arith), l) (length-right (lengthOf (countIn s)) (countIn s) (record { four = u .1; few = u .0; right = refl }))
+
+-- ---- of records end to end the first
+
+-- S-6: "what doesn't fit is Read's 1": a broken one is, however many of its bytes Read is given
+pub broken-read : (s : List ℕ) (n : ℕ) → recordLength s ≡ 0 → readOf (take n s) ≡ refusedWith 1
+broken-read s n z = read-not (take n s) fails
+  where
+    fails : RightLength (length (take n s)) (countIn (take n s)) → ⊥
+    fails f =
+        let l = length-take n s in
+        let c : countIn (take n s) ≡ countIn s = count-take s n (omega (arith, l, f .four)) (omega (arith, l, f .four)) in
+        let m : countIn s ≤ 4 = omega (arith, c, f .few) in
+        let e : length (take n s) ≡ lengthOf (countIn s) = f .right ∙ ap lengthOf c in
+        omega (arith, z, whole (countIn s) m, record-whole s (omega (arith, l, f .four)) m (omega (arith, l, e)))
+
+-- as many as its m says
+pub broken-unread : (s : List ℕ) → recordLength s ≡ 0 → refusalIn (readOf (take (lengthOf (countIn s)) s) .answer) ≡ 1
+broken-unread s z = ap (λ (r : HandRead). refusalIn (r .answer)) (broken-read s (lengthOf (countIn s)) z)
+
+-- and of the last one, "all that is left"
+pub broken-left : (s : List ℕ) → recordLength s ≡ 0 → refusalIn (readOf s .answer) ≡ 1
+broken-left s z = ap (λ (l : List ℕ). refusalIn (readOf l .answer)) (sym (take-all (length s) s (omega arith))) ∙ ap (λ (r : HandRead). refusalIn (r .answer)) (broken-read s (length s) z)

@@ -1,13 +1,15 @@
--- What the game needs to know of a scored hand: four changes, none over 48,000, summing to 0.
+-- What the game needs to know of a scored hand: four changes, none over 48,000, where a child wins none under −32,000, summing to 0.
 use mathlib.Core.Path.{_≡_, refl, sym, ap, subst}
 use mathlib.Core.Bool.{Bool, true, false, _||_, cond}
 use mathlib.Core.List.{List}
-use Prim.Native.Nat.{ℕ, zero, suc, _≤_, _<_}
+use Prim.Native.Nat.{ℕ, zero, suc, _*_, _≤_, _<_}
+use native.Mathlib.Nat.{mul-le-mul}
 use native.Mathlib.Omega.{arith}
 use borrow.Author.Tests.{eqb-true}
 use lib.Dec.{ltb, eqb}
 use lib.IntN.{ℤ, pos, _-ℤ_}
 use lib.ListN.{getD, replicate}
+use Rattle.tiles.specs.laws.Below.{cond-le}
 use Rattle.hand.specs.declared.Hand.{Hand}
 use Rattle.hand.specs.Hand.{isRon}
 use Rattle.hand_record.specs.declared.Answer.{Answer}
@@ -15,7 +17,7 @@ use Rattle.hand_record.specs.declared.Answer.the-variants.{Sound, Refused}
 use Rattle.hand_record.specs.Record.{refusalIn, handOf, readOf}
 use Rattle.hand_record.specs.laws.Bounds.{read-bounds}
 use Rattle.points.specs.declared.Seats.{Seats}
-use Rattle.points.specs.Points.{pays, gain, change as changeOf, changes, sumOfFour}
+use Rattle.points.specs.Points.{hundreds, share, pays, gain, change as changeOf, changes, sumOfFour}
 use Rattle.points.specs.Claims.{changes-sum-zero}
 use Rattle.points.specs.laws.Bounds.{pays-le, gain-le}
 use Rattle.score.specs.declared.Scored.{Scored}
@@ -25,7 +27,7 @@ use Rattle.score.specs.Score.{scoreOf}
 use Rattle.score.specs.laws.Found.{kept-le}
 use Rattle.score.specs.laws.Settled.{found-is-score}
 use Rattle.score.specs.laws.Best.{answers}
-use Rattle.score.specs.laws.Z.{Within, sub-parts}
+use Rattle.score.specs.laws.Z.{dn, Within, sub-parts}
 
 abbrev pub change : Hand → ℕ → ℕ → ℕ → ℤ
 change h dealer wind i = getD (settledOf h dealer wind .changes) i (pos 0)
@@ -53,12 +55,47 @@ module _ (s : Seats) (ron : Bool) (a : ℕ) (h : a ≤ 8000) where
   all-within (suc (suc (suc zero))) = one-within 3 (omega arith)
   all-within (suc (suc (suc (suc i)))) = (omega arith, omega arith)
 
+-- where a child wins no seat pays over 32,000
+module _ (s : Seats) (ron : Bool) (a : ℕ) (h : a ≤ 8000) (child : eqb (s .winner) (s .dealer) ≡ false) where
+  child-share : (i : ℕ) → share s ron i ≤ 4
+  unfolding share
+  child-share i =
+      rw child (cond-le (eqb (s .winner) i) _ _ 4 (omega arith)
+      (cond-le ron _ _ 4 (cond-le (eqb (s .discarder) i) _ _ 4 (omega arith) (omega arith)) (cond-le (eqb (s .dealer) i) _ _ 4 (omega arith) (omega arith))))
+
+  child-pays : (i : ℕ) → pays s ron a i ≤ 32000
+  unfolding pays hundreds
+  child-pays i = let l : share s ron i * a ≤ 4 * 8000 = mul-le-mul (child-share i) h in omega arith
+
+  child-one : (i : ℕ) → dn (changeOf s ron a i) ≤ 32000
+  unfolding changeOf
+  child-one i = go (eqb (s .winner) i)
+    where
+      go : (b : Bool) → dn (cond b (pos (gain s ron a)) (pos 0 -ℤ pos (pays s ron a i))) ≤ 32000
+      go true = omega arith
+      go false = let p = sub-parts (pos 0) (pos (pays s ron a i)) in omega (arith, child-pays i)
+
+  child-all : (i : ℕ) → dn (getD (changes s ron a) i (pos 0)) ≤ 32000
+  unfolding changes
+  child-all zero = child-one 0
+  child-all (suc zero) = child-one 1
+  child-all (suc (suc zero)) = child-one 2
+  child-all (suc (suc (suc zero))) = child-one 3
+  child-all (suc (suc (suc (suc i)))) = omega arith
+
 zeros-within : (i : ℕ) → Within (getD (replicate 4 (pos 0)) i (pos 0)) 48000
 zeros-within zero = (omega arith, omega arith)
 zeros-within (suc zero) = (omega arith, omega arith)
 zeros-within (suc (suc zero)) = (omega arith, omega arith)
 zeros-within (suc (suc (suc zero))) = (omega arith, omega arith)
 zeros-within (suc (suc (suc (suc i)))) = (omega arith, omega arith)
+
+zeros-none : (i : ℕ) → dn (getD (replicate 4 (pos 0)) i (pos 0)) ≤ 32000
+zeros-none zero = omega arith
+zeros-none (suc zero) = omega arith
+zeros-none (suc (suc zero)) = omega arith
+zeros-none (suc (suc (suc zero))) = omega arith
+zeros-none (suc (suc (suc (suc i)))) = omega arith
 
 -- ---- of a scored hand: zeros where it is refused, else its payments
 
@@ -94,6 +131,11 @@ module _ (s : List ℕ) (dealer wind : ℕ) where
   score-within i =
       of-score (λ l. Within (getD l i (pos 0)) 48000) s dealer wind (zeros-within i)
       (λ e a l. all-within (seatsOf (handOf (readOf s)) dealer) (isRon (handOf (readOf s) .fields)) a l i)
+
+  pub score-child : eqb (handOf (readOf s) .fields .winner) dealer ≡ false → (i : ℕ) → dn (getD (scoreOf s dealer wind .changes) i (pos 0)) ≤ 32000
+  score-child child i =
+      of-score (λ l. dn (getD l i (pos 0)) ≤ 32000) s dealer wind (zeros-none i)
+      (λ e a l. child-all (seatsOf (handOf (readOf s)) dealer) (isRon (handOf (readOf s) .fields)) a l child i)
 
   pub zero-sum : sumOfFour (scoreOf s dealer wind .changes) ≡ pos 0
   zero-sum =

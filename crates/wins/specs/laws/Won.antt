@@ -1,8 +1,9 @@
--- What the win of a record that scores v gives and leaves, and that this is the ledger's booking.
-use mathlib.Core.Path.{_≡_, refl, ap, _∙_}
+-- What the win of a record that scores v comes to, and that this is the ledger's.
+use mathlib.Core.Path.{_≡_, refl, sym, ap, _∙_}
 use mathlib.Core.Bool.{Bool, true, false, not, _||_, cond}
-use mathlib.Core.List.{List}
+use mathlib.Core.List.{List, [], _∷_}
 use Prim.Native.Nat.{ℕ, _+_, _-_, _*_, _≤_, _<_}
+use native.Mathlib.Omega.{arith}
 use borrow.Author.Tests.{lt-ltb, le-ltb}
 use lib.Dec.{ltb, eqb}
 use lib.IntN.{ℤ, pos, _+ℤ_}
@@ -11,29 +12,36 @@ use Rattle.tiles.specs.Below.{tabulate}
 use Rattle.hand.specs.declared.Fields.{Fields}
 use Rattle.hand.specs.declared.Hand.{Hand}
 use Rattle.hand.specs.Hand.{isRon}
+use Rattle.hand_record.specs.Record.{refusalIn, readOf}
 use Rattle.score.specs.declared.Scored.{Scored}
+use Rattle.score.specs.laws.Settled.{score-unread}
 use Rattle.ledger.specs.declared.Game.{Game}
 use Rattle.ledger.specs.Booking.{win}
-use Rattle.ledger.specs.Ledger.{isSet, isDeclared, notOpen, handFor, scoredFor, finishing, settles, repeatGives, wholeOf, fedPays, fedFor, winGives, effectOf, applied, after}
-use Rattle.ledger.specs.Runs.{Booked}
-use Rattle.ledger.specs.laws.Refusals.{win-by}
+use Rattle.ledger.specs.Ledger.{isSet, isDeclared, notOpen, handFor, scoredFor, winRefusal, settles, repeatGives, wholeOf, fedPays, fedFor, winGives, effectOf, applied}
+use Rattle.ledger.specs.laws.Form.{Open}
+use Rattle.ledger.specs.laws.Sums.{Gifts, zeros-gifts}
 use Rattle.moves.specs.laws.Steps.{finished}
+use Rattle.wins.specs.declared.Settled.{Settled}
 
--- what a win with changes c and additions a gives each seat
+-- what a win with changes c and additions a gives each seat, the winner taking k sticks
 abbrev pub winningsOf : List ℤ → List ℤ → ℕ → ℕ → List ℤ
-winningsOf c a winner sticks = tabulate 4 0 (λ i. getD c i (pos 0) +ℤ getD a i (pos 0) +ℤ cond (eqb i winner) (pos (1000 * sticks)) (pos 0))
+winningsOf c a winner k = tabulate 4 0 (λ i. getD c i (pos 0) +ℤ getD a i (pos 0) +ℤ cond (eqb i winner) (pos (1000 * k)) (pos 0))
 
--- the game after a hand that gives c, or by article 67 what `by` says where t, with additions a: seat by seat
-module _ (g : Game) (by : ℕ → ℤ) (c a : List ℤ) (winner n : ℕ) (passes : Bool) where
-  seat-by-seat : (t : Bool) →
-      finished g (winningsOf (cond t (tabulate 4 0 by) c) a winner (g .sticks)) 0 passes n
-      ≡ applied g (finishing (λ i. cond t (by i) (getD c i (pos 0)) +ℤ getD a i (pos 0) +ℤ cond (eqb i winner) (pos (1000 * g .sticks)) (pos 0)) 0 passes n)
-  unfolding finished applied
-  seat-by-seat true = refl
-  seat-by-seat false = refl
+-- c, or what `by` says of each seat where t: seat by seat
+seat-by-seat : (by : ℕ → ℤ) (c a : List ℤ) (winner k : ℕ) (t : Bool) →
+    winningsOf (cond t (tabulate 4 0 by) c) a winner k
+    ≡ tabulate 4 0 (λ i. cond t (by i) (getD c i (pos 0)) +ℤ getD a i (pos 0) +ℤ cond (eqb i winner) (pos (1000 * k)) (pos 0))
+seat-by-seat by c a winner k true = refl
+seat-by-seat by c a winner k false = refl
 
--- a win with the fields f that scores v; fed is 0, or 1 + who fed the yaku that is reported
-module _ (g : Game) (f : Fields) (v : Scored) (fed : ℕ) where
+-- nothing, with a refusal
+abbrev pub nothing : ℕ → Settled
+nothing n = record { refusal = n; winner = 0; gives = pos 0 ∷ pos 0 ∷ pos 0 ∷ pos 0 ∷ [] }
+
+-- ---- a record that read
+
+-- a win with the fields f that scores v; fed is 0, or 1 + who fed the yaku that is reported; the winner takes n counters and k sticks
+module _ (g : Game) (f : Fields) (v : Scored) (fed n k : ℕ) where
   -- 11's condition
   abbrev mismatched : Bool
   mismatched = cond (ltb 0 (f .riichi)) (not (isDeclared g (f .winner))) (isDeclared g (f .winner))
@@ -41,12 +49,9 @@ module _ (g : Game) (f : Fields) (v : Scored) (fed : ℕ) where
   abbrev pub wonRefusal : ℕ
   wonRefusal = cond (ltb 0 (v .refusal)) (v .refusal) (cond mismatched 11 0)
 
-  abbrev dealers : Bool
-  dealers = eqb (f .winner) (g .dealer)
-
   -- what article 67 gives
   abbrev liabilities : ℕ → ℤ
-  liabilities = settles (f .winner) (fedPays (f .winner) (f .discarder) (fed - 1) (isRon f) (wholeOf dealers))
+  liabilities = settles (f .winner) (fedPays (f .winner) (f .discarder) (fed - 1) (isRon f) (wholeOf (eqb (f .winner) (g .dealer))))
 
   -- the changes, or what article 67 gives
   abbrev pub changesOf : List ℤ
@@ -54,26 +59,18 @@ module _ (g : Game) (f : Fields) (v : Scored) (fed : ℕ) where
 
   -- what the counters add
   abbrev pub additionsOf : List ℤ
-  additionsOf = tabulate 4 0 (repeatGives (f .winner) (cond (isRon f) (f .discarder) (fed - 1)) (isRon f || isSet fed) (g .counter))
+  additionsOf = tabulate 4 0 (repeatGives (f .winner) (cond (isRon f) (f .discarder) (fed - 1)) (isRon f || isSet fed) n)
 
-  -- the counter after it
-  abbrev pub counterOf : ℕ
-  counterOf = cond dealers (g .counter + 1) 0
+  -- what it comes to
+  abbrev pub Won : Settled → Type 0
+  Won r = (r .refusal ≡ wonRefusal) × (r .refusal ≡ 0 → (r .winner ≡ f .winner) × (r .gives ≡ winningsOf changesOf additionsOf (f .winner) k)) × Gifts (r .gives)
 
-  unfoldable pub wonGame : Game
-  wonGame = finished g (winningsOf changesOf additionsOf (f .winner) (g .sticks)) 0 (not dealers) counterOf
+  pub won-refused : (r : Settled) (m : ℕ) → r ≡ nothing m → wonRefusal ≡ m → 0 < m → Won r
+  won-refused r m e q l = rw e (sym q, λ z. absurd (omega arith), zeros-gifts)
 
-  -- the refusal that it gives, and the game that it leaves
-  abbrev pub Won : ℕ → Game → Type 0
-  Won n k = (n ≡ wonRefusal) × (k ≡ cond (ltb 0 wonRefusal) g wonGame)
-
-  pub won-refused : (n : ℕ) → wonRefusal ≡ n → 0 < n → Won n g
-  won-refused n q l = let t : ltb 0 n ≡ true = lt-ltb 0 n l in rw q (refl, rw t)
-
-  pub won-accepted : (c a by : List ℤ) (n : ℕ) (k : Game) → wonRefusal ≡ 0 → c ≡ changesOf → a ≡ additionsOf → by ≡ winningsOf c a (f .winner) (g .sticks)
-      → n ≡ counterOf → k ≡ finished g by 0 (not dealers) n → Won 0 k
-  unfolding wonGame
-  won-accepted c a by n k q y x p m e = rw q (refl, e ∙ rw (p, y, x, m))
+  pub won-accepted : (c a by : List ℤ) → wonRefusal ≡ 0 → c ≡ changesOf → a ≡ additionsOf → by ≡ winningsOf c a (f .winner) k → Gifts by
+      → Won (record { refusal = 0; winner = f .winner; gives = by })
+  won-accepted c a by q y x p w = (sym q, λ z. (refl, p ∙ rw (y, x)), w)
 
   pub won-unscored : 0 < v .refusal → wonRefusal ≡ v .refusal
   won-unscored l = rw (lt-ltb 0 (v .refusal) l)
@@ -81,17 +78,35 @@ module _ (g : Game) (f : Fields) (v : Scored) (fed : ℕ) where
   pub won-scored : v .refusal ≤ 0 → (b : Bool) → mismatched ≡ b → wonRefusal ≡ cond b 11 0
   won-scored l b q = rw (le-ltb 0 (v .refusal) l, q)
 
--- the win of the hand h that record s reads as, scoring v, is the booking
-module _ (g : Game) (s : List ℕ) where
-  won-is : wonGame g (handFor s .fields) (scoredFor g s) (fedFor g s) ≡ applied g (effectOf g (win s))
-  unfolding wonGame effectOf winGives applied
-  won-is =
+-- ---- a record
+
+module _ (g : Game) (s : List ℕ) (n k : ℕ) where
+  -- what its settling comes to
+  abbrev pub IsSettled : Settled → Type 0
+  IsSettled r = (r .refusal ≡ winRefusal g s) × (r .refusal ≡ 0 → (r .winner ≡ handFor s .fields .winner) × (r .gives ≡ tabulate 4 0 (winGives g s n k))) × Gifts (r .gives)
+
+  winnings-are : let f = handFor s .fields in let v = scoredFor g s in
+      winningsOf (changesOf g f v (fedFor g s) n k) (additionsOf g f v (fedFor g s) n k) (f .winner) k ≡ tabulate 4 0 (winGives g s n k)
+  unfolding winGives
+  winnings-are =
       let f = handFor s .fields in
       let v = scoredFor g s in
-      let n : ℕ = fedFor g s in
-      seat-by-seat g (liabilities g f v n) (v .changes) (additionsOf g f v n) (f .winner) (counterOf g f v n) (not (dealers g f v n)) (isSet n)
+      seat-by-seat (liabilities g f v (fedFor g s) n k) (v .changes) (additionsOf g f v (fedFor g s) n k) (f .winner) k (isSet (fedFor g s))
 
-  module _ (h : Hand) (v : Scored) (fed : ℕ) where
-    pub won-booked : (n : ℕ) (k : Game) → notOpen g ≡ false → h ≡ handFor s → v ≡ scoredFor g s → fed ≡ fedFor g s → Won g (h .fields) v fed n k → Booked g (win s) n k
-    unfolding after
-    won-booked n k o p q r w = rw (win-by g s o, ← won-is) (rw (p, q) at (w .0), rw (r, p, q) at (w .1))
+  pub settled-read : (h : Hand) (v : Scored) (fed : ℕ) (r : Settled) → h ≡ handFor s → v ≡ scoredFor g s → fed ≡ fedFor g s → Won g (h .fields) v fed n k r → IsSettled r
+  settled-read h v fed r p q e w =
+      let a = w .1 in
+      (rw (p, q) at (w .0), (λ z. let y = rw (e, p, q) at (a z) in (y .0, y .1 ∙ winnings-are)), w .2)
+
+  pub settled-unread : Open g → (r : Settled) (m : ℕ) → r ≡ nothing m → refusalIn (readOf s .answer) ≡ m → 0 < m → IsSettled r
+  settled-unread o r m e q l =
+      let f = o .form in
+      let c : winRefusal g s ≡ m = rw (score-unread s (g .dealer) (g .wind) (f .dealer) (f .wind) m q l, lt-ltb 0 m l) in
+      rw e (sym c, λ z. absurd (omega arith), zeros-gifts)
+
+-- ---- the game after a win
+
+pub win-applied : (g : Game) (s : List ℕ) (by : List ℤ) (w m : ℕ) → by ≡ tabulate 4 0 (winGives g s (g .counter) (g .sticks)) → w ≡ handFor s .fields .winner
+    → m ≡ cond (eqb w (g .dealer)) (g .counter + 1) 0 → finished g by 0 (not (eqb w (g .dealer))) m ≡ applied g (effectOf g (win s))
+unfolding finished applied effectOf
+win-applied g s by w m e p q = rw (e, q, p)

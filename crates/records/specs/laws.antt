@@ -1,0 +1,3 @@
+pub mod Sets
+pub mod Cut
+pub mod First
