@@ -57,6 +57,7 @@ enum {
     HB_REFUSAL_FEED = 18,       /* "a holder who is also the feeder, a yaku other than those two, or the same holder and yaku named
                                    twice in a hand" */
     HB_REFUSAL_CARDS = 19,      /* "a suit over 2, another size, or a buffer shorter than the whole list" */
+    HB_REFUSAL_STICK = 21,      /* "a seat with under 1,000 points"; "1,000 exactly is enough" */
     HB_REFUSAL_CLAIM = 22       /* "a claim of another length or with shape 3, a pair over 33, a group code that names no group,
                                    descending codes, a place over 4 - m or a padding bit set" */
 };
@@ -309,7 +310,7 @@ HbGame hb_fresh(void);
 
 /* The bookings: each gives 0 and updates the game, or gives its refusal and leaves the game. */
 
-/* Riichi of a seat; refusals 8, 9, 10 in order. */
+/* Riichi of a seat: "Takes 1,000, adds a stick"; a seat with under 1,000 points has none. Refusals 8, 9, 10, 21 in order. */
 uint8_t hb_riichi(HbGame *game, uint8_t seat);
 
 /* Win by a record: what Score gives, all sticks, and of the counters "A ron payer pays 300 more for each counter, and on tsumo each payer
@@ -344,7 +345,7 @@ uint8_t hb_feed(HbGame *game, uint8_t holder, uint8_t feeder, uint8_t yaku);
 HbNextEntry hb_next(const uint8_t *log, size_t log_len, size_t at);
 
 /* Books the entry that part begins with, such as log + at with the length that hb_next gave: its booking's refusal and the
- * game updated, or 14 and the game left where part begins with no whole entry. Refusals of an entry: 14; of a riichi 8, 9, 10,
+ * game updated, or 14 and the game left where part begins with no whole entry. Refusals of an entry: 14; of a riichi 8, 9, 10, 21,
  * a win 9, 2 to 7, 11, a draw 9, a chombo 8, 9, a many 9, 2 to 5, 17, 6, 7, 11, a feed 9, 18, in order. */
 uint8_t hb_book(HbGame *game, const uint8_t *part, size_t part_len);
 

@@ -891,7 +891,7 @@ static void counters(void)
     static const int32_t by_child[] = {30000, 34100, 30000, 25900};  /* line 1, 2,000, and 300 for each of 7 */
     static const int32_t by_tsumo[] = {28000, 34800, 28600, 28600};  /* line 2: 700, 700 and 1,300, and 100 for each from each */
     static const int32_t by_dealer[] = {35000, 30000, 30000, 25000}; /* line 3, 2,900 */
-    static const int32_t lowest[] = {15800000, -15740000, 30000, 30000};
+    static const int32_t lowest[] = {15601000, -15541000, 30000, 30000};
     HbGame fresh = hb_fresh(), seven = fresh, game;
     CHECK(fresh.counter == 0);
     seven.hands = 7, seven.counter = 7;
@@ -911,8 +911,9 @@ static void counters(void)
     CHECK(hb_win(&game, table[0].record, 3) == HB_REFUSAL_LENGTH && game.counter == 7);
 
     game = fresh;
+    CHECK(hb_riichi(&game, 1) == 0);
     for (int hand = 0; hand < 200; hand++)
-        CHECK_CASE(hand, hb_riichi(&game, 1) == 0 && game.counter == (uint32_t)hand && hb_win(&game, thirteen_orphans, 13) == 0);
+        CHECK_CASE(hand, game.counter == (uint32_t)hand && hb_win(&game, thirteen_orphans, 13) == 0);
     CHECK(is_game(&game, lowest, 0, 0, HB_ROUND_EAST, 200) && game.over && game.counter == 200);
     CHECK(all_refused(&game, HB_REFUSAL_NOT_OPEN));
 }
@@ -1044,6 +1045,57 @@ static int set_refused(const HbGame *game, uint8_t number, const uint8_t *record
     same = same && (refusal == HB_REFUSAL_LENGTH || number == 0 || number > 3 || book_many(&copy, number, own, length) == refusal);
     free(own);
     return same && memcmp(&copy, game, sizeof copy) == 0;
+}
+
+/* A fresh game with so many points of seat 1; seat 2 has the rest. */
+static HbGame with_points(int32_t points)
+{
+    HbGame game = hb_fresh();
+    game.scores[1] = points, game.scores[2] = 60000 - points;
+    return game;
+}
+
+/* Riichi with under 1,000 points, by a call and by an entry: 21, after 8, 9 and 10, and no byte is changed. A win or a set with riichi
+ * marked then meets 11, and the game goes on. 1,000 are enough, and leave none. */
+static void sticks(void)
+{
+    static const int32_t few[] = {-28540000, -1000, -1, 0, 1, 100, 900, 998, 999}, enough[] = {1000, 1001, 1100, 1999, 2000};
+    uint8_t set[26];
+    CHECK(put_ron(set, put_ron(set, 0, table[0].record, 13, 2, 3), with_riichi, 13, 1, 3) == 26);
+    for (size_t n = 0; n < COUNT_OF(few); n++) {
+        HbGame start = with_points(few[n]), game, before;
+        start.declared[3] = 0xfe, start.sticks = 1, start.scores[3] -= 1000;
+        game = start;
+        CHECK_CASE(few[n], hb_riichi(&game, 1) == HB_REFUSAL_STICK && memcmp(&game, &start, sizeof game) == 0);
+        CHECK_CASE(few[n], book_byte(&game, 0x01) == HB_REFUSAL_STICK && memcmp(&game, &start, sizeof game) == 0);
+        CHECK_CASE(few[n], hb_riichi(&game, 4) == HB_REFUSAL_ARGUMENT && memcmp(&game, &start, sizeof game) == 0);
+        CHECK_CASE(few[n], hb_win(&game, with_riichi, 13) == HB_REFUSAL_RIICHI && memcmp(&game, &start, sizeof game) == 0);
+        CHECK_CASE(few[n], book_win(&game, with_riichi, 13) == HB_REFUSAL_RIICHI && memcmp(&game, &start, sizeof game) == 0);
+        CHECK_CASE(few[n], set_refused(&game, 2, set, 26, HB_REFUSAL_RIICHI));
+        CHECK_CASE(few[n], hb_win(&game, table[0].record, 13) == 0 && game.scores[1] == few[n] + 2000 + 1000);
+
+        /* the points of the other seats do not matter */
+        game = start;
+        CHECK_CASE(few[n], hb_riichi(&game, 2) == 0 && hb_riichi(&game, 0) == 0 && hb_riichi(&game, 1) == HB_REFUSAL_STICK);
+
+        game = start, game.declared[1] = 7, game.sticks = 2, game.scores[0] -= 1000, before = game;
+        CHECK_CASE(few[n], hb_riichi(&game, 1) == HB_REFUSAL_DECLARED && book_byte(&game, 0x01) == HB_REFUSAL_DECLARED);
+        CHECK_CASE(few[n], memcmp(&game, &before, sizeof game) == 0);
+        game = start, game.over = 1, before = game;
+        CHECK_CASE(few[n], hb_riichi(&game, 1) == HB_REFUSAL_NOT_OPEN && book_byte(&game, 0x01) == HB_REFUSAL_NOT_OPEN);
+        CHECK_CASE(few[n], memcmp(&game, &before, sizeof game) == 0);
+    }
+    for (size_t n = 0; n < COUNT_OF(enough); n++) {
+        static const uint8_t one[4] = {0, 1, 0, 0};
+        HbGame game = with_points(enough[n]), booked = game, before;
+        CHECK_CASE(enough[n], hb_riichi(&game, 1) == 0 && book_byte(&booked, 0x01) == 0 && memcmp(&game, &booked, sizeof game) == 0);
+        CHECK_CASE(enough[n], game.scores[1] == enough[n] - 1000 && game.sticks == 1 && memcmp(game.declared, one, sizeof one) == 0);
+        before = game;
+        CHECK_CASE(enough[n], hb_riichi(&game, 1) == HB_REFUSAL_DECLARED && memcmp(&game, &before, sizeof game) == 0);
+        CHECK_CASE(enough[n], hb_many(&game, 2, set, 26) == 0 && game.sticks == 0);
+        game = before;
+        CHECK_CASE(enough[n], hb_win(&game, with_riichi, 13) == 0 && game.scores[1] == enough[n] + 3900 && game.sticks == 0);
+    }
 }
 
 /* Sets of rons of line 1's hand: who is paid what, who takes sticks and counters, and the deal. Each is made in a game with two counters
@@ -1201,17 +1253,19 @@ static void fed_sets(void)
     }
 }
 
-/* The lowest score there is: in each of 200 hands seat 1 declares riichi, and pays 48,000 to the dealer, 32,000 to each other seat and
- * the counters. Seat 2, the first after it, takes these and the stick. */
+/* The lowest score there is: seat 1 declares riichi, as long as it has 1,000 points, and pays 48,000 to the dealer, 32,000 to each other
+ * seat and the counters in each of 200 hands. Seat 2, the first after it, takes these and the stick. */
 static void lowest_of_all(void)
 {
-    static const int32_t lowest[] = {9630000, -28540000, 12600000, 6430000};
+    static const int32_t lowest[] = {9630000, -28341000, 12401000, 6430000};
     uint8_t records[39];
     size_t length = put_ron(records, 0, thirteen_orphans, 13, 0, 1);
     length = put_ron(records, put_ron(records, length, thirteen_orphans, 13, 2, 1), thirteen_orphans, 13, 3, 1);
     HbGame game = hb_fresh();
-    for (int hand = 0; hand < 200; hand++)
-        CHECK_CASE(hand, hb_riichi(&game, 1) == 0 && game.counter == (uint32_t)hand && hb_many(&game, 3, records, length) == 0);
+    for (int hand = 0; hand < 200; hand++) {
+        CHECK_CASE(hand, hb_riichi(&game, 1) == (hand ? HB_REFUSAL_STICK : 0));
+        CHECK_CASE(hand, game.counter == (uint32_t)hand && hb_many(&game, 3, records, length) == 0);
+    }
     CHECK(is_game(&game, lowest, 0, 0, HB_ROUND_EAST, 200) && game.over && game.counter == 200);
     CHECK(all_refused(&game, HB_REFUSAL_NOT_OPEN));
 }
@@ -1522,7 +1576,7 @@ static void starts(void)
 }
 
 /* Document 01's log 01 24, one with a win, refused bookings and a bad entry at its end, one with a counter, one with feeds,
- * and one with sets of rons. */
+ * one with sets of rons, and one with a riichi of a seat that has no points for it. */
 static void logs(void)
 {
     static const int32_t after[] = {29000, 32000, 29000, 29000};
@@ -1556,6 +1610,13 @@ static void logs(void)
     of_sets[put_ron(of_sets, put_ron(of_sets, 2, table[0].record, 13, 1, 3), table[0].record, 13, 2, 3)] = 0x41;
     memcpy(of_sets + 29, table[1].record, 13);
     CHECK(tally(of_sets, 42, 3 * HB_LINE_MAX, all) == sizeof set - 1 && memcmp(all, set, sizeof set - 1) == 0);
+
+    static const char broke[] = "1 C 0 33000 21000 33000 33000 0\n2 C 0 36000 12000 36000 36000 0\n3 C 0 39000 3000 39000 39000 0\n"
+                                "4 C 0 42000 -6000 42000 42000 0\n5 R 21 42000 -6000 42000 42000 0\n6 W 11 42000 -6000 42000 42000 0\n"
+                                "7 W 0 42000 -4000 42000 40000 0\n";
+    uint8_t of_sticks[33] = {0x31, 0x31, 0x31, 0x31, 0x01, 0x10}, seven[7 * HB_LINE_MAX];
+    memcpy(of_sticks + 6, with_riichi, 13), memcpy(of_sticks + 19, win_entry, 14);
+    CHECK(tally(of_sticks, 33, 7 * HB_LINE_MAX, seven) == sizeof broke - 1 && memcmp(seven, broke, sizeof broke - 1) == 0);
 }
 
 /* A log of many entries, to the game's end and past it, and a bad one last. Gives its length. */
@@ -1735,6 +1796,7 @@ int main(void)
     counters();
     fed_wins();
     refused_feeds();
+    sticks();
     sets();
     refused_sets();
     fed_sets();

@@ -52,7 +52,7 @@ def check_page(calls, refusals):
 
 
 def check_entry(comment, call, calls):
-    """The comment of a call that books an entry: its own refusals, and those of each booking ("of an entry: 14; of a riichi 8, 9, 10, a win ...")."""
+    """The comment of a call that books an entry: its own refusals, and those of each booking ("of an entry: 14; of a riichi 8, 9, 10, 21, a win ...")."""
     said = {kind: numbers(order) for kind, order in re.findall(r"\ban? (\w+):? (\d[\d, to]*)", plain(comment))}
     wanted = {"entry": next(order for name, order, _ in calls.values() if name == call)}
     for booking in BOOKINGS:

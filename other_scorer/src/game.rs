@@ -1,4 +1,4 @@
-//! The game and its six bookings (01, The game; 02, S-5 to S-8).
+//! The game and its six bookings (01, The game; 02, S-5 to S-8 and S-11).
 
 use crate::booking::Booking;
 use crate::codec::{pack, read};
@@ -71,6 +71,11 @@ impl Game {
         !self.over && self.hands != LAST_HAND && !self.form_faults().contains(&true)
     }
 
+    /// Whether a seat has the points of a stick; 1,000 exactly is enough (02, S-11).
+    pub fn affords_riichi(&self, seat: u8) -> bool {
+        self.scores[seat as usize] as i64 >= STICK
+    }
+
     /// Gives a seat points, or takes them; in an open game sums stay under 115 million.
     fn pay(&mut self, seat: usize, points: i64) {
         let score = self.scores[seat] as i64 + points;
@@ -130,7 +135,7 @@ pub fn is_ready(bits: u8, seat: usize) -> bool {
     bits >> (3 - seat) & 1 == 1
 }
 
-/// Books riichi; gives the refusal, 0 if accepted (01, Riichi).
+/// Books riichi; gives the refusal, 0 if accepted (01, Riichi; 02, S-11).
 pub fn riichi(game: &mut Game, seat: u8) -> u8 {
     if seat > 3 {
         return 8;
@@ -138,13 +143,15 @@ pub fn riichi(game: &mut Game, seat: u8) -> u8 {
     if !game.is_open() {
         return 9;
     }
-    let seat = seat as usize;
-    if game.declared[seat] {
+    if game.declared[seat as usize] {
         return 10;
     }
-    game.pay(seat, -STICK);
+    if !game.affords_riichi(seat) {
+        return 21;
+    }
+    game.pay(seat as usize, -STICK);
     game.sticks += 1;
-    game.declared[seat] = true;
+    game.declared[seat as usize] = true;
     0
 }
 

@@ -1,4 +1,4 @@
-//! The ledger: a second bookkeeping, from the bookings' arguments alone (01, Ledger; 02, S-5 to S-8).
+//! The ledger: a second bookkeeping, from the bookings' arguments alone (01, Ledger; 02, S-5 to S-8 and S-11).
 //! It shares only the scoring of a win with the game.
 
 use std::collections::{BTreeMap, BTreeSet};
@@ -102,11 +102,14 @@ impl Ledger {
         self.over || self.hands == 200 || !in_form
     }
 
-    /// The first listed refusal that a booking meets, 0 if none (01, The game; Ledger).
+    /// The first listed refusal that a booking meets, 0 if none (01, The game; Ledger; 02, S-11).
     pub fn refusal(&self, booking: &Booking) -> u8 {
         let closed = self.is_closed();
         let met = match booking {
-            Riichi(seat) => vec![(8, *seat > 3), (9, closed), (10, self.declared.contains(seat))],
+            Riichi(seat) => {
+                let short = self.scores.get(*seat as usize).is_some_and(|&score| score < 1000);
+                vec![(8, *seat > 3), (9, closed), (10, self.declared.contains(seat)), (21, short)]
+            }
             Win(_) | Many { .. } if closed => vec![(9, true)],
             Many { number: 0 | 4.., .. } => vec![(17, true)],
             Many { number, records: bytes } => {

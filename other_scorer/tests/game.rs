@@ -1,5 +1,5 @@
 //! The six bookings: refusals in their order, points, deal, wind and mark (01, The game), the counter (02, S-5), sets of
-//! rons (02, S-6), seats that are not ready (02, S-7) and feeders (02, S-8).
+//! rons (02, S-6), seats that are not ready (02, S-7), feeders (02, S-8) and the points of a stick (02, S-11).
 
 use other_scorer::codec::pack;
 use other_scorer::game::{book, chombo, draw, feed, many, riichi, win, FLOOR};
@@ -104,6 +104,44 @@ fn riichi_refuses_8_9_10() {
     assert_eq!(number(&open, Booking::Riichi(2)), 10);
     assert_eq!(number(&open, Booking::Riichi(4)), 8);
     assert_eq!(number(&open, Booking::Riichi(3)), 0);
+}
+
+/// A fresh game but that seat 1 has so many points and seat 2 the rest.
+fn with_points(points: i32) -> Game {
+    Game { scores: [30_000, points, 60_000 - points, 30_000], ..Game::fresh() }
+}
+
+#[test]
+fn riichi_refuses_under_1_000_with_21_after_10() {
+    for points in [FLOOR, -28_000_000, -1000, -1, 0, 100, 900, 998, 999] {
+        assert_eq!(number(&with_points(points), Booking::Riichi(1)), 21, "{points}");
+        // Another seat's points do not matter, nor those under 1,000 where 8, 9 or 10 is met.
+        assert_eq!(number(&with_points(points), Booking::Riichi(2)), 0);
+        assert_eq!(number(&with_points(points), Booking::Riichi(4)), 8);
+        assert_eq!(number(&Game { over: true, ..with_points(points) }, Booking::Riichi(1)), 9);
+        let declared = Game { declared: [false, true, false, false], sticks: 1, scores: [29_000, points, 60_000 - points, 30_000], ..Game::fresh() };
+        assert_eq!(number(&declared, Booking::Riichi(1)), 10);
+    }
+    for points in [1000, 1001, 1100, 1999, 2000, 30_000] {
+        let mut game = with_points(points);
+        assert_eq!(riichi(&mut game, 1), 0, "{points}");
+        assert_eq!((game.scores[1], game.sticks, game.declared), (points - 1000, 1, [false, true, false, false]));
+        assert_eq!(number(&game, Booking::Riichi(1)), 10);
+    }
+}
+
+#[test]
+fn after_a_riichi_with_21_a_win_with_riichi_marked_meets_11() {
+    let start = with_points(999);
+    let marked = [Booking::Win(pinfu(1, 3, &["riichi"])), Booking::Win(pinfu(1, 3, &["double"])), set(&[pinfu(1, 3, &["riichi"]), pinfu(2, 3, &[])])];
+    for booking in marked {
+        let mut game = start;
+        assert_eq!((riichi(&mut game, 1), book(&mut game, &booking)), (21, 11));
+        assert_eq!(game, start);
+        // The hand goes on: without riichi the win is paid, or the seat declares once it has the points.
+        assert_eq!(number(&game, Booking::Win(pinfu(1, 3, &[]))), 0);
+        assert_eq!((chombo(&mut game, 0), riichi(&mut game, 1), book(&mut game, &booking)), (0, 0, 0));
+    }
 }
 
 #[test]
@@ -275,8 +313,9 @@ fn a_game_may_be_at_the_ends_of_its_range() {
     assert_eq!(game.scores, [FLOOR, FLOOR + 114_280_000 + 2000, FLOOR, FLOOR - 2000]);
     assert_eq!(riichi(&mut game, 1), 9);
     let mut game = most;
-    assert_eq!(riichi(&mut game, 0), 0);
-    assert_eq!((game.scores[0], game.sticks, game.is_open()), (FLOOR - 1000, 114_281, false));
+    assert_eq!((riichi(&mut game, 0), game), (21, most));
+    assert_eq!(draw(&mut game, 0b0001), 0);
+    assert_eq!((game.scores, game.sticks, game.is_open()), ([FLOOR - 1000, FLOOR - 1000, FLOOR - 1000, FLOOR + 3000], 114_280, false));
 }
 
 #[test]

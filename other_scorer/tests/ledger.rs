@@ -1,4 +1,4 @@
-//! The game against the ledger over random lists of bookings (01, Ledger; 02, S-5 to S-8).
+//! The game against the ledger over random lists of bookings (01, Ledger; 02, S-5 to S-8 and S-11).
 
 mod chance;
 #[path = "chance/cases.rs"]
@@ -31,7 +31,7 @@ fn ledger(game: &Game) -> Ledger {
 #[derive(Default)]
 struct Reached {
     bookings: usize,
-    numbers: [usize; 19],
+    numbers: [usize; 22],
     by_deal: usize,
     by_hands: usize,
     unready: [usize; 4],
@@ -39,7 +39,7 @@ struct Reached {
 }
 
 impl Reached {
-    /// The cases of feeders and sets that were met fewer times than this.
+    /// The cases of feeders, sets and sticks that were met fewer times than this.
     fn short(&self, least: usize) -> Vec<&'static str> {
         cases::CASES.into_iter().filter(|case| self.met.get(case).is_none_or(|&count| count < least)).collect()
     }
@@ -50,6 +50,7 @@ fn compare(rng: &mut Rng, start: Game, length: usize, keep: bool, reached: &mut 
     let (mut game, mut kept) = (start, ledger(&start));
     let was_fresh = start == Game::fresh();
     let mut list: Vec<Booking> = Vec::new();
+    let mut away = cases::Away::default();
     for _ in 0..length {
         let booking = chance::booking(rng, &game, keep);
         let before = game;
@@ -65,7 +66,8 @@ fn compare(rng: &mut Rng, start: Game, length: usize, keep: bool, reached: &mut 
         }
         reached.bookings += 1;
         reached.numbers[number as usize] += 1;
-        cases::met(&before, &booking, number).into_iter().for_each(|case| *reached.met.entry(case).or_default() += 1);
+        let met = cases::met(&before, &booking, number).into_iter().chain(away.met(&booking, number));
+        met.for_each(|case| *reached.met.entry(case).or_default() += 1);
         if let (Booking::Draw(bits), 0) = (&booking, number) {
             let unready = before.unready(*bits).len();
             if unready > 0 {
@@ -93,9 +95,10 @@ fn fresh_games() {
         let length = if keep { 800 } else { 70 };
         compare(&mut rng, Game::fresh(), length, keep, &mut reached);
     }
-    let missing: Vec<usize> = (0..19).filter(|&n| reached.numbers[n] == 0).collect();
-    assert_eq!(missing, [12, 13, 14, 15, 16], "refusals not reached");
-    assert_eq!(reached.short(3), ["feeders out of form alone"], "{:?}", reached.met);
+    let missing: Vec<usize> = (0..22).filter(|&n| reached.numbers[n] == 0).collect();
+    assert_eq!(missing, [12, 13, 14, 15, 16, 19, 20], "refusals not reached");
+    // Scores of a game are hundreds.
+    assert_eq!(reached.short(3), ["feeders out of form alone", "riichi refused: with 999"], "{:?}", reached.met);
     assert!(reached.unready.iter().all(|&count| count > 0), "{:?}", reached.unready);
     assert!(reached.by_deal > 100 && reached.by_hands > 20);
 }
@@ -111,7 +114,7 @@ fn games_of_any_value() {
         compare(&mut rng, start, length, keep, &mut reached);
     }
     assert!(reached.unready.iter().all(|&count| count > 10), "{:?}", reached.unready);
-    assert!((0..12).chain([17, 18]).all(|n| reached.numbers[n] > 20) && reached.numbers[12] == 0, "{:?}", reached.numbers);
+    assert!((0..12).chain([17, 18, 21]).all(|n| reached.numbers[n] > 20) && reached.numbers[12] == 0, "{:?}", reached.numbers);
     assert_eq!(reached.short(20), [""; 0], "{:?}", reached.met);
     assert!(reached.by_deal > 100 && reached.by_hands > 100);
 }

@@ -1,4 +1,4 @@
-//! Walking a log and the lines of program tally (01, Log; 02, S-6 and S-8).
+//! Walking a log and the lines of program tally (01, Log; 02, S-6, S-8 and S-11).
 
 use other_scorer::booking::Booking;
 use other_scorer::codec::pack;
@@ -122,6 +122,15 @@ fn the_byte_of_a_feed() {
             assert_eq!(next(&[0x50 | argument, byte], 0), Next::Bad(14));
         }
     }
+}
+
+#[test]
+fn a_stored_log_with_riichi_on_credit_goes_on() {
+    let win = [0xB8, 0x1E, 0x64, 0x02, 0x10, 0x62, 0x0A, 0x31, 0x66, 0x1A, 0x9A, 0x6B, 0xB0];
+    let marked = [&[0xBA], &win[1..]].concat();
+    let log = [&[0x31, 0x31, 0x31, 0x31, 0x01, 0x10], marked.as_slice(), &[0x10], &win].concat();
+    let last = "4 C 0 42000 -6000 42000 42000 0\n5 R 21 42000 -6000 42000 42000 0\n6 W 11 42000 -6000 42000 42000 0\n7 W 0 42000 -4000 42000 40000 0\n";
+    assert!(tally_lines(&log).ends_with(last));
 }
 
 #[test]

@@ -3,7 +3,9 @@ ghost use mathlib.Core.Path.{_≡_};
 ghost use mathlib.Core.Bool.{false, _&&_, not};
 ghost use Prim.Native.Nat.{_≤_};
 ghost use lib.Dec.{eqb};
+ghost use lib.IntN.{pos};
 ghost use lib.ListN.{getD};
+ghost use lib.Signed.{ltZ};
 ghost use Rattle.tiles.specs.Below.{any, tabulate};
 ghost use Rattle.ledger.specs.Booking as Booking;
 ghost use Rattle.ledger.specs.Ledger.{isSet, fresh, isReady, wrongFeed};
@@ -36,7 +38,16 @@ pub fn fresh_game() -> Game
     }
 }
 
-// Riichi: the seat declares. Refused with 8, a seat over 3; 9, a game that is not open; 10, a seat that has declared already.
+// The seat has under 1,000 points.
+fn lacks_stick(s: [i32; 4], seat: u8) -> bool
+    requires { ⌜ seat ≤ 3 ⌝ }
+    ensures { λ r. ⌜ r ≡ ltZ (getD s seat (pos 0)) (pos 1000) ⌝ }
+{
+    let i = seat as usize;
+    s[i] < 1000
+}
+
+// Riichi: the seat declares. Refused with 8, a seat over 3; 9, a game that is not open; 10, a seat that has declared already; 21, one with under 1,000 points.
 pub fn riichi(g: Game, seat: u8) -> Outcome
     ensures { λ r. ⌜ Booked g (Booking.riichi seat) (r .refusal) (r .game) ⌝ }
 {
@@ -57,6 +68,13 @@ pub fn riichi(g: Game, seat: u8) -> Outcome
     if 0 < d[i] {
         return Outcome {
             refusal: 10,
+            game: g,
+        };
+    }
+    let s = g.scores;
+    if lacks_stick(s, seat) {
+        return Outcome {
+            refusal: 21,
             game: g,
         };
     }

@@ -16,7 +16,7 @@ use Rattle.groups.specs.Tests.{winds}
 use Rattle.score.specs.Named.{groupsOf, IsReadingOf, scoredAs}
 use Rattle.ledger.specs.declared.Game.{Game}
 use Rattle.records.specs.Records.{recordsOf, isWinner, discarderOf, firstWinner, turnsAfter}
-use Rattle.ledger.specs.Booking.{Booking, win, draw, many}
+use Rattle.ledger.specs.Booking.{Booking, riichi, win, draw, many}
 use Rattle.ledger.specs.Ledger.{fresh, scoreAt, declarations, feederAt, floor, outOfForm, notOpen, handFor, refusalFor, settles, repeatGives, wholeOf, fedPays, wonBy, holdsFourWinds, fineOf, chomboGives, chomboOf, isAtFault, effectOf, after, ledgerFrom, ledger}
 use Rattle.ledger.specs.Runs.{Runs, Every}
 pub use Rattle.ledger.specs.Runs.{refusalsFrom}
@@ -31,6 +31,8 @@ use Rattle.ledger.specs.laws.NotReady as not-ready
 use Rattle.ledger.specs.laws.Fed as fed
 use Rattle.ledger.specs.laws.Tiles as tiles
 use Rattle.ledger.specs.laws.Winds as by-tiles
+use Rattle.ledger.specs.laws.Credit as credit
+use Rattle.ledger.specs.laws.Lowest as lowest
 use Rattle.ledger.specs.laws.One as one
 use Rattle.ledger.specs.laws.Sets as sets
 
@@ -141,3 +143,13 @@ pub first-winner : (l : Game) (number : ℕ) (s : List ℕ) → refusalFor l (ma
     let rs = recordsOf number s in
     (isWinner rs (firstWinner rs) ≡ true) × ((seat : ℕ) → isWinner rs seat ≡ true → turnsAfter (discarderOf rs) (firstWinner rs) ≤ turnsAfter (discarderOf rs) seat)
 first-winner = sets.first-winner
+
+-- ---- no stick, no riichi (02, S-11)
+
+-- "Clubs have dropped riichi on credit": an accepted riichi leaves the seat 0 or more
+pub never-on-credit : (l : Game) (seat : ℕ) → refusalFor l (riichi seat) ≡ 0 → ltZ (scoreAt (after l (riichi seat)) seat) (pos 0) ≡ false
+never-on-credit = credit.never-on-credit
+
+-- and no score falls under −28,341,000, which program `floor` reaches: the floor stays as a bound
+pub lowest-score : (bs : List Booking) (i : ℕ) → i < 4 → ltZ (scoreAt (ledger bs) i) (negℤ (pos 28341000)) ≡ false
+lowest-score = lowest.never-below-lowest

@@ -1,4 +1,4 @@
--- The ledger (01, The game and its paragraph "Ledger"; 02, S-5 to S-8): kept from the bookings' arguments alone, with the game's fields.
+-- The ledger (01, The game and its paragraph "Ledger"; 02, S-5 to S-8 and S-11): kept from the bookings' arguments alone, with the game's fields.
 -- The game's numbers; its fields; refusals; what an accepted booking does, as one structure; the fields after it; the ledger of a list.
 use mathlib.Core.Bool.{Bool, true, false, _&&_, _||_, not, cond}
 use mathlib.Core.List.{List, [], _∷_}
@@ -140,10 +140,14 @@ isReady bits i = eqb (bits / 2 ^ (3 - i) % 2) 1
 abbrev pub wrongFeed : Game → ℕ → ℕ → ℕ → Bool
 wrongFeed l holder feeder yaku = eqb holder feeder || not (eqb yaku 28 || eqb yaku 29) || isSet (feederAt l (feederPlace holder yaku))
 
+-- 21: "A riichi by a seat with under 1,000 points .. ; 1,000 exactly is enough" (02, S-11)
+abbrev pub lacksStick : Game → ℕ → Bool
+lacksStick l seat = ltZ (scoreAt l seat) (pos 1000)
+
 -- "Where refusals meet a booking by the ledger's fields, the first listed is its number"; 0 where none does. Of a draw "12 is never given now" (02, S-7);
 -- of several records "After 9 it refuses with 17 an empty set or one over three, then ..." (02, S-6)
 unfoldable pub refusalFor : Game → Booking → ℕ
-refusalFor l (riichi seat) = cond (ltb 3 seat) 8 (cond (notOpen l) 9 (cond (isDeclared l seat) 10 0))
+refusalFor l (riichi seat) = cond (ltb 3 seat) 8 (cond (notOpen l) 9 (cond (isDeclared l seat) 10 (cond (lacksStick l seat) 21 0)))
 refusalFor l (win s) = cond (notOpen l) 9 (winRefusal l s)
 refusalFor l (draw bits) = cond (ltb 15 bits) 8 (cond (notOpen l) 9 0)
 refusalFor l (chombo seat) = cond (ltb 3 seat) 8 (cond (notOpen l) 9 0)

@@ -4,7 +4,7 @@
 -- Demand3    what demand 3 claims of such a list
 -- NotReady   what a draw does in which a declared seat is not ready
 -- Article67  what a win gives each seat whose yaku was fed
--- Claims     the theorems: demand 3, never below the floor, repeat counters, declared yet not ready, who fed the dragons, several rons
+-- Claims     the theorems: demand 3, never below the floor, repeat counters, declared yet not ready, who fed the dragons, several rons, no stick no riichi
 -- laws       what they stand on
 pub mod Booking
 pub mod Ledger

@@ -13,8 +13,10 @@ pub mod Sets
 pub mod Each
 pub mod One
 pub mod Kept
+pub mod Lowest
 pub mod Lists
 pub mod NotReady
+pub mod Credit
 pub mod Winds
 pub mod Tiles
 pub mod Demand3

@@ -9,6 +9,7 @@ use other_scorer::notation::hex::to_hex as hex;
 use other_scorer::rng::Rng;
 use other_scorer::{Booking, Game};
 
+use crate::cases::Away;
 use crate::report::Report;
 use crate::{buffers, cases, chance, games, lines};
 
@@ -36,10 +37,11 @@ fn section(booking: &Booking) -> &'static str {
 }
 
 /// Counts a booking by its refusal and the cases it meets, a win that was paid by whether there were counters, and an accepted draw
-/// by its seats at fault.
-fn note(report: &mut Report, before: &Game, booking: &Booking, refusal: u8) {
+/// by its seats at fault; `away` are the seats that could not declare in this hand.
+fn note(report: &mut Report, before: &Game, booking: &Booking, refusal: u8, away: &mut Away) {
     report.count(section(booking), refusal);
-    cases::met(before, booking, refusal).into_iter().for_each(|case| report.meet(case));
+    let met = cases::met(before, booking, refusal).into_iter().chain(away.met(booking, refusal));
+    met.for_each(|case| report.meet(case));
     match (booking, refusal) {
         (Booking::Win(_), 0) => report.count("wins paid (1 with counters)", before.counter > 0),
         (Booking::Draw(bits), 0) => report.count("draws by seats declared, not ready", before.unready(*bits).len() as u8),
@@ -48,11 +50,11 @@ fn note(report: &mut Report, before: &Game, booking: &Booking, refusal: u8) {
 }
 
 /// Books the entry that bytes begin with in the games kept three ways, counts and gives the refusal.
-fn book_entry(report: &mut Report, games: &mut Games, bytes: &[u8], input: &dyn Fn() -> String) -> u8 {
+fn book_entry(report: &mut Report, games: &mut Games, away: &mut Away, bytes: &[u8], input: &dyn Fn() -> String) -> u8 {
     let before = games.other;
     let (refusal, booking) = games.book_entry(&mut report.differences, bytes, input);
     match booking {
-        Some(booking) => note(report, &before, &booking, refusal),
+        Some(booking) => note(report, &before, &booking, refusal, away),
         None => report.count("no entry to book", refusal),
     }
     refusal
@@ -180,7 +182,7 @@ fn compare_walk(report: &mut Report, rng: &mut Rng, log: &[u8]) {
     let text = tally_lines(log);
     let mut lines_left = text.split_inclusive('\n');
     let mut games = Games::fresh(&mut report.differences);
-    let (mut at, mut number) = (0, 0);
+    let (mut at, mut number, mut away) = (0, 0, Away::default());
     let input = || format!("log {}", hex(log));
     loop {
         let entry = archive::next(log, at);
@@ -195,7 +197,7 @@ fn compare_walk(report: &mut Report, rng: &mut Rng, log: &[u8]) {
             report.same("the part of an entry", Some(at), None, input);
             return;
         };
-        let refusal = book_entry(report, &mut games, part, &input);
+        let refusal = book_entry(report, &mut games, &mut away, part, &input);
         report.same("refusal 1 in a log", refusal == 1, false, input);
         number += 1;
         match lines_left.next() {
@@ -239,20 +241,20 @@ fn any_game(rng: &mut Rng) -> archive::Game {
 
 /// Books a chain in a game of any state, with arguments up to 255 and any record: by the booking's call or by its bytes.
 fn compare_chain(report: &mut Report, rng: &mut Rng) {
-    let mut games = Games::of(any_game(rng));
+    let (mut games, mut away) = (Games::of(any_game(rng)), Away::default());
     for _ in 0..CHAIN {
         let keep = rng.percent(50);
         let booking = chance::booking(rng, &games.other, keep);
         if rng.percent(50) {
             let before = games.other;
             let refusal = games.book(&mut report.differences, &booking, &String::new);
-            note(report, &before, &booking, refusal);
+            note(report, &before, &booking, refusal, &mut away);
         } else {
             let mut bytes = booking.bytes();
             if rng.percent(20) {
                 damage(rng, &mut bytes);
             }
-            book_entry(report, &mut games, &bytes, &String::new);
+            book_entry(report, &mut games, &mut away, &bytes, &String::new);
         }
     }
 }

@@ -173,5 +173,5 @@ Tries every change of one bit, every cut, and every swap of two bytes; HAND as f
 
   random=N   N random changes instead; seed=N for others than those of seed 1
 
-For scripts: kind of change, number tried, and how often each of the refusals 0 to 18 was met.
+For scripts: kind of change, number tried, and how often each of the refusals 0 to 21 was met.
 ";

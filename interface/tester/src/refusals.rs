@@ -10,10 +10,10 @@ use other_scorer::score::valued;
 use other_scorer::sound::{field_faults, situation_faults, FIELD_FAULTS, SITUATION_FAULTS};
 use other_scorer::{set, unfinished, Booking, Game, Hand};
 
-use crate::names::count;
+use crate::names::{count, points};
 
 /// The highest refusal of a record or a log.
-pub const LAST: u8 = 18;
+pub const LAST: u8 = 21;
 
 /// A refusal in words (01, each at its place); docs/REFUSALS.md has the same.
 pub fn refusal(number: u8) -> &'static str {
@@ -38,6 +38,7 @@ pub fn refusal(number: u8) -> &'static str {
         17 => "the hands are no rons on one tile, or none or over three",
         18 => "the feed does not fit, or is named already",
         19 => "no such suit or size, or the buffer is shorter than the list",
+        21 => "the seat has no 1,000 points for the stick",
         22 => "the claim is faulty",
         _ => "no refusal of documents 01 and 02",
     }
@@ -133,13 +134,14 @@ fn of_set(refusal: u8, list: &[&[u8]], game: &Game) -> Vec<String> {
     own.iter().map(|why| format!("record {}: {why}", at.unwrap_or(0) + 1)).collect()
 }
 
-/// The conditions met by the refusal of a booking in a game (01, The game; 02, S-6 and S-8).
+/// The conditions met by the refusal of a booking in a game (01, The game; 02, S-6, S-8 and S-11).
 pub fn of_booking(refusal: u8, booking: &Booking, game: &Game) -> Vec<String> {
     match (refusal, booking) {
         (9, _) if game.hands == 200 => vec!["200 hands are finished".into()],
         (9, _) => vec!["it is over".into()],
         (8, Booking::Riichi(seat) | Booking::Chombo(seat)) => vec![format!("seat {seat} over 3")],
         (10, Booking::Riichi(seat)) => vec![format!("seat {seat}")],
+        (21, Booking::Riichi(seat)) => vec![format!("seat {seat} has {}", points(game.scores[*seat as usize].into()))],
         (11, Booking::Win(record)) => unpack(record).map_or(Vec::new(), |(hand, _)| match hand.riichi {
             0 => vec![format!("seat {} has declared, the record has no riichi", hand.winner)],
             _ => vec![format!("the record has riichi, seat {} has not declared", hand.winner)],

@@ -424,6 +424,22 @@ fn refusals_of_bookings_say_which_condition_was_met() {
 }
 
 #[test]
+fn a_seat_without_the_points_for_a_stick() {
+    let marked = LINE_1.replacen("b8", "ba", 1);
+    let log = format!("31 31 31 31 01 10 {marked} 10 {LINE_1}");
+    let lines = "5 R 21 42000 -6000 42000 42000 0 refusal 21, the seat has no 1,000 points for the stick: seat 1 has -6,000\n\
+        6 W 11 42000 -6000 42000 42000 0 refusal 11, the riichi field and the declaration differ: the record has riichi, seat 1 has not declared\n\
+        7 W 0 42000 -4000 42000 40000 0\n";
+    let out = answer(&format!("tally {log} --plain --words"));
+    assert!(out.ends_with(lines), "{out}");
+    // 3,000 after three chombos: two draws, then a riichi with 1,000, with none left, and in the next hand.
+    let out = answer("tally 31 31 31 28 28 01 01 2f 01 --plain --words");
+    let lines = "5 D 0 45000 1000 37000 37000 0\n6 R 0 45000 0 37000 37000 1\n7 R 10 45000 0 37000 37000 1 refusal 10, declared already this hand: seat 1\n\
+        8 D 0 45000 0 37000 37000 1\n9 R 21 45000 0 37000 37000 1 refusal 21, the seat has no 1,000 points for the stick: seat 1 has 0\n";
+    assert!(out.ends_with(lines), "{out}");
+}
+
+#[test]
 fn a_draw_with_a_declared_seat_that_is_not_ready_is_a_chombo() {
     let log = "01 03 29 00 01 02 03 20 01 24";
     let lines = "1 R 0 30000 29000 30000 30000 1\n2 R 0 30000 29000 30000 29000 2\n\
@@ -550,7 +566,7 @@ fn logs_to_text_and_back() {
 fn damage_counts_refusals() {
     let out = answer(&format!("damage hand {LINE_1} --plain"));
     let counts = "bit-changed 104 10 3 18 46 0 2 25\ncut 13 0 13 0 0 0 0 0\nbytes-swapped 78 0 12 40 24 0 0 2\n";
-    let rest = " 0".repeat(12) + "\n"; // refusals 7 to 18
+    let rest = " 0".repeat(15) + "\n"; // refusals 7 to 21
     assert_eq!(out, counts.replace('\n', &rest) + "differences 0\n");
     let some = answer(&format!("damage hand {LINE_1} random=3000 seed=4 --plain"));
     assert!(some.starts_with("random 3000 ") && some.ends_with("differences 0\n"), "{some}");

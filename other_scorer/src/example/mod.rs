@@ -18,7 +18,7 @@ pub enum End {
     Hands,
 }
 
-/// All scenes that keep the deal, in random order; those of feeders and sets the first time alone.
+/// All scenes that keep the deal, in random order; the first time by rank, then without those that are early, of feeders or sets.
 fn scenes(rng: &mut Rng, first: bool) -> Vec<Scene> {
     let mut all = Vec::new();
     all.extend((1..=36).filter(|&n| n != 27).map(Scene::Yaku));
@@ -30,7 +30,7 @@ fn scenes(rng: &mut Rng, first: bool) -> Vec<Scene> {
     all.extend((1..=4).map(Scene::Unready));
     all.extend((0..=4).flat_map(|n| [Scene::Chombo(n, true), Scene::Chombo(n, false)]));
     all.extend([Scene::Carried, Scene::Seat, Scene::Again]);
-    all.extend([Scene::Undeclared, Scene::Silent, Scene::NoYaku]);
+    all.extend([Scene::Undeclared, Scene::Silent, Scene::NoYaku, Scene::TurnedAway]);
     if first {
         let froms = [From::Wall, From::Feeder, From::Another];
         all.extend([28, 29].iter().flat_map(|&yaku| froms.map(|from| Scene::Fed(yaku, from))));
@@ -42,6 +42,12 @@ fn scenes(rng: &mut Rng, first: bool) -> Vec<Scene> {
         all.extend([2, 3, 4, 5, 6, 7, 11].map(Scene::SetRefused));
     }
     rng.shuffle(&mut all);
+    if first {
+        all.push(Scene::LastStick);
+        all.sort_by_key(Scene::rank);
+    } else {
+        all.retain(|scene| !scene.is_early());
+    }
     all
 }
 

@@ -1,4 +1,5 @@
-//! Scenes of an example log; each starts and ends with no seat declared and no feeder named (01, The game; 02, S-6 to S-8).
+//! Scenes of an example log; each starts and ends with no seat declared and no feeder named (01, The game; 02, S-6 to S-8 and
+//! S-11).
 
 use super::script::Script;
 use crate::booking::Booking::{Chombo, Draw, Feed, Many, Riichi, Win};
@@ -70,6 +71,11 @@ pub enum Scene {
     Silent,
     /// Refusals 7 and 11 at once: 7 comes first.
     NoYaku,
+    /// At the start of a game: riichi of the dealer with 1,000 exactly, again with none left (refusal 10, before 21), in the next hand
+    /// (refusal 21), wins with riichi marked all the same (refusal 11) and without (02, S-11).
+    LastStick,
+    /// Riichi of a seat with under 1,000 (refusal 21), and wins with riichi marked all the same (refusal 11) (02, S-11).
+    TurnedAway,
 }
 
 /// Any accepted win.
@@ -78,11 +84,36 @@ fn any(_: &Hand, _: &Scored) -> bool {
 }
 
 impl Scene {
+    /// The scene's place in a game whose seats soon have too few points to declare: the more of them declare, and the fewer points
+    /// the scene moves, the earlier (02, S-11).
+    pub fn rank(&self) -> u8 {
+        match self {
+            Scene::LastStick => 0,
+            Scene::Unready(4..) | Scene::Chombo(4.., _) => 1,
+            Scene::Unready(_) | Scene::Chombo(1.., _) | Scene::Draw(_) => 2,
+            Scene::Carried => 3,
+            Scene::Set(3) => 4,
+            Scene::Set(2) | Scene::Lapsed('U') => 5,
+            Scene::Fed(_, From::Wall | From::Feeder) | Scene::Yaku(10 | 11) => 6,
+            _ => 7,
+        }
+    }
+
+    /// Whether the scene is of no use where seats have too few points to declare.
+    pub fn is_early(&self) -> bool {
+        matches!(self, Scene::Unready(3..) | Scene::Chombo(3.., _) | Scene::Carried | Scene::Yaku(10 | 11))
+    }
+
     /// Adds the scene's entries.
     pub fn play(self, script: &mut Script) {
         let dealer = script.game.dealer;
         match self {
-            Scene::Yaku(n) => script.win(dealer, |_, scored| scored.yaku >> n & 1 == 1),
+            Scene::Yaku(n) => {
+                if n == 10 || n == 11 {
+                    script.fund_dealer();
+                }
+                script.win(dealer, |_, scored| scored.yaku >> n & 1 == 1)
+            }
             Scene::Melds(m) => script.win(dealer, |hand, _| hand.m == m),
             Scene::MeldKind(kind) => {
                 script.win(dealer, |hand, _| hand.melds().iter().any(|meld| meld.kind == kind))
@@ -123,25 +154,70 @@ impl Scene {
                 script.add(Chombo(19 - over));
             }
             Scene::Again => {
-                let seat = script.rng.within(0, 3);
+                let seat = script.able_first(&[])[0];
                 script.add(Riichi(seat));
                 script.add(Riichi(seat));
                 script.draw(&[dealer, seat]);
             }
             Scene::Undeclared => {
                 let seat = script.rng.within(0, 3);
-                let hand = script.find(seat, |hand, scored| scored.refusal == 0 && hand.riichi > 0);
-                script.add(Win(pack(&hand)));
+                undeclared(script, seat);
             }
             Scene::Silent => silent(script, 0),
             Scene::NoYaku => silent(script, 7),
+            Scene::LastStick => last_stick(script),
+            Scene::TurnedAway => {
+                let seat = script.by_score()[3];
+                while script.game.is_open() && script.game.affords_riichi(seat) {
+                    script.add(Chombo(seat));
+                }
+                turned_away(script, seat);
+            }
         }
     }
 }
 
+/// A win with a riichi field of a seat that has not declared.
+fn undeclared(script: &mut Script, seat: u8) {
+    let hand = script.find(seat, |hand, scored| scored.refusal == 0 && hand.riichi > 0);
+    script.add(Win(pack(&hand)));
+}
+
+/// Riichi of a seat with under 1,000, then a win of it and a set with its win, riichi marked in both (02, S-11).
+fn turned_away(script: &mut Script, seat: u8) {
+    script.add(Riichi(seat));
+    undeclared(script, seat);
+    let seats = script.seats(&[seat]);
+    loop {
+        let mut hands = script.hands(&seats[..2], seats[2], |_| true);
+        hands[0].riichi = 1;
+        if hands[1].riichi == 0 && refusal(&hands[0]) == 0 {
+            script.set(&hands, false);
+            return;
+        }
+    }
+}
+
+/// Chombos and riichi of the dealer in a fresh game until it has 1,000, and its last riichi; then one with nothing left (02, S-11).
+fn last_stick(script: &mut Script) {
+    let dealer = script.game.dealer;
+    for _ in 0..3 {
+        script.add(Chombo(dealer));
+    }
+    for _ in 0..2 {
+        script.add(Riichi(dealer));
+        script.draw(&[0, 1, 2, 3]);
+    }
+    script.add(Riichi(dealer));
+    script.add(Riichi(dealer));
+    script.draw(&[0, 1, 2, 3]);
+    turned_away(script, dealer);
+    script.win(dealer, |hand, scored| hand.how == RON && (18_000..=24_000).contains(&scored.changes[dealer as usize]));
+}
+
 /// Riichi, then a win without a riichi field that Score refuses so; then a draw.
 fn silent(script: &mut Script, refusal: u8) {
-    let seat = script.rng.within(0, 3);
+    let seat = script.able_first(&[])[0];
     let hand = script.find(seat, |hand, scored| scored.refusal == refusal && hand.riichi == 0);
     script.add(Riichi(seat));
     script.add(Win(pack(&hand)));
@@ -167,7 +243,7 @@ fn refused(script: &mut Script, number: u8) {
 
 /// A draw with so many ready, the dealer among them, some of them declared.
 fn draw(script: &mut Script, count: usize) {
-    let seats = script.seats(&[script.game.dealer]);
+    let seats = script.able_first(&[script.game.dealer]);
     for &seat in &seats[..count] {
         if script.rng.percent(50) {
             script.add(Riichi(seat));
@@ -176,9 +252,10 @@ fn draw(script: &mut Script, count: usize) {
     script.draw(&seats[..count]);
 }
 
-/// A draw in which so many declared seats are not ready; of the others each has declared, is ready, or both (02, S-7).
+/// A draw in which so many declared seats, those with the most points, are not ready; of the others each has declared, is ready, or
+/// both (02, S-7).
 fn unready(script: &mut Script, count: usize) {
-    let seats = script.seats(&[]);
+    let seats = script.by_score();
     let (faulty, rest) = seats.split_at(count);
     let declared: Vec<u8> = rest.iter().copied().filter(|_| script.rng.percent(50)).collect();
     for &seat in faulty.iter().chain(&declared) {
@@ -188,13 +265,16 @@ fn unready(script: &mut Script, count: usize) {
     script.draw(&ready);
 }
 
-/// A chombo with so many declared, by one of them or by another seat.
+/// A chombo with so many declared, by one of them or by another seat, that with the most points.
 fn chombo(script: &mut Script, count: usize, own: bool) {
-    let seats = script.seats(&[]);
-    for &seat in &seats[..count] {
+    let seats = script.able_first(&[]);
+    let (declared, rest) = seats.split_at(count);
+    for &seat in declared {
         script.add(Riichi(seat));
     }
-    script.add(Chombo(if own { seats[0] } else { seats[3] }));
+    let by = if (own || rest.is_empty()) && count > 0 { declared } else { rest };
+    let most = script.by_score().into_iter().find(|seat| by.contains(seat));
+    script.add(Chombo(most.expect("a seat")));
 }
 
 /// Names a feeder of a holder's yaku; gives it.
@@ -213,7 +293,7 @@ fn with_fed_yaku(script: &mut Script, winner: u8, yaku: u8, test: impl Fn(&Hand)
 /// A win that was fed: by tsumo after a riichi and with another holder named too, from the feeder with a riichi since and the
 /// holder's other yaku named too, or from another (02, S-8).
 fn fed(script: &mut Script, holder: u8, yaku: u8, from: From) {
-    let others: Vec<u8> = script.seats(&[holder])[1..].to_vec();
+    let others: Vec<u8> = script.able_first(&[holder])[1..].to_vec();
     if from == From::Wall {
         script.add(Riichi(others[0]));
         named(script, others[1], yaku);
@@ -242,7 +322,8 @@ fn fed_twice(script: &mut Script) {
 
 /// A feeder of the dealer, the hand's end, and a win of the dealer with that yaku, which is paid plainly (02, S-8).
 fn lapsed(script: &mut Script, by: char) {
-    let (dealer, child) = (script.game.dealer, script.child());
+    let dealer = script.game.dealer;
+    let child = script.able_first(&[dealer])[1];
     let yaku = script.rng.pick(&[DRAGONS, WINDS]);
     named(script, dealer, yaku);
     match by {
@@ -260,11 +341,13 @@ fn lapsed(script: &mut Script, by: char) {
 /// A set of so many rons, the dealer's among them: two with records of two lengths and a stick of the seat that pays, or three with
 /// a declared winner and the first winner last (02, S-6).
 fn rons(script: &mut Script, number: usize) {
-    let mut winners = script.seats(&[script.game.dealer])[..number].to_vec();
-    let from = (0..4).find(|seat| !winners.contains(seat)).expect("a seat that pays");
+    let seats = script.able_first(&[script.game.dealer]);
+    let from = seats[1];
+    let mut winners = [&seats[..1], &seats[2..]].concat()[..number].to_vec();
     winners.sort_by_key(|seat| (from + 4 - seat) % 4);
+    let declares = number == 3 && script.game.affords_riichi(winners[0]);
     let hands = loop {
-        let hands = script.hands(&winners, from, |hand| number < 3 || hand.riichi > 0);
+        let hands = script.hands(&winners, from, |hand| !declares || hand.riichi > 0);
         if number != 2 || length(hands[0].m) != length(hands[1].m) {
             break hands;
         }
@@ -352,7 +435,7 @@ fn set_refused(script: &mut Script, number: u8) {
 
 /// Sticks carried over two draws, a draw with a declared seat that is not ready and a chombo, to a win of the dealer.
 fn carried(script: &mut Script) {
-    let seats = script.seats(&[script.game.dealer]);
+    let seats = script.able_first(&[script.game.dealer]);
     for ready in [2, 3] {
         script.add(Riichi(seats[1]));
         script.draw(&seats[..ready]);
@@ -364,7 +447,7 @@ fn carried(script: &mut Script) {
     script.add(Riichi(seats[2]));
     script.add(Chombo(seats[3]));
     script.add(Riichi(seats[3]));
-    script.win(seats[0], any);
+    script.win(seats[0], |_, scored| (1..=3).contains(&scored.h));
 }
 
 /// The scene that passes the deal for the time after this many (01, The game); the first and the third go on with wins of a deal
@@ -398,10 +481,19 @@ pub fn pass(script: &mut Script, deal: usize) {
             let hands = script.hands(&others[..2], dealer, |_| true);
             script.set(&hands, true);
         }
-        6 => script.win(child, |hand, _| hand.riichi == 1),
+        6 => {
+            let child = script.able_first(&[dealer])[1];
+            let able = script.game.affords_riichi(child);
+            script.win(child, |hand, _| hand.riichi == able as u8);
+        }
         _ => {
-            script.add(Riichi(others[0]));
-            script.draw(&others[..1]);
+            let child = script.able_first(&[dealer])[1];
+            if !script.game.affords_riichi(child) {
+                script.add(Riichi(dealer));
+                script.draw(&[dealer]);
+            }
+            script.add(Riichi(child));
+            script.draw(&[child]);
         }
     }
 }

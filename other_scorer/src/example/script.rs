@@ -34,6 +34,27 @@ impl Script {
         [first, &rest].concat()
     }
 
+    /// Some seats in random order, the first ones those given, then those with the points for riichi (02, S-11).
+    pub fn able_first(&mut self, first: &[u8]) -> Vec<u8> {
+        let mut seats = self.seats(first);
+        seats[first.len()..].sort_by_key(|&seat| !self.game.affords_riichi(seat));
+        seats
+    }
+
+    /// All seats from the highest score to the lowest.
+    pub fn by_score(&self) -> Vec<u8> {
+        let mut seats = vec![0, 1, 2, 3];
+        seats.sort_by_key(|&seat| -self.game.scores[seat as usize]);
+        seats
+    }
+
+    /// Wins of the dealer with a yakuman until it has the points for riichi (02, S-11).
+    pub fn fund_dealer(&mut self) {
+        while self.game.is_open() && !self.game.affords_riichi(self.game.dealer) {
+            self.win(self.game.dealer, |hand, scored| hand.riichi == 0 && scored.h == 0);
+        }
+    }
+
     /// A seat that does not deal.
     pub fn child(&mut self) -> u8 {
         (self.game.dealer + self.rng.within(1, 3)) % 4
@@ -58,9 +79,10 @@ impl Script {
         }
     }
 
-    /// A win of a winner not declared yet that passes a test; riichi first if the hand has it.
+    /// A win of a winner not declared yet that passes a test; riichi first if the hand has it, which the winner has the points for.
     pub fn win(&mut self, winner: u8, test: impl Fn(&Hand, &Scored) -> bool) {
-        let hand = self.find(winner, |hand, scored| scored.refusal == 0 && test(hand, scored));
+        let able = self.game.affords_riichi(winner);
+        let hand = self.find(winner, |hand, scored| scored.refusal == 0 && (hand.riichi == 0 || able) && test(hand, scored));
         if hand.riichi != 0 {
             self.add(Booking::Riichi(winner));
         }
@@ -68,12 +90,13 @@ impl Script {
     }
 
     /// Hands of some winners on one tile of a seat, the first of which passes a test; each would be paid, had its seat declared what
-    /// it shows (02, S-6).
+    /// it shows, for which it has the points (02, S-6 and S-11).
     pub fn hands(&mut self, winners: &[u8], from: u8, test: impl Fn(&Hand) -> bool) -> Vec<Hand> {
-        let is_ron = |hand: &Hand, scored: &Scored| hand.how == RON && hand.discarder == from && scored.refusal == 0 && test(hand);
-        let mut hands = vec![self.find(winners[0], is_ron)];
+        let able: Vec<bool> = winners.iter().map(|&seat| self.game.affords_riichi(seat)).collect();
+        let is_ron = |hand: &Hand, scored: &Scored| hand.how == RON && hand.discarder == from && scored.refusal == 0;
+        let mut hands = vec![self.find(winners[0], |hand, scored| is_ron(hand, scored) && (hand.riichi == 0 || able[0]) && test(hand))];
         while hands.len() < winners.len() {
-            let riichi = self.rng.pick(&[0, 0, 1]);
+            let riichi = if able[hands.len()] { self.rng.pick(&[0, 0, 1]) } else { 0 };
             let hand = on_tile_of(&mut self.rng, &hands[0], winners[hands.len()], riichi);
             hands.extend(hand.filter(|hand| self.score(hand).refusal == 0));
         }

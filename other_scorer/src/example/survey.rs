@@ -1,4 +1,4 @@
-//! What a log covers, counted by walking it with a fresh game (01, The game; Log; 02, S-6 to S-8).
+//! What a log covers, counted by walking it with a fresh game (01, The game; Log; 02, S-6 to S-8 and S-11).
 
 use crate::booking::Booking;
 use crate::codec::{length, pack, read};
@@ -17,9 +17,13 @@ fn expected() -> Cover {
     let mut cover = Cover::default();
     cover.expect("accepted", &["R", "W", "D", "C", "M", "P"]);
     cover.expect("refused", &["R", "W", "D", "C", "M", "P"]);
-    cover.expect("refusal", &["2", "3", "4", "5", "6", "7", "8", "9", "10", "11", "14", "17", "18"]);
+    cover.expect("refusal", &["2", "3", "4", "5", "6", "7", "8", "9", "10", "11", "14", "17", "18", "21"]);
     cover.expect("refused after the end", &["R 8", "R 9", "W 9", "D 9", "C 8", "C 9", "M 9", "P 9"]);
     cover.expect("refusal 11", &["field without riichi", "riichi without field"]);
+    cover.expect("riichi with", &["1,000", "more"]);
+    cover.expect("refusal 10 with", &["1,000 or more", "under 1,000"]);
+    cover.expect("refusal 21 with", &["0 to 999", "under 0"]);
+    cover.expect("11 since a refusal 21", &["W", "M"]);
     cover.expect("win", &["tsumo dealer", "tsumo child", "ron dealer", "ron child"]);
     cover.expect("win with sticks", &["none", "this hand's", "older"]);
     cover.expect("win with counters", &["none by tsumo", "none by ron", "some by tsumo", "some by ron"]);
@@ -198,12 +202,28 @@ fn note_deal(cover: &mut Cover, before: &Game, after: &Game, letter: char) {
     cover.add_if(after.scores.iter().any(|&score| score < 0), "score under 0", "yes");
 }
 
-/// Counts a refused booking.
-fn note_refused(cover: &mut Cover, before: &Game, booking: &Booking, refusal: u8) {
+/// The winners that a win or a set marks riichi for.
+fn marked(booking: &Booking) -> Vec<u8> {
+    let hands = match booking {
+        Booking::Win(record) => read(record).map(|hand| vec![hand]),
+        Booking::Many { number, records } => set::hands(*number, records),
+        _ => return vec![],
+    };
+    hands.map_or(vec![], |hands| hands.iter().filter(|hand| hand.riichi > 0).map(|hand| hand.winner).collect())
+}
+
+/// Counts a refused booking; `away` are the seats whose riichi was refused with 21 in this hand (02, S-11).
+fn note_refused(cover: &mut Cover, before: &Game, booking: &Booking, refusal: u8, away: &[u8]) {
     let letter = letter(booking);
     cover.add("refused", letter);
     cover.add("refusal", refusal);
     cover.add_if(before.over, "refused after the end", format!("{letter} {refusal}"));
+    match (booking, refusal) {
+        (Booking::Riichi(seat), 10) => cover.add("refusal 10 with", if before.affords_riichi(*seat) { "1,000 or more" } else { "under 1,000" }),
+        (Booking::Riichi(seat), 21) => cover.add("refusal 21 with", if before.scores[*seat as usize] < 0 { "under 0" } else { "0 to 999" }),
+        (_, 11) => cover.add_if(marked(booking).iter().any(|seat| away.contains(seat)), "11 since a refusal 21", letter),
+        _ => {}
+    }
     if let (Booking::Win(record), 11) = (booking, refusal) {
         let field = read(record).is_ok_and(|hand| hand.riichi != 0);
         cover.add("refusal 11", if field { "field without riichi" } else { "riichi without field" });
@@ -228,16 +248,23 @@ pub fn survey(log: &[u8]) -> (usize, u8, Cover) {
     let mut game = Game::fresh();
     let (list, bad) = bookings(log);
     let mut lapsed: Vec<(u8, u8)> = Vec::new();
+    let mut away: Vec<u8> = Vec::new();
     for booking in &list {
         let before = game;
         let refusal = book(&mut game, booking);
         if refusal != 0 {
-            note_refused(&mut cover, &before, booking, refusal);
+            note_refused(&mut cover, &before, booking, refusal, &away);
+            if let (Booking::Riichi(seat), 21) = (booking, refusal) {
+                away.push(*seat);
+            }
             continue;
         }
         cover.add("accepted", letter(booking));
         match booking {
-            Booking::Riichi(_) => cover.add_if(before.feeders != [0; 8], "riichi since a feed", "yes"),
+            Booking::Riichi(seat) => {
+                cover.add("riichi with", if before.scores[*seat as usize] == 1000 { "1,000" } else { "more" });
+                cover.add_if(before.feeders != [0; 8], "riichi since a feed", "yes");
+            }
             Booking::Win(record) => {
                 let hand = read(record).expect("an accepted win");
                 note_win(&mut cover, &before, &hand, record);
@@ -250,6 +277,7 @@ pub fn survey(log: &[u8]) -> (usize, u8, Cover) {
         }
         note_lapse(&mut cover, &before, &game, booking);
         if game.hands > before.hands {
+            away.clear();
             let named = (0..4).flat_map(|seat| [(seat, DRAGONS), (seat, WINDS)]);
             lapsed = named.filter(|&(seat, yaku)| before.feeder(seat, yaku).is_some()).collect();
         }

@@ -1,4 +1,5 @@
-//! What of feeders and sets a booking meets, for counting: a run that leaves one out has not tested it (02, S-6 and S-8).
+//! What of feeders, sets and sticks a booking meets, for counting: a run that leaves one out has not tested it (02, S-6, S-8 and
+//! S-11).
 
 use other_scorer::codec::read;
 use other_scorer::fed::{self, DRAGONS, WINDS};
@@ -8,7 +9,7 @@ use other_scorer::score::score;
 use other_scorer::{set, Booking, Game};
 
 /// All cases.
-pub const CASES: [&str; 63] = [
+pub const CASES: [&str; 73] = [
     "28 fed, tsumo",
     "28 fed, ron from the feeder",
     "28 fed, ron from another",
@@ -72,7 +73,59 @@ pub const CASES: [&str; 63] = [
     "set refused: later record 6",
     "set refused: later record 7",
     "set refused: later record 11",
+    "riichi: with 1,000",
+    "riichi: with 1,001 to 1,999",
+    "riichi refused: not open, with under 1,000",
+    "riichi refused: declared, with under 1,000",
+    "riichi refused: with 999",
+    "riichi refused: with 0 to 998",
+    "riichi refused: with under 0",
+    "turned away: its win with riichi marked is refused",
+    "turned away: a set with its riichi marked is refused",
+    "turned away: its win without riichi is paid",
 ];
+
+/// The seats whose riichi was refused with 21 in this hand (02, S-11).
+#[derive(Default)]
+pub struct Away([bool; 4]);
+
+impl Away {
+    /// The cases of such seats that a booking meets, with its refusal; then its own riichi, or the hand's end, is noted.
+    pub fn met(&mut self, booking: &Booking, refusal: u8) -> Option<&'static str> {
+        let hands = match booking {
+            Booking::Win(record) => read(record).map_or(vec![], |hand| vec![hand]),
+            Booking::Many { number, records } => set::hands(*number, records).unwrap_or_default(),
+            _ => vec![],
+        };
+        let away = |riichi: bool| hands.iter().any(|hand| self.0[hand.winner as usize] && (hand.riichi > 0) == riichi);
+        let met = match (booking, refusal) {
+            (Booking::Win(_), 11) if away(true) => Some("turned away: its win with riichi marked is refused"),
+            (Booking::Many { .. }, 11) if away(true) => Some("turned away: a set with its riichi marked is refused"),
+            (Booking::Win(_), 0) if away(false) => Some("turned away: its win without riichi is paid"),
+            _ => None,
+        };
+        match (booking, refusal) {
+            (Booking::Riichi(seat), 21) => self.0[*seat as usize] = true,
+            (Booking::Win(_) | Booking::Many { .. } | Booking::Draw(_) | Booking::Chombo(_), 0) => self.0 = [false; 4],
+            _ => {}
+        }
+        met
+    }
+}
+
+/// The case of a riichi with about 1,000 points or fewer (02, S-11).
+fn of_riichi(before: &Game, seat: u8, refusal: u8) -> Option<&'static str> {
+    match (refusal, before.scores[seat as usize]) {
+        (0, 1000) => Some("riichi: with 1,000"),
+        (0, 1001..=1999) => Some("riichi: with 1,001 to 1,999"),
+        (9, ..=999) => Some("riichi refused: not open, with under 1,000"),
+        (10, ..=999) => Some("riichi refused: declared, with under 1,000"),
+        (21, 999) => Some("riichi refused: with 999"),
+        (21, 0..=998) => Some("riichi refused: with 0 to 998"),
+        (21, ..=-1) => Some("riichi refused: with under 0"),
+        _ => None,
+    }
+}
 
 /// The case of this name.
 fn case(name: String) -> &'static str {
@@ -165,6 +218,7 @@ pub fn met(before: &Game, booking: &Booking, refusal: u8) -> Vec<&'static str> {
         (Booking::Many { number, records }, 0) => of_set(before, &set::hands(*number, records).expect("an accepted set")),
         (Booking::Many { number, records }, 1..=7 | 11 | 17) => of_refused_set(before, *number, records, refusal),
         (Booking::Feed { holder, feeder, yaku }, _) => of_feed(before, (*holder, *feeder, *yaku), refusal),
+        (Booking::Riichi(seat @ 0..=3), _) => of_riichi(before, *seat, refusal).into_iter().collect(),
         _ => vec![],
     };
     let without = Game { feeders: [0; 8], ..*before };

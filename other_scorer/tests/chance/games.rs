@@ -6,10 +6,12 @@ use other_scorer::Game;
 
 /// A score from the floor up, often at one of a few values.
 fn score(rng: &mut Rng) -> i64 {
-    match rng.below(4) {
+    match rng.below(6) {
         0 => FLOOR as i64,
         1 => FLOOR as i64 + rng.below(60_000) as i64,
         2 => 30_000,
+        3 => rng.pick(&[999, 1000]),
+        4 => rng.below(2000) as i64,
         _ => FLOOR as i64 + rng.below(114_280_001) as i64,
     }
 }

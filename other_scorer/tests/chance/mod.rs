@@ -11,16 +11,20 @@ use other_scorer::sound::refusal;
 use other_scorer::themes::yakuman::{big_dragons, big_winds, little_winds};
 use other_scorer::{Booking, Game};
 
+/// The riichi field that fits a seat's declaration; with under 1,000 at times one though riichi is refused (02, S-11).
+fn riichi_field(rng: &mut Rng, game: &Game, seat: u8) -> u8 {
+    let turned_away = !game.affords_riichi(seat) && rng.percent(15);
+    if game.declared[seat as usize] || turned_away { rng.within(1, 2) } else { 0 }
+}
+
 /// A hand as this seat's, with the riichi field that fits the declarations if `fits`; none if it is not sound then.
 fn of_seat(rng: &mut Rng, game: &Game, mut hand: Hand, winner: u8, fits: bool) -> Option<Hand> {
     hand.winner = winner;
     if hand.how == RON {
         hand.discarder = (winner + rng.within(1, 3)) % 4;
     }
-    if game.declared[winner as usize] && fits {
-        hand.riichi = rng.within(1, 2);
-    } else if fits {
-        hand.riichi = 0;
+    if fits {
+        hand.riichi = riichi_field(rng, game, winner);
     }
     (refusal(&hand) == 0).then_some(hand)
 }
@@ -69,6 +73,21 @@ fn seat(rng: &mut Rng) -> u8 {
     if rng.percent(3) { rng.within(4, 255) } else { rng.within(0, 3) }
 }
 
+/// Riichi of a seat, often of one with about 1,000 points (02, S-11).
+fn riichi(rng: &mut Rng, game: &Game) -> Booking {
+    let near: Vec<u8> = (0..4).filter(|&seat| (0..2000).contains(&game.scores[seat as usize])).collect();
+    Booking::Riichi(if near.is_empty() || rng.percent(40) { seat(rng) } else { rng.pick(&near) })
+}
+
+/// Riichi of a seat that can declare where another has; where all have, a draw with none of them ready (02, S-7).
+fn follow(game: &Game) -> Option<Booking> {
+    if game.declared == [true; 4] {
+        return Some(Booking::Draw(0));
+    }
+    let able = (0..4).find(|&seat| !game.declared[seat as usize] && game.affords_riichi(seat));
+    able.filter(|_| game.declared.contains(&true)).map(Booking::Riichi)
+}
+
 /// A feeder of a holder, often of this seat, and of a yaku, seldom of another than the two.
 fn feed(rng: &mut Rng, often: u8) -> Booking {
     let (near, any) = (rng.within(27, 30), rng.next() as u8);
@@ -94,7 +113,7 @@ fn rons(rng: &mut Rng, game: &Game, winner: u8, keep: bool) -> Vec<Hand> {
     let mut hands = vec![first];
     for seat in others {
         while rng.percent(98) && !hands.iter().any(|hand| hand.winner == seat) {
-            let riichi = if game.declared[seat as usize] { rng.within(1, 2) } else { 0 };
+            let riichi = riichi_field(rng, game, seat);
             let fed = [DRAGONS, WINDS].into_iter().find(|&yaku| game.feeder(seat, yaku).is_some());
             hands.extend(match fed.filter(|_| rng.percent(80)) {
                 Some(yaku) => read(&fed_record(rng, game, seat, yaku)).ok().and_then(|hand| taking(hand, &first)),
@@ -195,8 +214,11 @@ pub fn booking(rng: &mut Rng, game: &Game, keep: bool) -> Booking {
     let dealer = game.dealer % 4;
     let declared = (0..4).filter(|&seat| game.declared[seat]).fold(0, |bits, seat| bits | 8 >> seat);
     let often = if keep { dealer } else { rng.within(0, 3) };
+    if let Some(booking) = follow(game).filter(|_| rng.percent(25)) {
+        return booking;
+    }
     match rng.below(14) {
-        0..=2 => Booking::Riichi(seat(rng)),
+        0..=2 => riichi(rng, game),
         3..=5 => win(rng, game, often, keep),
         6 | 12..=13 => many(rng, game, often, keep),
         7..=8 => {

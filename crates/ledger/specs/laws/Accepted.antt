@@ -13,7 +13,7 @@ use Rattle.score.specs.declared.Scored.{Scored}
 use Rattle.score.specs.laws.Settled.{score-unread}
 use Rattle.ledger.specs.declared.Game.{Game}
 use Rattle.ledger.specs.Booking.{riichi, win, draw, chombo, feed}
-use Rattle.ledger.specs.Ledger.{isDeclared, notOpen, handFor, scoredFor, riichiMismatch, wrongFeed, refusalFor}
+use Rattle.ledger.specs.Ledger.{isDeclared, notOpen, handFor, scoredFor, riichiMismatch, lacksStick, wrongFeed, refusalFor}
 use Rattle.ledger.specs.laws.Form.{open-of}
 
 pub cond-zero : (b : Bool) (n m : ℕ) → cond b (suc n) m ≡ 0 → (b ≡ false) × (m ≡ 0)
@@ -21,12 +21,14 @@ cond-zero true n m e = absurd (omega arith)
 cond-zero false n m e = (refl, e)
 
 module _ (g : Game) where
-  pub riichi-accepted : (seat : ℕ) → refusalFor g (riichi seat) ≡ 0 → (seat ≤ 3) × (notOpen g ≡ false) × (isDeclared g seat ≡ false)
+  pub riichi-accepted : (seat : ℕ) → refusalFor g (riichi seat) ≡ 0 → (seat ≤ 3) × (notOpen g ≡ false) × (isDeclared g seat ≡ false) × (lacksStick g seat ≡ false)
   unfolding refusalFor
   riichi-accepted seat e =
-      let p = cond-zero (ltb 3 seat) 7 (cond (notOpen g) 9 (cond (isDeclared g seat) 10 0)) e in
-      let q = cond-zero (notOpen g) 8 (cond (isDeclared g seat) 10 0) (p .1) in
-      (ltb-false 3 seat (p .0), q .0, cond-zero (isDeclared g seat) 9 0 (q .1) .0)
+      let c : ℕ = cond (isDeclared g seat) 10 (cond (lacksStick g seat) 21 0) in
+      let p = cond-zero (ltb 3 seat) 7 (cond (notOpen g) 9 c) e in
+      let q = cond-zero (notOpen g) 8 c (p .1) in
+      let r = cond-zero (isDeclared g seat) 9 (cond (lacksStick g seat) 21 0) (q .1) in
+      (ltb-false 3 seat (p .0), q .0, r .0, cond-zero (lacksStick g seat) 20 0 (r .1) .0)
 
   pub chombo-accepted : (seat : ℕ) → refusalFor g (chombo seat) ≡ 0 → (seat ≤ 3) × (notOpen g ≡ false)
   unfolding refusalFor

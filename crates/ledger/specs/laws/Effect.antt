@@ -70,7 +70,7 @@ module _ (g : Game) (e : Effect) where
   unfolding applied
   score-applied i l = getD-tabulate (pos 0) 4 (λ j. scoreAt g j +ℤ e .gives j) i l
 
-  declared-applied : (i : ℕ) → i < 4 → isDeclared (applied g e) i ≡ e .declared i
+  pub declared-applied : (i : ℕ) → i < 4 → isDeclared (applied g e) i ≡ e .declared i
   unfolding applied
   declared-applied i l = rw (getD-tabulate 0 4 (λ j. mark (e .declared j)) i l) (is-mark (e .declared i))
 
@@ -78,7 +78,7 @@ module _ (g : Game) (e : Effect) where
   unfolding applied
   declarations-applied = rw (is-mark (e .declared 0), is-mark (e .declared 1), is-mark (e .declared 2), is-mark (e .declared 3))
 
-  hands-applied : applied g e .hands ≡ handsAfter g (e .finishes)
+  pub hands-applied : applied g e .hands ≡ handsAfter g (e .finishes)
   unfolding applied
   hands-applied = refl
 

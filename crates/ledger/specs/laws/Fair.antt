@@ -119,7 +119,7 @@ module _ (bits : ℕ) where
   unfolding drawGives
   draw-balanced k = ap (λ (n : ℕ). n + 1000 * k) (shares-zero (isReady bits 0) (isReady bits 1) (isReady bits 2) (isReady bits 3))
 
-  draw-bounded : (i : ℕ) → dn (drawGives bits i) ≤ 3000
+  pub draw-bounded : (i : ℕ) → dn (drawGives bits i) ≤ 3000
   unfolding drawGives
   draw-bounded i =
       let n : ℕ = readySeats bits in
@@ -140,7 +140,7 @@ module _ (g : Game) where
     unfolding chomboGives
     chombo-balanced d = both-turn (fineOf at) (backTo g) (g .sticks) (g .sticks - declarations g) (omega (arith, fines-even at)) (backs d)
 
-    chombo-bounded : (i : ℕ) → i < 4 → dn (chomboGives g at i) ≤ 9000 + up (chomboGives g at i)
+    pub chombo-bounded : (i : ℕ) → i < 4 → dn (chomboGives g at i) ≤ 9000 + up (chomboGives g at i)
     unfolding chomboGives
     chombo-bounded i l = omega (arith, fine-dn at i l, back-is (isDeclared g i), add-law (fineOf at i) (backTo g i))
 

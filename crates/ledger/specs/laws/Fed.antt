@@ -244,7 +244,7 @@ either-none : (t : Bool) (a b : Effect) → a .feeders ≡ replicate 8 0 → b .
 either-none true a b p q i = rw p (none-left i)
 either-none false a b p q i = rw q (none-left i)
 
-either-finishes : (t : Bool) (a b : Effect) → a .finishes ≡ true → b .finishes ≡ true → cond t a b .finishes ≡ true
+pub either-finishes : (t : Bool) (a b : Effect) → a .finishes ≡ true → b .finishes ≡ true → cond t a b .finishes ≡ true
 either-finishes true a b p q = p
 either-finishes false a b p q = q
 

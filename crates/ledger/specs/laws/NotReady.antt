@@ -22,7 +22,7 @@ use Rattle.score.specs.laws.Z.{add-law, eq-parts}
 use Rattle.ledger.specs.declared.Game.{Game}
 use Rattle.ledger.specs.Booking.{Booking, riichi, win, draw, chombo, feed, many}
 use Rattle.records.specs.Records.{recordsOf, firstUnread, noSet}
-use Rattle.ledger.specs.Ledger.{scoreAt, isDeclared, declarations, notOpen, handFor, scoredFor, riichiMismatch, winRefusal, firstRefused, wrongFeed, refusalFor, fineOf, backTo, chomboGives, chomboOf, isAtFault, effectOf, applied, after}
+use Rattle.ledger.specs.Ledger.{scoreAt, isDeclared, declarations, notOpen, handFor, scoredFor, riichiMismatch, winRefusal, firstRefused, lacksStick, wrongFeed, refusalFor, fineOf, backTo, chomboGives, chomboOf, isAtFault, effectOf, applied, after}
 use Rattle.ledger.specs.NotReady.{BookedAsChombo}
 use Rattle.ledger.specs.laws.Effect.{score-applied}
 use Rattle.ledger.specs.laws.Fair.{chombo-balanced}
@@ -126,7 +126,7 @@ module _ (l : Game) where
   pub never-12 : (b : Booking) → Not12 (refusalFor l b)
   unfolding refusalFor
   never-12 (riichi seat) =
-      neither (ltb 3 seat) 8 _ (λ e. omega arith) (neither (notOpen l) 9 _ (λ e. omega arith) (neither (isDeclared l seat) 10 0 (λ e. omega arith) (λ e. omega arith)))
+      neither (ltb 3 seat) 8 _ (λ e. omega arith) (neither (notOpen l) 9 _ (λ e. omega arith) (neither (isDeclared l seat) 10 _ (λ e. omega arith) (neither (lacksStick l seat) 21 0 (λ e. omega arith) (λ e. omega arith))))
   never-12 (win s) = neither (notOpen l) 9 _ (λ e. omega arith) (win-12 s)
   never-12 (draw bits) = neither (ltb 15 bits) 8 _ (λ e. omega arith) (neither (notOpen l) 9 0 (λ e. omega arith) (λ e. omega arith))
   never-12 (chombo seat) = neither (ltb 3 seat) 8 _ (λ e. omega arith) (neither (notOpen l) 9 0 (λ e. omega arith) (λ e. omega arith))

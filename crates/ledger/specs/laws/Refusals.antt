@@ -9,7 +9,7 @@ use lib.Dec.{ltb, eqb}
 use Rattle.records.specs.Records.{recordsOf, firstUnread, noSet}
 use Rattle.ledger.specs.declared.Game.{Game}
 use Rattle.ledger.specs.Booking.{Booking, riichi, win, draw, chombo, feed, many}
-use Rattle.ledger.specs.Ledger.{isDeclared, notOpen, winRefusal, firstRefused, wrongFeed, refusalFor, effectOf, applied, after}
+use Rattle.ledger.specs.Ledger.{isDeclared, notOpen, lacksStick, winRefusal, firstRefused, wrongFeed, refusalFor, effectOf, applied, after}
 use Rattle.ledger.specs.Runs.{Booked}
 
 -- ---- any booking, by its refusal
@@ -36,9 +36,13 @@ module _ (g : Game) (seat : ℕ) where
   unfolding refusalFor
   riichi-shut h o = rw (le-ltb 3 seat h, o)
 
-  pub riichi-by : seat ≤ 3 → notOpen g ≡ false → (b : Bool) → isDeclared g seat ≡ b → refusalFor g (riichi seat) ≡ cond b 10 0
+  pub riichi-twice : seat ≤ 3 → notOpen g ≡ false → isDeclared g seat ≡ true → refusalFor g (riichi seat) ≡ 10
   unfolding refusalFor
-  riichi-by h o b e = rw (le-ltb 3 seat h, o, e)
+  riichi-twice h o d = rw (le-ltb 3 seat h, o, d)
+
+  pub riichi-by : seat ≤ 3 → notOpen g ≡ false → isDeclared g seat ≡ false → (b : Bool) → lacksStick g seat ≡ b → refusalFor g (riichi seat) ≡ cond b 21 0
+  unfolding refusalFor
+  riichi-by h o d b e = rw (le-ltb 3 seat h, o, d, e)
 
   pub chombo-seat : 3 < seat → refusalFor g (chombo seat) ≡ 8
   unfolding refusalFor

@@ -37,7 +37,7 @@ module _ (g : Game) (x : ℕ) where
   times k true n = refl
   times k false n = omega arith
 
-  set-dn : (ss : List (List ℕ)) (i : ℕ) → dn (setGives g x ss i) ≤ 32000 * length ss + taken (g .dealer) 16000 ss + taken x (300 * g .counter) ss + up (setGives g x ss i)
+  pub set-dn : (ss : List (List ℕ)) (i : ℕ) → dn (setGives g x ss i) ≤ 32000 * length ss + taken (g .dealer) 16000 ss + taken x (300 * g .counter) ss + up (setGives g x ss i)
   unfolding setGives taken
   set-dn [] i = omega arith
   set-dn (s ∷ ss) i =
@@ -73,7 +73,7 @@ module _ (g : Game) (number : ℕ) (s : List ℕ) where
       let z = eqb-false number 0 (n .0) in
       record { opened = p .0; some = omega (arith, z); few = ltb-false 3 number (n .1); read = all-read rs (r .0); set = t .0; scored = t .1 }
 
-  once : (x k : ℕ) → noSet rs ≡ false → taken x k rs ≤ k
+  pub once : (x k : ℕ) → noSet rs ≡ false → taken x k rs ≤ k
   once x k e = go (isWinner rs x) (taken-once x k rs e)
     where
       go : (t : Bool) → taken x k rs ≡ cond t k 0 → taken x k rs ≤ k
