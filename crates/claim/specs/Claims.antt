@@ -14,9 +14,7 @@ use Rattle.claim.specs.Claim.{Names}
 use Rattle.claim.specs.Verdict.{PaysMost}
 use Rattle.claim.specs.IsJudged.{refusedWith, NamedWith}
 use Rattle.claim.specs.Judge.{judgedOf, HasVerdict}
-use Rattle.claim.specs.Worked.{Worked}
 use Rattle.claim.specs.laws.Judged as laws
-use Rattle.claim.specs.laws.Worked as examples
 
 module _ (s : List ℕ) where
   -- the hand that Read returns
@@ -61,7 +59,3 @@ module _ (s : List ℕ) where
   pub own-reading : (dealer wind : ℕ) → dealer ≤ 3 → wind ≤ 1 → IsSound s → (r : Reading) → IsReported hand dealer wind r
       → (claim : List ℕ) × Names (hand .held .m) claim r (gainIn hand dealer wind r) × HasVerdict s claim dealer wind 0
   own-reading = laws.own-reading s
-
--- claims for hands of the table
-pub worked-claims : Worked
-worked-claims = examples.worked

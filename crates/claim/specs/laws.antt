@@ -6,4 +6,4 @@ pub mod Verdict
 pub mod Exact
 pub mod Found
 pub mod Judged
-pub mod Worked
+pub mod Examples

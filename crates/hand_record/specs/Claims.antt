@@ -3,25 +3,16 @@
 use Prim.Native.Nat.{ℕ, _+_, _*_, _-_, _≤_, _<_}
 use mathlib.Core.Path.{_≡_}
 use mathlib.Core.Logic.{_↔_}
-use mathlib.Core.List.{List, [], _∷_, _++_}
+use mathlib.Core.List.{List, _++_}
 use lib.ListN.{length, take, drop}
 use Rattle.bits.specs.Bits.{sum, Below}
 use Rattle.hand.specs.declared.Hand.{Hand}
 use Rattle.hand_record.specs.Record.{lengthOf, padOf, widths, refusalIn, handOf, soundAs, readOf, IsSound, IsHand, writtenOf, bufferOf}
 use Rattle.hand_record.specs.laws.Claims as laws
-use Rattle.hand_record.specs.laws.Examples as examples
 
 -- "zero bits to the byte. That is 103 − 10m bits": with under 8 zero bits the widths of a record's fields are its bytes
 pub widths-fill : (m : ℕ) → m ≤ 4 → (sum (widths m) ≡ 103 - 10 * m + padOf m) × (103 - 10 * m + padOf m ≡ 8 * lengthOf m) × (padOf m < 8)
 widths-fill = laws.filled
-
--- line 6 of document 01's table, bit by bit (docs/RECORDS.md): chi 234m, 567m 22456p 67s and 8s. It fixes "most significant first"
-pub worked : readOf (184 ∷ 30 ∷ 100 ∷ 128 ∷ 136 ∷ 40 ∷ 197 ∷ 20 ∷ 97 ∷ 167 ∷ 46 ∷ 192 ∷ [])
-    ≡ soundAs (record {
-      fields = record { how = 1; winner = 1; discarder = 3; riichi = 0; situation = 0; indicator = 30; winning = 25 };
-      held = record { m = 1; melds = 1 ∷ 0 ∷ 0 ∷ 0 ∷ []; concealed = 4 ∷ 5 ∷ 6 ∷ 10 ∷ 10 ∷ 12 ∷ 13 ∷ 14 ∷ 23 ∷ 24 ∷ 0 ∷ 0 ∷ 0 ∷ [] };
-    })
-worked = examples.table .5 .read
 
 -- "A record that meets none of these is sound", and then "Read refuses" it for nothing; and the reverse
 pub sound : (s : List ℕ) → IsSound s ↔ (refusalIn (readOf s .answer) ≡ 0)

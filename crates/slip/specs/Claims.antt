@@ -6,10 +6,8 @@ use lib.ListN.{length, getD, take, drop}
 use Rattle.score.specs.Score.{scoreOf}
 use Rattle.text.specs.Text.{digitsOf}
 use Rattle.slip.specs.Slip.{valuesOf, lineAt, slipText, slipRefusal, slipPage}
-use Rattle.slip.specs.Worked.{Worked}
 use Rattle.slip.specs.laws.Short as short
 use Rattle.slip.specs.laws.Page as page
-use Rattle.slip.specs.laws.Worked as slips
 
 module _ (s : List ℕ) (dealer wind : ℕ) where
   -- "a value, right in 14": every value fits, so that nothing is cut
@@ -41,7 +39,3 @@ module _ (s : List ℕ) (dealer wind : ℕ) where
     -- "a refused call .. writes nothing" (01)
     pub refused-writes-nothing : 0 < slipRefusal (scoreOf s dealer wind) p → slipPage (scoreOf s dealer wind) p ≡ p
     refused-writes-nothing = page.refused-writes-nothing s dealer wind p
-
--- the slips of lines 1 and 9 of the table of hands
-pub worked-slips : Worked
-worked-slips = slips.worked

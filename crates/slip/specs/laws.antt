@@ -2,4 +2,4 @@ pub mod Text
 pub mod Score
 pub mod Short
 pub mod Page
-pub mod Worked
+pub mod Examples

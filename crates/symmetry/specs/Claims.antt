@@ -8,11 +8,10 @@ use lib.ListN.{getD}
 use Rattle.hand_record.specs.Record.{handOf, readOf, IsSound}
 use Rattle.score.specs.Score.{scoreOf}
 use Rattle.symmetry.specs.Turned.{on, turnedHand, turnedRecord, turnedScore}
-use Rattle.symmetry.specs.Renamed.{IsRenaming, renamedHand, renamedRecord, isAllGreen, SameScore, Tie, GreenDiffers}
+use Rattle.symmetry.specs.Renamed.{IsRenaming, renamedHand, renamedRecord, isAllGreen, SameScore, Tie}
 use Rattle.symmetry.specs.laws.Kinds as kinds
 use Rattle.symmetry.specs.laws.Turned as turned
 use Rattle.symmetry.specs.laws.Renamed as renamed
-use Rattle.symmetry.specs.laws.Examples as examples
 
 -- ---- "moving winner, discarder and dealer on by the same number of seats": by n
 
@@ -58,7 +57,3 @@ module _ (σ : ℕ → ℕ) (r : IsRenaming σ) (s : List ℕ) (i : IsSound s) w
     -- the same pair their groups differ within one suit (laws/Suits of reading), so a renaming keeps the order, and where two tie the image of the same one is reported
     pub yaku-differs-by-tie : (scoreOf (renamedRecord σ s) dealer wind .yaku ≡ scoreOf s dealer wind .yaku → ⊥) → Tie (handOf (readOf s)) dealer wind
     yaku-differs-by-tie d = absurd (d (renamed-scores .yaku))
-
--- "provided the hand is all green (yaku 34) neither before nor after": without this the score may differ
-pub green-differs : GreenDiffers
-green-differs = examples.green-differs

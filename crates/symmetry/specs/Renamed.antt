@@ -1,10 +1,9 @@
 -- The suits renamed (02, S-12): "any renaming of the three suits, indicator included and concealed tiles put back in order".
-use mathlib.Core.Bool.{Bool, true, cond}
+use mathlib.Core.Bool.{Bool, cond}
 use mathlib.Core.List.{List, [], _∷_, map}
 use mathlib.Core.Path.{_≡_}
 use Prim.Native.Nat.{ℕ, _+_, _*_, _/_, _%_, _<_}
 use lib.Dec.{leb, eqb}
-use lib.IntN.{pos, negsuc}
 use lib.ListN.{getD, take}
 use Rattle.bits.specs.Bits.{fill}
 use Rattle.tiles.specs.Below.{count}
@@ -22,7 +21,6 @@ use Rattle.fu_items.specs.Fu.{fu}
 use Rattle.best.specs.Best.{figures}
 use Rattle.score.specs.declared.Scored.{Scored}
 use Rattle.score.specs.Named.{worth, ReadsWithYaku, IsReported}
-use Rattle.score.specs.Score.{scoreOf}
 
 -- "any renaming of the three suits": each of 0 man, 1 pin, 2 sou becomes one of them, and no two become the same
 pub record IsRenaming (σ : ℕ → ℕ) : Type 0 where
@@ -109,23 +107,3 @@ pub record Tie (h : Hand) (dealer wind : ℕ) : Type 0 where
   pub reads : ReadsWithYaku h dealer wind other
   pub differ : one ≡ other → ⊥
   pub equal : figures (worth h dealer wind one) ≡ figures (worth h dealer wind other)
-
--- ---- that all green has to be left out
-
--- pon 222s, 333444666s 8s, seat 1 ron 8s from seat 3, indicator North
-abbrev pub greenHand : Hand
-greenHand = record {
-  fields = record { how = 1; winner = 1; discarder = 3; riichi = 0; situation = 0; indicator = 30; winning = 25 };
-  held = record { m = 1; melds = 83 ∷ 0 ∷ 0 ∷ 0 ∷ []; concealed = 20 ∷ 20 ∷ 20 ∷ 21 ∷ 21 ∷ 21 ∷ 23 ∷ 23 ∷ 23 ∷ 25 ∷ 0 ∷ 0 ∷ 0 ∷ [] };
-}
-
--- man and sou change places
-abbrev pub manForSou : ℕ → ℕ
-manForSou s = getD (2 ∷ 1 ∷ 0 ∷ []) s 0
-
--- "provided the hand is all green (yaku 34) neither before nor after": this one is, and is paid 32,000 before and 16,000 after
-pub record GreenDiffers : Type 0 where
-  pub renaming : IsRenaming manForSou
-  pub green : isAllGreen greenHand ≡ true
-  pub before : scoreOf (recordOf greenHand) 0 0 .changes ≡ pos 0 ∷ pos 32000 ∷ pos 0 ∷ negsuc 31999 ∷ []
-  pub after : scoreOf (renamedRecord manForSou (recordOf greenHand)) 0 0 .changes ≡ pos 0 ∷ pos 16000 ∷ pos 0 ∷ negsuc 15999 ∷ []

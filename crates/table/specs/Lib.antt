@@ -1,6 +1,6 @@
--- Table    lines 1 to 12 of the table of hands, and hands whose readings are counted
--- Claims   the theorems that they hold
--- laws     each computed
+-- Table    lines 1 to 12 of the table of hands
+-- Claims   the theorem that they hold
+-- laws     each computed, and hands whose readings are counted
 pub mod Table
 pub mod laws
 pub mod Claims

@@ -1,4 +1,4 @@
--- The table of hands to prove (01): dealer 0, East, indicator North, no riichi, ordinary, each ron from seat 3. Then hands whose readings are counted.
+-- The table of hands to prove (01): dealer 0, East, indicator North, no riichi, ordinary, each ron from seat 3.
 -- Kinds: 1m is 0, 1p is 9, 1s is 18, North is 30.
 use mathlib.Core.List.{List, [], _∷_, _++_}
 use mathlib.Core.Path.{_≡_}
@@ -34,10 +34,6 @@ toldOf a = (a .refusal, a .h, a .fu, tenOf (a .items), a .changes)
 -- what a hand's record scores by "Dealer 0, East"
 pub record Scores (hand : Hand) (refusal h fu : ℕ) (items : List ℕ) (changes : List ℤ) : Type 0 where
   pub told : toldOf (scoreOf (recordOf hand) 0 0) ≡ (refusal, h, fu, items, changes)
-
--- "how many readings it tried" of a hand's record
-pub record Tries (hand : Hand) (n : ℕ) : Type 0 where
-  pub tried : scoreOf (recordOf hand) 0 0 .tried ≡ n
 
 -- what seat 1, a "child", gains by ron from seat 3 with h and fu
 abbrev childRon : ℕ → ℕ → ℕ
@@ -79,13 +75,3 @@ pub record Lines : Type 0 where
   -- 12: "1111m 44m 77m 22p 55p 88p, seat 1 ron 8p: 6."
   pub line-12 : Scores (won 1 1 3 16 0 (0 ∷ 0 ∷ 0 ∷ 0 ∷ []) (0 ∷ 0 ∷ 0 ∷ 0 ∷ 3 ∷ 3 ∷ 6 ∷ 6 ∷ 10 ∷ 10 ∷ 13 ∷ 13 ∷ 16 ∷ []))
       6 0 0 (0 ∷ 0 ∷ 0 ∷ 0 ∷ 0 ∷ 0 ∷ 0 ∷ 0 ∷ 0 ∷ 0 ∷ []) (pos 0 ∷ pos 0 ∷ pos 0 ∷ pos 0 ∷ [])
-
--- how many readings of hands written as above are tried (02, S-4)
-pub record Counts : Type 0 where
-  -- 111222333m 789s 99p, seat 1 ron 1m: "each place in equal groups", three of 123m, and one of 111m
-  pub equal-groups : Tries (won 1 1 3 0 0 (0 ∷ 0 ∷ 0 ∷ 0 ∷ []) (0 ∷ 0 ∷ 1 ∷ 1 ∷ 1 ∷ 2 ∷ 2 ∷ 2 ∷ 17 ∷ 17 ∷ 24 ∷ 25 ∷ 26 ∷ [])) 4
-  -- 111 2222 3333 444m, "a closed one-suit hand", seat 1 ron 2m: all
-  pub one-suit : Tries (won 1 1 3 1 0 (0 ∷ 0 ∷ 0 ∷ 0 ∷ []) (0 ∷ 0 ∷ 0 ∷ 1 ∷ 1 ∷ 1 ∷ 2 ∷ 2 ∷ 2 ∷ 2 ∷ 3 ∷ 3 ∷ 3 ∷ [])) 12
-  -- 11 222 333 444 555m, seat 1 tsumo 2m: "up to" the four triplets, "it included", the fifth of eight; by ron they are no yakuman
-  pub up-to-yakuman : Tries (won 0 1 0 1 0 (0 ∷ 0 ∷ 0 ∷ 0 ∷ []) (0 ∷ 0 ∷ 1 ∷ 1 ∷ 2 ∷ 2 ∷ 2 ∷ 3 ∷ 3 ∷ 3 ∷ 4 ∷ 4 ∷ 4 ∷ [])) 5
-  pub all-by-ron : Tries (won 1 1 3 1 0 (0 ∷ 0 ∷ 0 ∷ 0 ∷ []) (0 ∷ 0 ∷ 1 ∷ 1 ∷ 2 ∷ 2 ∷ 2 ∷ 3 ∷ 3 ∷ 3 ∷ 4 ∷ 4 ∷ 4 ∷ [])) 8

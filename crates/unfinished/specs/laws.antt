@@ -1,3 +1,4 @@
 pub mod Read
 pub mod Sound
 pub mod Claims
+pub mod Examples

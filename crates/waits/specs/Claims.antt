@@ -1,17 +1,14 @@
 -- The theorems of the waits (02, S-1), over what the call gives for all bytes and discards.
 use mathlib.Core.Path.{_≡_}
-use mathlib.Core.Bool.{true, false, _||_}
-use mathlib.Core.List.{List, [], _∷_}
+use mathlib.Core.Bool.{true, false}
+use mathlib.Core.List.{List}
 use mathlib.Core.Logic.{_↔_}
 use Prim.Native.Nat.{ℕ, _<_}
-use lib.Dec.{eqb}
 use lib.ListN.{getD}
-use Rattle.tiles.specs.Below.{tabulate}
 use Rattle.unfinished.specs.Unfinished.{heldOf, refusalOf}
 use Rattle.waits.specs.Waits.{IsWait, Discarded, OverAmong, refusedWith}
 use Rattle.waits.specs.Answer.{waitsOf, is-waits}
 use Rattle.waits.specs.laws.Claims as laws
-use Rattle.waits.specs.laws.Examples as examples
 
 module _ (s discards : List ℕ) where
   -- "the set of kinds that give a reading when added, yaku or not. A kind already held four times is never among them"
@@ -33,8 +30,3 @@ module _ (s discards : List ℕ) where
   -- "a discard over 33 with 15, after the checks above"
   pub refused-15 : (waitsOf s discards .refusal ≡ 15) ↔ ((refusalOf s ≡ 0) × OverAmong discards)
   refused-15 = laws.refused-15 s discards (is-waits s discards)
-
--- chi 234m, 567m 22456p 67s (docs/RECORDS.md) waits for 5s, 22, and 8s, 25; with North, 8s and 4m discarded it is in furiten
-pub worked : waitsOf (32 ∷ 34 ∷ 10 ∷ 49 ∷ 69 ∷ 24 ∷ 105 ∷ 203 ∷ 176 ∷ []) (30 ∷ 25 ∷ 3 ∷ [])
-    ≡ record { refusal = 0; waits = tabulate 34 0 (λ k. eqb k 22 || eqb k 25); furiten = true }
-worked = examples.worked

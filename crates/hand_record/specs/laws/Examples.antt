@@ -75,3 +75,11 @@ Table = ReadsBack line1 × ReadsBack line2 × ReadsBack line3 × ReadsBack line4
 pub table : Table
 unfolding every some number at meldHolds inMelds inOthers inHeld inHand tileOver33 wrongHeld wrongFields descends inRecord overFour wrongSituation refusalOf headOf meldsOf tilesOf heldIn paddingAfter handIn answerBy judged readOf widths valuesOf recordOf
 table = (record { read = refl; write = refl }, record { read = refl; write = refl }, record { read = refl; write = refl }, record { read = refl; write = refl }, record { read = refl; write = refl }, record { read = refl; write = refl }, record { read = refl; write = refl }, record { read = refl; write = refl }, record { read = refl; write = refl }, record { read = refl; write = refl })
+
+-- line 6 of document 01's table, bit by bit (docs/RECORDS.md): chi 234m, 567m 22456p 67s and 8s. It fixes "most significant first"
+pub worked : readOf (184 ∷ 30 ∷ 100 ∷ 128 ∷ 136 ∷ 40 ∷ 197 ∷ 20 ∷ 97 ∷ 167 ∷ 46 ∷ 192 ∷ [])
+    ≡ soundAs (record {
+      fields = record { how = 1; winner = 1; discarder = 3; riichi = 0; situation = 0; indicator = 30; winning = 25 };
+      held = record { m = 1; melds = 1 ∷ 0 ∷ 0 ∷ 0 ∷ []; concealed = 4 ∷ 5 ∷ 6 ∷ 10 ∷ 10 ∷ 12 ∷ 13 ∷ 14 ∷ 23 ∷ 24 ∷ 0 ∷ 0 ∷ 0 ∷ [] };
+    })
+worked = table .5 .read

@@ -1,9 +1,12 @@
--- A hand of all green scores otherwise once its suits are renamed, computed.
-use mathlib.Core.List.{List}
+-- That all green has to be left out: such a hand scores otherwise once its suits are renamed, computed.
+use mathlib.Core.Bool.{true}
+use mathlib.Core.List.{List, [], _∷_}
 use mathlib.Core.Path.{_≡_, refl, sym, ap, _∙_}
 use Prim.Native.Nat.{ℕ}
 use native.Mathlib.Omega.{arith}
-use lib.IntN.{ℤ}
+use lib.IntN.{ℤ, pos, negsuc}
+use lib.ListN.{getD}
+use Rattle.hand.specs.declared.Hand.{Hand}
 use Rattle.tiles.specs.Below.{every, some, number, total}
 use Rattle.tiles.specs.Kinds.{doraOf}
 use Rattle.tiles.specs.Groups.{isGroup, at, uses}
@@ -28,13 +31,32 @@ use Rattle.score.specs.search.Settled.{settledBy, keptOf, settledOf, foundBy, f
 use Rattle.score.specs.laws.Settled.{found-is-score}
 use Rattle.score.specs.declared.Scored.{Scored}
 use Rattle.score.specs.Score.{scoreOf}
+use Rattle.symmetry.specs.Renamed.{IsRenaming, renamed, renamedMeld, put, inOrder, renamedHeld, renamedRecord, isAllGreen}
 use Rattle.symmetry.specs.laws.Kinds.{renaming-of}
-use Rattle.symmetry.specs.Renamed.{renamed, renamedMeld, put, inOrder, renamedHeld, renamedRecord, greenHand, manForSou, GreenDiffers}
+
+-- pon 222s, 333444666s 8s, seat 1 ron 8s from seat 3, indicator North
+abbrev pub greenHand : Hand
+greenHand = record {
+  fields = record { how = 1; winner = 1; discarder = 3; riichi = 0; situation = 0; indicator = 30; winning = 25 };
+  held = record { m = 1; melds = 83 ∷ 0 ∷ 0 ∷ 0 ∷ []; concealed = 20 ∷ 20 ∷ 20 ∷ 21 ∷ 21 ∷ 21 ∷ 23 ∷ 23 ∷ 23 ∷ 25 ∷ 0 ∷ 0 ∷ 0 ∷ [] };
+}
+
+-- man and sou change places
+abbrev pub manForSou : ℕ → ℕ
+manForSou s = getD (2 ∷ 1 ∷ 0 ∷ []) s 0
+
+-- "provided the hand is all green (yaku 34) neither before nor after": this one is, and is paid 32,000 before and 16,000 after
+pub record GreenDiffers : Type 0 where
+  pub renaming : IsRenaming manForSou
+  pub green : isAllGreen greenHand ≡ true
+  pub before : scoreOf (recordOf greenHand) 0 0 .changes ≡ pos 0 ∷ pos 32000 ∷ pos 0 ∷ negsuc 31999 ∷ []
+  pub after : scoreOf (renamedRecord manForSou (recordOf greenHand)) 0 0 .changes ≡ pos 0 ∷ pos 16000 ∷ pos 0 ∷ negsuc 15999 ∷ []
 
 -- the changes hold of the score where they hold of what the search finds
 told : (s : List ℕ) (changes : List ℤ) → foundOf s 0 0 .changes ≡ changes → scoreOf s 0 0 .changes ≡ changes
 told s changes e = ap (λ (x : Scored). x .changes) (sym (found-is-score s 0 0)) ∙ e
 
+-- "provided the hand is all green (yaku 34) neither before nor after": without this the score may differ
 pub green-differs : GreenDiffers
 unfolding renamed renamedMeld put inOrder renamedHeld renamedRecord widths valuesOf recordOf every some number total doraOf isGroup at uses tallyOf meldHolds inMelds inOthers inHeld inConcealed inHand concealedTally handTally tileOver33 wrongHeld wrongFields descends inRecord overFour wrongSituation refusalOf headOf meldsOf tilesOf heldIn paddingAfter handIn answerBy judgedHand readOf holds isSevenPairs isOrphans concatMap isEmpty less fits without passes step splits placedAt placed paired shaped readings judged littleDragons valueHan earnsWait pinfu twins inThreeAt inThreeSuits straight touches outside concealed kans fourWinds only halfFlush flush gates testsOf isYakuman listed yakuOf hasYaku plain limit ordinary basic hundreds share pays gain change changes hanBy yakuHan hanOf tripletFu groupFu groupItems earned added rounded itemsOf fuOf valueOf beats counted noneOf judgeBy bestOf wonOf groupsOf waysOf partsOf worth settledBy keptOf settledOf foundBy foundOf
 green-differs = record {

@@ -1,4 +1,4 @@
--- The table of hands and the counted ones, computed.
+-- The table of hands, computed.
 use mathlib.Core.Path.{_≡_, refl, sym, ap, _∙_}
 use mathlib.Core.List.{List}
 use Prim.Native.Nat.{ℕ}
@@ -23,48 +23,29 @@ use Rattle.value.specs.Han.{hanBy, yakuHan, hanOf}
 use Rattle.fu_items.specs.Fu.{tripletFu, groupFu, groupItems, earned, added, rounded, itemsOf, fuOf}
 use Rattle.value.specs.Value.{valueOf}
 use Rattle.best.specs.search.Best.{beats, counted, noneOf, judgeBy, bestOf}
-use Rattle.score.specs.declared.Scored.{Scored}
 use Rattle.score.specs.Named.{wonOf, groupsOf, waysOf, partsOf, worth}
 use Rattle.score.specs.search.Settled.{settledBy, keptOf, settledOf, foundBy, foundOf}
 use Rattle.score.specs.laws.Settled.{found-is-score}
-use Rattle.table.specs.Table.{toldOf, Scores, Lines, Tries, Counts}
+use Rattle.table.specs.Table.{toldOf, Scores, Lines}
 
 -- a line holds of the score where it holds of what the search finds
 line : (hand : Hand) (refusal h fu : ℕ) (items : List ℕ) (changes : List ℤ) → toldOf (foundOf (recordOf hand) 0 0) ≡ (refusal, h, fu, items, changes)
     → Scores hand refusal h fu items changes
 line hand refusal h fu items changes e = record { told = ap toldOf (sym (found-is-score (recordOf hand) 0 0)) ∙ e }
 
--- the count of a hand, likewise
-tries : (hand : Hand) (n : ℕ) → foundOf (recordOf hand) 0 0 .tried ≡ n → Tries hand n
-tries hand n e = record { tried = ap (λ (x : Scored). x .tried) (sym (found-is-score (recordOf hand) 0 0)) ∙ e }
-
-computed : Lines × Counts
-unfolding widths valuesOf recordOf every some number total doraOf isGroup at uses tallyOf meldHolds inMelds inOthers inHeld inConcealed inHand concealedTally handTally tileOver33 wrongHeld wrongFields descends inRecord overFour wrongSituation refusalOf headOf meldsOf tilesOf heldIn paddingAfter handIn answerBy judgedHand readOf holds isSevenPairs isOrphans concatMap isEmpty less fits without passes step splits placedAt placed paired shaped readings judged littleDragons valueHan earnsWait pinfu twins inThreeAt inThreeSuits straight touches outside concealed kans fourWinds only halfFlush flush gates testsOf isYakuman listed yakuOf hasYaku plain limit ordinary basic hundreds share pays gain change changes hanBy yakuHan hanOf tripletFu groupFu groupItems earned added rounded itemsOf fuOf valueOf beats counted noneOf judgeBy bestOf wonOf groupsOf waysOf partsOf worth settledBy keptOf settledOf foundBy foundOf
-computed = (
-  record {
-    line-1 = line _ _ _ _ _ _ refl;
-    line-2 = line _ _ _ _ _ _ refl;
-    line-3 = line _ _ _ _ _ _ refl;
-    line-4 = line _ _ _ _ _ _ refl;
-    line-5 = line _ _ _ _ _ _ refl;
-    line-6 = line _ _ _ _ _ _ refl;
-    line-7 = line _ _ _ _ _ _ refl;
-    line-8 = line _ _ _ _ _ _ refl;
-    line-9 = line _ _ _ _ _ _ refl;
-    line-10 = (refl, refl);
-    line-11 = λ fu. (refl, refl, refl, refl);
-    line-12 = line _ _ _ _ _ _ refl;
-  },
-  record {
-    equal-groups = tries _ _ refl;
-    one-suit = tries _ _ refl;
-    up-to-yakuman = tries _ _ refl;
-    all-by-ron = tries _ _ refl;
-  },
-)
-
 pub lines : Lines
-lines = computed .0
-
-pub counts : Counts
-counts = computed .1
+unfolding widths valuesOf recordOf every some number total doraOf isGroup at uses tallyOf meldHolds inMelds inOthers inHeld inConcealed inHand concealedTally handTally tileOver33 wrongHeld wrongFields descends inRecord overFour wrongSituation refusalOf headOf meldsOf tilesOf heldIn paddingAfter handIn answerBy judgedHand readOf holds isSevenPairs isOrphans concatMap isEmpty less fits without passes step splits placedAt placed paired shaped readings judged littleDragons valueHan earnsWait pinfu twins inThreeAt inThreeSuits straight touches outside concealed kans fourWinds only halfFlush flush gates testsOf isYakuman listed yakuOf hasYaku plain limit ordinary basic hundreds share pays gain change changes hanBy yakuHan hanOf tripletFu groupFu groupItems earned added rounded itemsOf fuOf valueOf beats counted noneOf judgeBy bestOf wonOf groupsOf waysOf partsOf worth settledBy keptOf settledOf foundBy foundOf
+lines = record {
+  line-1 = line _ _ _ _ _ _ refl;
+  line-2 = line _ _ _ _ _ _ refl;
+  line-3 = line _ _ _ _ _ _ refl;
+  line-4 = line _ _ _ _ _ _ refl;
+  line-5 = line _ _ _ _ _ _ refl;
+  line-6 = line _ _ _ _ _ _ refl;
+  line-7 = line _ _ _ _ _ _ refl;
+  line-8 = line _ _ _ _ _ _ refl;
+  line-9 = line _ _ _ _ _ _ refl;
+  line-10 = (refl, refl);
+  line-11 = λ fu. (refl, refl, refl, refl);
+  line-12 = line _ _ _ _ _ _ refl;
+}

@@ -1,4 +1,4 @@
--- Unfinished hands with their waits.
+-- An unfinished hand with its waits, computed.
 use mathlib.Core.Path.{_≡_, refl, sym, _∙_}
 use mathlib.Core.Bool.{true, _||_}
 use mathlib.Core.List.{[], _∷_}
@@ -17,12 +17,13 @@ use Rattle.waits.specs.Answer.{waitsOf, one-answer}
 use Rattle.waits.specs.search.Found.{reads, isWait, waitSet, foundOf}
 use Rattle.waits.specs.laws.Exact.{found}
 
--- chi 234m, 567m 22456p 67s (docs/RECORDS.md) waits for 5s and 8s, 22 and 25; 8s was discarded
+-- what the code finds of the hand below
 two-sided : foundOf (32 ∷ 34 ∷ 10 ∷ 49 ∷ 69 ∷ 24 ∷ 105 ∷ 203 ∷ 176 ∷ []) (30 ∷ 25 ∷ 3 ∷ [])
     ≡ record { refusal = 0; waits = tabulate 34 0 (λ k. eqb k 22 || eqb k 25); furiten = true }
 unfolding every some number at isGroup tallyOf meldHolds inMelds inOthers inHeld tileOver33 wrongHeld descends overFour meldsOf tilesOf heldIn paddingAfter countIn heldRefusal refusalOf isSevenPairs isOrphans isEmpty less fits without lowest partAt isParts withOne reads isWait waitSet foundOf
 two-sided = refl
 
+-- chi 234m, 567m 22456p 67s (docs/RECORDS.md) waits for 5s, 22, and 8s, 25; with North, 8s and 4m discarded it is in furiten
 pub worked : waitsOf (32 ∷ 34 ∷ 10 ∷ 49 ∷ 69 ∷ 24 ∷ 105 ∷ 203 ∷ 176 ∷ []) (30 ∷ 25 ∷ 3 ∷ [])
     ≡ record { refusal = 0; waits = tabulate 34 0 (λ k. eqb k 22 || eqb k 25); furiten = true }
 worked = sym (one-answer _ _ (foundOf _ _) (found _ _)) ∙ two-sided

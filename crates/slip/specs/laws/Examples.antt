@@ -1,4 +1,5 @@
--- The slips of lines 1 and 9, by what the table of hands says of their scores.
+-- Two slips byte by byte: lines 1 and 9 of the table of hands (01), dealer 0, East, by what the table says of their scores.
+-- `won` has the hand as the table does (`table/specs/Table.antt`).
 use mathlib.Core.Path.{_≡_, refl, ap, _∙_}
 use mathlib.Core.Bool.{Bool, true, false, cond}
 use mathlib.Core.List.{List, [], _∷_, flatMap}
@@ -11,14 +12,37 @@ use Rattle.hand_record.specs.Record.{recordOf}
 use Rattle.yaku.specs.Yaku.{isYakuman}
 use Rattle.score.specs.declared.Scored.{Scored}
 use Rattle.score.specs.Score.{scoreOf}
-use Rattle.table.specs.Table.{Scores}
+use Rattle.table.specs.Table.{won, Scores}
 use Rattle.table.specs.Claims.{lines}
 use Rattle.text.specs.Text.{lastDigits, digitsOf, signedOf, scoreText}
 use Rattle.slip_lines.specs.Words.{bytesOf}
 use Rattle.slip_lines.specs.Line.{slipLine, labels}
 use Rattle.slip.specs.Slip.{valuesOf, lineAt, slipText}
-use Rattle.slip.specs.Worked.{Worked}
 use Rattle.slip.specs.laws.Score.{yakuman-zero, zero-yakuman}
+
+pub record Worked : Type 0 where
+  -- 1: "234567m 345p 678s 22s, closed, won by 8s. Seat 1 ron: 2,000."
+  pub line-1 :
+      slipText (scoreOf (recordOf (won 1 1 3 25 0 (0 ∷ 0 ∷ 0 ∷ 0 ∷ []) (1 ∷ 2 ∷ 3 ∷ 4 ∷ 5 ∷ 6 ∷ 11 ∷ 12 ∷ 13 ∷ 19 ∷ 19 ∷ 23 ∷ 24 ∷ []))) 0 0)
+      ≡ flatMap bytesOf
+      ("HAN                    2\n"
+      ∷ "FU                    30\n"
+      ∷ "SEAT 0                 0\n"
+      ∷ "SEAT 1              2000\n"
+      ∷ "SEAT 2                 0\n"
+      ∷ "SEAT 3             -2000\n"
+      ∷ [])
+  -- 9: "111m 333p 555s 777s 99s, seat 1", "By tsumo: 8,000, 8,000, dealer 16,000."
+  pub line-9 :
+      slipText (scoreOf (recordOf (won 0 1 0 24 0 (0 ∷ 0 ∷ 0 ∷ 0 ∷ []) (0 ∷ 0 ∷ 0 ∷ 11 ∷ 11 ∷ 11 ∷ 22 ∷ 22 ∷ 22 ∷ 24 ∷ 24 ∷ 26 ∷ 26 ∷ []))) 0 0)
+      ≡ flatMap bytesOf
+      ("HAN              YAKUMAN\n"
+      ∷ "FU                     0\n"
+      ∷ "SEAT 0            -16000\n"
+      ∷ "SEAT 1             32000\n"
+      ∷ "SEAT 2             -8000\n"
+      ∷ "SEAT 3             -8000\n"
+      ∷ [])
 
 -- the six values by h, fu and the changes
 abbrev valuesBy : Bool → ℕ → ℕ → List ℤ → List (List ℕ)
@@ -49,9 +73,10 @@ module _ (hand : Hand) {h fu : ℕ} {items : List ℕ} {c : List ℤ} (t : Score
       by-figures a true h fu c (zero-yakuman (recordOf hand) 0 0 (ap (λ x. x .0) (t .told)) (ap (λ x. x .2) (t .told) ∙ z))
       (ap (λ x. x .1) (t .told)) (ap (λ x. x .2) (t .told)) (ap (λ x. x .4) (t .told))
 
-pub worked : Worked
+-- the slips of lines 1 and 9 of the table of hands
+pub worked-slips : Worked
 unfolding flatMap slipLine labels signedOf digitsOf lastDigits
-worked = record {
+worked-slips = record {
   line-1 = plain-slip _ (lines .line-1) (omega arith);
   line-9 = yakuman-slip _ (lines .line-9) refl;
 }

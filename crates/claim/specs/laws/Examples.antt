@@ -1,5 +1,6 @@
--- The worked claims, computed.
-use mathlib.Core.List.{List}
+-- Claims for lines 5 and 7 of the table of hands (01), byte by byte, dealer 0, East, computed; `won` has a hand as the table does
+-- (`table/specs/Table.antt`).
+use mathlib.Core.List.{List, [], _∷_}
 use mathlib.Core.Path.{_≡_, refl, sym, _∙_}
 use Prim.Native.Nat.{ℕ}
 use Rattle.hand.specs.declared.Hand.{Hand}
@@ -24,20 +25,52 @@ use Rattle.value.specs.Value.{valueOf}
 use Rattle.best.specs.search.Best.{beats, counted, noneOf, judgeBy, bestOf}
 use Rattle.score.specs.Named.{wonOf, groupsOf, waysOf, partsOf, worth}
 use Rattle.score.specs.search.Settled.{keptOf}
+use Rattle.table.specs.Table.{won}
+use Rattle.claim.specs.Judge.{judgedOf}
 use Rattle.claim.specs.search.Claimed.{codesIn, gainOf, paddingIn, ascends, faultyRegular, faultyIn, readingIn, claimedIn}
 use Rattle.claim.specs.search.Verdict.{strip, regularly, reads, weighedAs, verdictOf}
 use Rattle.claim.specs.search.Judge.{passedAs, foundBy, foundOf}
-use Rattle.claim.specs.Worked.{Answered, Worked}
 use Rattle.claim.specs.laws.Judged.{found-is-judged}
+
+-- 5: "112233m 778899p 55s, seat 1 ron 5s: h 3, fu 40, 5,200."
+abbrev pub five : Hand
+five = won 1 1 3 22 0 (0 ∷ 0 ∷ 0 ∷ 0 ∷ []) (0 ∷ 0 ∷ 1 ∷ 1 ∷ 2 ∷ 2 ∷ 15 ∷ 15 ∷ 16 ∷ 16 ∷ 17 ∷ 17 ∷ 22 ∷ [])
+
+-- 7: "Chi 123m, 456p 789s 234s 99p, seat 1 ron 9s: 7."
+abbrev pub seven : Hand
+seven = won 1 1 3 26 1 (0 ∷ 0 ∷ 0 ∷ 0 ∷ []) (12 ∷ 13 ∷ 14 ∷ 17 ∷ 17 ∷ 19 ∷ 20 ∷ 21 ∷ 24 ∷ 25 ∷ 0 ∷ 0 ∷ 0 ∷ [])
+
+-- what a claim for a hand is answered
+pub record Answered (hand : Hand) (claim : List ℕ) (refusal verdict : ℕ) : Type 0 where
+  pub told : judgedOf (recordOf hand) claim 0 0 ≡ record { refusal = refusal; verdict = verdict }
+
+pub record Worked : Type 0 where
+  -- pair 5s (22), groups 123m (0) twice and 789p (15) twice, place 0, gain 5,200; and with place 1, which has no 5s
+  pub accepted : Answered five (22 ∷ 0 ∷ 0 ∷ 120 ∷ 240 ∷ 20 ∷ 80 ∷ []) 0 0
+  pub one : Answered five (22 ∷ 0 ∷ 0 ∷ 120 ∷ 242 ∷ 20 ∷ 80 ∷ []) 0 1
+  -- pair 9p (17), groups 456p (12), 234s (19), 789s (24), place 3, gain 1,000
+  pub two : Answered seven (17 ∷ 24 ∷ 76 ∷ 195 ∷ 1 ∷ 244 ∷ 0 ∷ []) 0 2
+  -- seven pairs for 1,700, and for its 1,600; orphans for 1,600, and seven pairs of a hand with a meld
+  pub three : Answered five (64 ∷ 212 ∷ 128 ∷ []) 0 3
+  pub four : Answered five (64 ∷ 200 ∷ 0 ∷ []) 0 4
+  pub orphans : Answered five (128 ∷ 200 ∷ 0 ∷ []) 0 1
+  pub melds : Answered seven (64 ∷ 200 ∷ 0 ∷ []) 0 1
+  -- "shape 3", "a padding bit set", "descending codes" (0, 15, 0, 15), "a place over 4 − m" (5), "another length"
+  pub shape-3 : Answered five (192 ∷ 200 ∷ 0 ∷ []) 22 0
+  pub padding : Answered five (64 ∷ 200 ∷ 1 ∷ []) 22 0
+  pub descending : Answered five (22 ∷ 0 ∷ 60 ∷ 0 ∷ 240 ∷ 20 ∷ 80 ∷ []) 22 0
+  pub place : Answered five (22 ∷ 0 ∷ 0 ∷ 120 ∷ 250 ∷ 20 ∷ 80 ∷ []) 22 0
+  pub short : Answered five (64 ∷ 200 ∷ []) 22 0
 
 -- an answer is what the code finds
 by : (hand : Hand) (claim : List ℕ) (refusal verdict : ℕ) → foundOf (recordOf hand) claim 0 0 ≡ record { refusal = refusal; verdict = verdict }
     → Answered hand claim refusal verdict
 by hand claim refusal verdict e = record { told = sym (found-is-judged (recordOf hand) claim 0 0) ∙ e }
 
-pub worked : Worked
+-- claims for hands of the table
+pub worked-claims : Worked
 unfolding widths valuesOf recordOf every some number total doraOf isGroup at uses tallyOf meldHolds inMelds inOthers inHeld inConcealed inHand concealedTally handTally tileOver33 wrongHeld wrongFields descends inRecord overFour wrongSituation refusalOf headOf meldsOf tilesOf heldIn paddingAfter handIn answerBy judgedHand readOf holds isSevenPairs isOrphans concatMap isEmpty less fits without passes step splits placedAt placed paired shaped readings judged littleDragons valueHan earnsWait pinfu twins inThreeAt inThreeSuits straight touches outside concealed kans fourWinds only halfFlush flush gates testsOf isYakuman listed yakuOf hasYaku plain limit ordinary basic hundreds share pays gain change changes hanBy yakuHan hanOf tripletFu groupFu groupItems earned added rounded itemsOf fuOf valueOf beats counted noneOf judgeBy bestOf wonOf groupsOf waysOf partsOf worth keptOf codesIn gainOf paddingIn ascends faultyRegular faultyIn readingIn claimedIn strip regularly reads weighedAs verdictOf passedAs foundBy foundOf
-worked = record {
+worked-claims = record {
   accepted = by _ _ _ _ refl;
   one = by _ _ _ _ refl;
   two = by _ _ _ _ refl;
