@@ -1,13 +1,13 @@
 /* The scoring core of the table handset, as firmware links it (libhandset.a, x86-64). Words in quotes are documents 01's and 02's.
  *
  * Every call takes all input. A refused call gives its number with all else zero and changes
- * no byte of the lent game or buffer. Bytes past what a call writes stay.
+ * no byte of the lent book or buffer. Bytes past what a call writes stay.
  *
  * The caller owes every call:
  * - a pointer with a length is valid for that length and not null, also where the length is 0;
- * - a pointer to a game is valid and not null;
- * - a game, and bytes that a call writes, overlap nothing else that is lent with them;
- * - one thread at a time for each game and each buffer.
+ * - a pointer to a book or a game is valid and not null;
+ * - a book, and bytes that a call writes, overlap nothing else that is lent with them;
+ * - one thread at a time for each book and each buffer.
  */
 #ifndef HERBASSOLH_H
 #define HERBASSOLH_H
@@ -41,7 +41,8 @@ enum {
                                    200 hands, fewer sticks than declared seats, a score under the floor below, or scores
                                    plus 1,000 times sticks not 120,000)"; "The counter never exceeds the hands finished, and a
                                    game where it does is out of form"; "A game that holds a feeder over 3, or one equal to its
-                                   holder, is out of form"; "the floor of a score becomes" -28,540,000 */
+                                   holder, is out of form"; "The earlier game that is kept for this must be in form too, or
+                                   the game isn't"; "the floor of a score becomes" -28,540,000 */
     HB_REFUSAL_DECLARED = 10,   /* "declared already this hand" */
     HB_REFUSAL_RIICHI = 11,     /* "riichi field non-zero and winner not declared, or the reverse" */
     HB_REFUSAL_NOT_READY = 12,  /* "12 is never given now": a name for lines of older logs, "a declared seat not ready" */
@@ -49,7 +50,8 @@ enum {
     HB_REFUSAL_ENTRY = 14,      /* "kind over 3, win argument not 0, m over 4, or bytes missing"; kind 4 is an entry too: "an
                                    argument of 0 or over 3, a record with m over 4, or missing bytes, is 14"; and kind 5:
                                    "argument 0, then a byte: holder 2 bits, feeder 2, yaku 1 (0 for 28), three zero bits; any
-                                   other form is 14" */
+                                   other form is 14"; and kind 6: "argument 0, then the replacing entry; another argument or
+                                   another kind of entry inside is 14" */
     HB_REFUSAL_DISCARD = 15,    /* "a discard over 33" */
     HB_REFUSAL_PAGE = 16,       /* "a page buffer under 150 bytes" */
     HB_REFUSAL_MANY = 17,       /* "an empty set or one over three"; "a record isn't ron, two have one winner, or they differ in
@@ -57,6 +59,8 @@ enum {
     HB_REFUSAL_FEED = 18,       /* "a holder who is also the feeder, a yaku other than those two, or the same holder and yaku named
                                    twice in a hand" */
     HB_REFUSAL_CARDS = 19,      /* "a suit over 2, another size, or a buffer shorter than the whole list" */
+    HB_REFUSAL_SUPERSEDE = 20,  /* "there is none to supersede": a correction "supersedes the last finished booking, as long as no
+                                   other booking has been accepted since" */
     HB_REFUSAL_STICK = 21,      /* "a seat with under 1,000 points"; "1,000 exactly is enough" */
     HB_REFUSAL_CLAIM = 22       /* "a claim of another length or with shape 3, a pair over 33, a group code that names no group,
                                    descending codes, a place over 4 - m or a padding bit set" */
@@ -128,11 +132,14 @@ enum { HB_MELD_CHI = 0, HB_MELD_PON = 1, HB_MELD_OPEN_KAN = 2, HB_MELD_CLOSED_KA
 enum { HB_ROUND_EAST = 0, HB_ROUND_SOUTH = 1 };
 
 /* Kinds of a log's entry. */
-enum { HB_KIND_RIICHI = 0, HB_KIND_WIN = 1, HB_KIND_DRAW = 2, HB_KIND_CHOMBO = 3, HB_KIND_MANY = 4, HB_KIND_FEED = 5 };
+enum {
+    HB_KIND_RIICHI = 0, HB_KIND_WIN = 1, HB_KIND_DRAW = 2, HB_KIND_CHOMBO = 3, HB_KIND_MANY = 4, HB_KIND_FEED = 5, HB_KIND_CORRECTION = 6
+};
 
 /* Letters of a line of tally. */
 enum {
-    HB_LETTER_RIICHI = 'R', HB_LETTER_WIN = 'W', HB_LETTER_DRAW = 'D', HB_LETTER_CHOMBO = 'C', HB_LETTER_MANY = 'M', HB_LETTER_FEED = 'P'
+    HB_LETTER_RIICHI = 'R', HB_LETTER_WIN = 'W', HB_LETTER_DRAW = 'D', HB_LETTER_CHOMBO = 'C', HB_LETTER_MANY = 'M', HB_LETTER_FEED = 'P',
+    HB_LETTER_CORRECTION = 'X'
 };
 
 /* The length in bytes of a record with m melds, m at most 4: 13, 12, 11, 10, 8. */
@@ -234,7 +241,7 @@ enum {
     HB_VERDICT_MORE = 4      /* "no other reading of them with a yaku pays more" */
 };
 
-/* The game, lent to each booking. Any bytes are a game; an accepted booking sets declared and over to 0 or 1. */
+/* The game. Any bytes are a game; an accepted booking sets declared and over to 0 or 1. */
 typedef struct {
     int32_t scores[4];
     uint32_t sticks;
@@ -247,6 +254,15 @@ typedef struct {
                              else 1 + the feeder's seat */
 } HbGame;
 
+/* The book, lent to each booking: the game, and the earlier one, in which the last accepted booking was made, so that "A result may be
+ * put right before play resumes". Any bytes are a book; an accepted booking sets held to 0 or 1. */
+typedef struct {
+    HbGame game;
+    HbGame earlier;
+    uint32_t held;  /* not 0 where that booking finished a hand (a win, a many, a draw, a chombo or a correction), which a correction
+                       supersedes; where it is 0 the bytes of earlier do not matter */
+} HbBook;
+
 /* What stands at an offset of a log: an entry, the end (end set, all else zero), or refusal 14 (all else zero). */
 typedef struct {
     uint8_t refusal;
@@ -256,9 +272,9 @@ typedef struct {
     size_t length;   /* of the entry, its header included */
 } HbNextEntry;
 
-/* Where a walk over a log stands: the game so far, and the offset and the number (from 1) of the next entry. */
+/* Where a walk over a log stands: the book so far, and the offset and the number (from 1) of the next entry. */
 typedef struct {
-    HbGame game;
+    HbBook book;
     size_t at;
     uint32_t entry;
 } HbWalk;
@@ -305,27 +321,27 @@ HbCards hb_cards(uint8_t suit, uint8_t size, uint8_t *buf, size_t buf_len);
  * lowest kind, a triplet's 34 + kind. Refusals 8, 1 to 5, 22 in order, with verdict 0. */
 HbJudged hb_judge(const uint8_t *record, size_t record_len, const uint8_t *claim, size_t claim_len, uint8_t dealer, uint8_t wind);
 
-/* A game at its start: 30,000 each, all else 0. */
-HbGame hb_fresh(void);
+/* A book at its start, with both games at theirs: 30,000 each, all else 0. */
+HbBook hb_fresh(void);
 
-/* The bookings: each gives 0 and updates the game, or gives its refusal and leaves the game. */
+/* The bookings: each gives 0 and updates the book, or gives its refusal and leaves the book. */
 
 /* Riichi of a seat: "Takes 1,000, adds a stick"; a seat with under 1,000 points has none. Refusals 8, 9, 10, 21 in order. */
-uint8_t hb_riichi(HbGame *game, uint8_t seat);
+uint8_t hb_riichi(HbBook *book, uint8_t seat);
 
 /* Win by a record: what Score gives, all sticks, and of the counters "A ron payer pays 300 more for each counter, and on tsumo each payer
  * pays 100 more". Where the winner is the holder of a feed and its yaku is reported ("for 29, with four wind triplets, not three and a
  * pair"), "the feeder pays the whole on tsumo, counters included. On ron the feeder and the discarder pay half each, the discarder paying
  * the counters; if they are one seat it pays all." Refusals 9, 1 to 7, 11 in order. */
-uint8_t hb_win(HbGame *game, const uint8_t *record, size_t record_len);
+uint8_t hb_win(HbBook *book, const uint8_t *record, size_t record_len);
 
 /* Draw; bits: four, seat 0 the most significant, set for ready. Where a declared seat is not ready it is a chombo of each such
  * seat: "each such seat pays 3,000 to every other seat, two such seats paying each other, and this hand's sticks return. No ready
  * payment is made, the deal and counter stay, and the hand is finished." Refusals 8, 9 in order. */
-uint8_t hb_draw(HbGame *game, uint8_t bits);
+uint8_t hb_draw(HbBook *book, uint8_t bits);
 
 /* Chombo of a seat; refusals 8, 9 in order. */
-uint8_t hb_chombo(HbGame *game, uint8_t seat);
+uint8_t hb_chombo(HbBook *book, uint8_t seat);
 
 /* Many: one to three rons on one tile, "all or none". number: how many records; they "lie end to end": "each but the last as long
  * as its m says, the last all that is left; what doesn't fit is Read's 1". "Each record is scored as Win does, all against the game
@@ -333,23 +349,42 @@ uint8_t hb_chombo(HbGame *game, uint8_t seat);
  * stays and the counter rises; otherwise the deal passes and the counter clears." A feeder answers for each record by itself.
  * Refusals 9, 17, 1 to 5, 17, 6, 7, 11 in order: 17 for the number, then what Read gives of the first unreadable record, then 17 for
  * records that are no rons on one tile by different winners, then 6, 7 or 11 of the first record that meets one. */
-uint8_t hb_many(HbGame *game, uint8_t number, const uint8_t *records, size_t records_len);
+uint8_t hb_many(HbBook *book, uint8_t number, const uint8_t *records, size_t records_len);
 
 /* Feed: feeder gave holder what makes the yaku, "28 for three dragon triplets, or 29 for four wind triplets". "The booking lapses when
  * the hand is finished"; a win, a many, a draw and a chombo finish it. Refusals 8, 9, 18 in order. */
-uint8_t hb_feed(HbGame *game, uint8_t holder, uint8_t feeder, uint8_t yaku);
+uint8_t hb_feed(HbBook *book, uint8_t holder, uint8_t feeder, uint8_t yaku);
+
+/* The corrections: a win, a draw, a chombo or a many "that supersedes the last finished booking, as long as no other booking has been
+ * accepted since". "Afterwards the game is the one in which the superseded booking was never made and the new one was, declared seats and
+ * counters included. This holds too when the superseded one had ended the game. A correction that was accepted can itself be superseded.
+ * Where the new booking is refused, the old one stands." They refuse with 9 "for a game out of form", the earlier one too, but not for one
+ * that is over; then with 20; then as the new booking does in the earlier game. */
+
+/* Win by a record instead. Refusals 9, 20, 9, 1 to 7, 11 in order. */
+uint8_t hb_correct_win(HbBook *book, const uint8_t *record, size_t record_len);
+
+/* Draw instead; bits as in hb_draw. Refusals 9, 20, 8, 9 in order. */
+uint8_t hb_correct_draw(HbBook *book, uint8_t bits);
+
+/* Chombo of a seat instead. Refusals 9, 20, 8, 9 in order. */
+uint8_t hb_correct_chombo(HbBook *book, uint8_t seat);
+
+/* One to three rons on one tile instead; number and records as in hb_many. Refusals 9, 20, 9, 17, 1 to 5, 17, 6, 7, 11 in order. */
+uint8_t hb_correct_many(HbBook *book, uint8_t number, const uint8_t *records, size_t records_len);
 
 /* Next entry of a log from an offset. Its part is log[at] to log[at + length - 1]; a win's record, the records of a many (argument
- * says how many) or a feed's byte is what follows the header byte log[at]; the next offset is at + length. From the log's end on:
- * end. Refusal 14 ends the walk. */
+ * says how many), a feed's byte or the entry that a correction carries, from its own header on, is what follows the header byte
+ * log[at]; the next offset is at + length. From the log's end on: end. Refusal 14 ends the walk. */
 HbNextEntry hb_next(const uint8_t *log, size_t log_len, size_t at);
 
 /* Books the entry that part begins with, such as log + at with the length that hb_next gave: its booking's refusal and the
- * game updated, or 14 and the game left where part begins with no whole entry. Refusals of an entry: 14; of a riichi 8, 9, 10, 21,
- * a win 9, 2 to 7, 11, a draw 9, a chombo 8, 9, a many 9, 2 to 5, 17, 6, 7, 11, a feed 9, 18, in order. */
-uint8_t hb_book(HbGame *game, const uint8_t *part, size_t part_len);
+ * book updated, or 14 and the book left where part begins with no whole entry. Refusals of an entry: 14; of a riichi 8, 9, 10, 21,
+ * a win 9, 2 to 7, 11, a draw 9, a chombo 8, 9, a many 9, 2 to 5, 17, 6, 7, 11, a feed 9, 18, a correction 9, 20 and those of the
+ * entry that it carries, in order. */
+uint8_t hb_book(HbBook *book, const uint8_t *part, size_t part_len);
 
-/* A walk before a log's first entry, with a fresh game. */
+/* A walk before a log's first entry, with a fresh book. */
 HbWalk hb_start(void);
 
 /* Books the entries of a log from where walk stands, refused or not, and writes their lines of tally into buf, as many whole

@@ -31,7 +31,7 @@ static void sizes(void)
     CHECK(HB_UNFINISHED_LENGTH(0) == 11 && HB_UNFINISHED_LENGTH(1) == 9 && HB_UNFINISHED_LENGTH(2) == 8);
     CHECK(HB_UNFINISHED_LENGTH(3) == 7 && HB_UNFINISHED_LENGTH(4) == 6 && sizeof(HbWaits) == 36 && sizeof(HbReady) == 15);
     CHECK(sizeof(HbItems) == 10 && sizeof(HbScored) == 72 && sizeof(HbJudged) == 2);
-    CHECK(sizeof(HbGame) == 40 && sizeof(HbWalk) == 56 && sizeof(HbPrinted) == 64);
+    CHECK(sizeof(HbGame) == 40 && sizeof(HbBook) == 84 && sizeof(HbWalk) == 104 && sizeof(HbPrinted) == 112);
 }
 
 /* A line of document 01's table: its number, record and score; from 101 on, hands that the table lacks. Points, and h and fu
@@ -702,9 +702,10 @@ static void claims_of_hands(void)
     }
 }
 
-/* Whether a game has these figures. */
-static int is_game(const HbGame *game, const int32_t *scores, uint32_t sticks, uint8_t dealer, uint8_t wind, uint8_t hands)
+/* Whether the game of a book has these figures. */
+static int is_game(const HbBook *book, const int32_t *scores, uint32_t sticks, uint8_t dealer, uint8_t wind, uint8_t hands)
 {
+    const HbGame *game = &book->game;
     return memcmp(game->scores, scores, sizeof game->scores) == 0 && game->sticks == sticks && game->dealer == dealer
         && game->wind == wind && game->hands == hands;
 }
@@ -714,50 +715,50 @@ static const uint8_t win_entry[16] =
     {0x10, 0xb8, 0x1e, 0x64, 0x02, 0x10, 0x62, 0x0a, 0x31, 0x66, 0x1a, 0x9a, 0x6b, 0xb0, 0x00, 0x00};
 
 /* An entry of one byte, booked. */
-static uint8_t book_byte(HbGame *game, uint8_t header)
+static uint8_t book_byte(HbBook *book, uint8_t header)
 {
     uint8_t *part = exact(&header, 1);
-    uint8_t refusal = hb_book(game, part, 1);
+    uint8_t refusal = hb_book(book, part, 1);
     free(part);
     return refusal;
 }
 
 /* An entry of a win by a record, booked. */
-static uint8_t book_win(HbGame *game, const uint8_t *record, size_t length)
+static uint8_t book_win(HbBook *book, const uint8_t *record, size_t length)
 {
     uint8_t *part = exact(win_entry, 1 + length);
     memcpy(part + 1, record, length);
-    uint8_t refusal = hb_book(game, part, 1 + length);
+    uint8_t refusal = hb_book(book, part, 1 + length);
     free(part);
     return refusal;
 }
 
 /* An entry of a feed by its byte, booked. */
-static uint8_t book_feed(HbGame *game, uint8_t byte)
+static uint8_t book_feed(HbBook *book, uint8_t byte)
 {
     uint8_t entry[2] = {0x50, byte}, *part = exact(entry, 2);
-    uint8_t refusal = hb_book(game, part, 2);
+    uint8_t refusal = hb_book(book, part, 2);
     free(part);
     return refusal;
 }
 
 /* An entry of one to three rons by their records end to end, booked. */
-static uint8_t book_many(HbGame *game, uint8_t number, const uint8_t *records, size_t length)
+static uint8_t book_many(HbBook *book, uint8_t number, const uint8_t *records, size_t length)
 {
     uint8_t *part = malloc(1 + length);
     if (!part)
         exit(2);
     part[0] = (uint8_t)(0x40 + number);
     memcpy(part + 1, records, length);
-    uint8_t refusal = hb_book(game, part, 1 + length);
+    uint8_t refusal = hb_book(book, part, 1 + length);
     free(part);
     return refusal;
 }
 
-/* Each booking made once on a copy of a game, and each as an entry; whether all give this refusal and leave every byte. */
-static int all_refused(const HbGame *game, uint8_t refusal)
+/* Each booking made once on a copy of a book, and each as an entry; whether all give this refusal and leave every byte. */
+static int all_refused(const HbBook *book, uint8_t refusal)
 {
-    HbGame copy = *game;
+    HbBook copy = *book;
     int same = hb_riichi(&copy, 0) == refusal && book_byte(&copy, 0x00) == refusal;
     same = same && hb_win(&copy, table[0].record, 13) == refusal && book_win(&copy, table[0].record, 13) == refusal;
     same = same && hb_draw(&copy, 15) == refusal && book_byte(&copy, 0x2f) == refusal;
@@ -766,7 +767,7 @@ static int all_refused(const HbGame *game, uint8_t refusal)
     same = same && hb_many(&copy, 0, table[0].record, 13) == refusal && hb_many(&copy, 255, table[0].record, 3) == refusal;
     same = same && hb_feed(&copy, 1, 3, HB_YAKU_DAISANGEN) == refusal && book_feed(&copy, 0x70) == refusal;
     same = same && hb_feed(&copy, 1, 1, 0) == refusal && book_feed(&copy, 0x50) == refusal;
-    return same && memcmp(&copy, game, sizeof copy) == 0;
+    return same && memcmp(&copy, book, sizeof copy) == 0;
 }
 
 /* Accepted bookings: what each gives and takes; and refusals 10 and 11 among them. */
@@ -779,84 +780,85 @@ static void bookings(void)
     static const int32_t after_riichi_win[] = {30000, 37800, 30000, 22200};
     static const int32_t after_draw[] = {28500, 32500, 31500, 26500};
     static const int32_t after_chombo[] = {33000, 35000, 21000, 31000};
-    HbGame game = hb_fresh(), declared;
-    CHECK(is_game(&game, start, 0, 0, HB_ROUND_EAST, 0) && !game.over);
-    CHECK(!game.declared[0] && !game.declared[1] && !game.declared[2] && !game.declared[3]);
-    CHECK(hb_win(&game, with_riichi, 13) == HB_REFUSAL_RIICHI);
-    CHECK(is_game(&game, start, 0, 0, HB_ROUND_EAST, 0));
-    CHECK(hb_win(&game, table[0].record, 13) == 0 && is_game(&game, after_win, 0, 1, HB_ROUND_EAST, 1));
-    CHECK(hb_riichi(&game, 1) == 0 && is_game(&game, after_riichi, 1, 1, HB_ROUND_EAST, 1));
-    CHECK(!game.declared[0] && game.declared[1] && !game.declared[2] && !game.declared[3]);
+    HbBook book = hb_fresh(), declared;
+    CHECK(is_game(&book, start, 0, 0, HB_ROUND_EAST, 0) && !book.game.over);
+    CHECK(memcmp(&book.earlier, &book.game, sizeof book.game) == 0 && book.held == 0);
+    CHECK(!book.game.declared[0] && !book.game.declared[1] && !book.game.declared[2] && !book.game.declared[3]);
+    CHECK(hb_win(&book, with_riichi, 13) == HB_REFUSAL_RIICHI);
+    CHECK(is_game(&book, start, 0, 0, HB_ROUND_EAST, 0));
+    CHECK(hb_win(&book, table[0].record, 13) == 0 && is_game(&book, after_win, 0, 1, HB_ROUND_EAST, 1));
+    CHECK(hb_riichi(&book, 1) == 0 && is_game(&book, after_riichi, 1, 1, HB_ROUND_EAST, 1));
+    CHECK(!book.game.declared[0] && book.game.declared[1] && !book.game.declared[2] && !book.game.declared[3]);
 
-    declared = game;
-    CHECK(hb_riichi(&game, 1) == HB_REFUSAL_DECLARED && memcmp(&game, &declared, sizeof game) == 0);
-    CHECK(hb_win(&game, table[0].record, 13) == HB_REFUSAL_RIICHI && memcmp(&game, &declared, sizeof game) == 0);
-    CHECK(hb_win(&game, with_riichi, 13) == 0 && is_game(&game, after_riichi_win, 0, 1, HB_ROUND_EAST, 2));
-    CHECK(!game.declared[1]);
-    game = declared;
-    CHECK(hb_draw(&game, 6) == 0 && is_game(&game, after_draw, 1, 1, HB_ROUND_EAST, 2) && !game.declared[1]);
-    game = declared;
-    CHECK(hb_chombo(&game, 2) == 0 && is_game(&game, after_chombo, 0, 1, HB_ROUND_EAST, 2) && !game.declared[1]);
+    declared = book;
+    CHECK(hb_riichi(&book, 1) == HB_REFUSAL_DECLARED && memcmp(&book, &declared, sizeof book) == 0);
+    CHECK(hb_win(&book, table[0].record, 13) == HB_REFUSAL_RIICHI && memcmp(&book, &declared, sizeof book) == 0);
+    CHECK(hb_win(&book, with_riichi, 13) == 0 && is_game(&book, after_riichi_win, 0, 1, HB_ROUND_EAST, 2));
+    CHECK(!book.game.declared[1]);
+    book = declared;
+    CHECK(hb_draw(&book, 6) == 0 && is_game(&book, after_draw, 1, 1, HB_ROUND_EAST, 2) && !book.game.declared[1]);
+    book = declared;
+    CHECK(hb_chombo(&book, 2) == 0 && is_game(&book, after_chombo, 0, 1, HB_ROUND_EAST, 2) && !book.game.declared[1]);
 }
 
-/* Refusals of the bookings by argument, by record and by game; each leaves every byte of the game. */
+/* Refusals of the bookings by argument, by record and by game; each leaves every byte of the book. */
 static void refused_bookings(void)
 {
-    HbGame fresh = hb_fresh(), game = fresh;
+    HbBook fresh = hb_fresh(), book = fresh;
     for (int n = 4; n < 256; n++) {
-        CHECK_CASE(n, hb_riichi(&game, (uint8_t)n) == HB_REFUSAL_ARGUMENT);
-        CHECK_CASE(n, hb_chombo(&game, (uint8_t)n) == HB_REFUSAL_ARGUMENT);
-        CHECK_CASE(n, n <= 15 || hb_draw(&game, (uint8_t)n) == HB_REFUSAL_ARGUMENT);
-        CHECK_CASE(n, hb_feed(&game, (uint8_t)n, 0, HB_YAKU_DAISANGEN) == HB_REFUSAL_ARGUMENT);
-        CHECK_CASE(n, hb_feed(&game, 0, (uint8_t)n, HB_YAKU_DAISANGEN) == HB_REFUSAL_ARGUMENT);
-        CHECK_CASE(n, hb_feed(&game, (uint8_t)n, (uint8_t)n, 0) == HB_REFUSAL_ARGUMENT);
-        CHECK_CASE(n, memcmp(&game, &fresh, sizeof game) == 0);
+        CHECK_CASE(n, hb_riichi(&book, (uint8_t)n) == HB_REFUSAL_ARGUMENT);
+        CHECK_CASE(n, hb_chombo(&book, (uint8_t)n) == HB_REFUSAL_ARGUMENT);
+        CHECK_CASE(n, n <= 15 || hb_draw(&book, (uint8_t)n) == HB_REFUSAL_ARGUMENT);
+        CHECK_CASE(n, hb_feed(&book, (uint8_t)n, 0, HB_YAKU_DAISANGEN) == HB_REFUSAL_ARGUMENT);
+        CHECK_CASE(n, hb_feed(&book, 0, (uint8_t)n, HB_YAKU_DAISANGEN) == HB_REFUSAL_ARGUMENT);
+        CHECK_CASE(n, hb_feed(&book, (uint8_t)n, (uint8_t)n, 0) == HB_REFUSAL_ARGUMENT);
+        CHECK_CASE(n, memcmp(&book, &fresh, sizeof book) == 0);
     }
     for (size_t n = 0; n < COUNT_OF(unsound); n++) {
         size_t length;
         uint8_t *record = unsound_record(n, &length);
-        CHECK_CASE(n, hb_win(&game, record, length) == unsound[n].refusal);
-        CHECK_CASE(n, memcmp(&game, &fresh, sizeof game) == 0);
+        CHECK_CASE(n, hb_win(&book, record, length) == unsound[n].refusal);
+        CHECK_CASE(n, memcmp(&book, &fresh, sizeof book) == 0);
         free(record);
     }
-    CHECK(hb_win(&game, table[6].record, 12) == HB_REFUSAL_NO_YAKU && memcmp(&game, &fresh, sizeof game) == 0);
-    CHECK(hb_win(&game, table[9].record, 13) == HB_REFUSAL_NO_READING && memcmp(&game, &fresh, sizeof game) == 0);
+    CHECK(hb_win(&book, table[6].record, 12) == HB_REFUSAL_NO_YAKU && memcmp(&book, &fresh, sizeof book) == 0);
+    CHECK(hb_win(&book, table[9].record, 13) == HB_REFUSAL_NO_READING && memcmp(&book, &fresh, sizeof book) == 0);
 
-    game = fresh, game.over = 1;
-    CHECK(all_refused(&game, HB_REFUSAL_NOT_OPEN));
-    CHECK(hb_riichi(&game, 4) == HB_REFUSAL_ARGUMENT && hb_win(&game, table[0].record, 3) == HB_REFUSAL_NOT_OPEN);
-    CHECK(hb_feed(&game, 4, 4, 0) == HB_REFUSAL_ARGUMENT && hb_feed(&game, 3, 3, 0) == HB_REFUSAL_NOT_OPEN);
-    game = fresh, game.hands = 200;
-    CHECK(all_refused(&game, HB_REFUSAL_NOT_OPEN));
-    game = fresh, game.hands = 201;
-    CHECK(all_refused(&game, HB_REFUSAL_NOT_OPEN));
-    game = fresh, game.dealer = 4;
-    CHECK(all_refused(&game, HB_REFUSAL_NOT_OPEN));
-    game = fresh, game.wind = 2;
-    CHECK(all_refused(&game, HB_REFUSAL_NOT_OPEN));
-    game = fresh, game.declared[2] = 1;
-    CHECK(all_refused(&game, HB_REFUSAL_NOT_OPEN));
-    game = fresh, game.scores[0] = 30001;
-    CHECK(all_refused(&game, HB_REFUSAL_NOT_OPEN));
-    game = fresh, game.sticks = UINT32_MAX;
-    CHECK(all_refused(&game, HB_REFUSAL_NOT_OPEN));
-    game = fresh, game.scores[0] = -28540001, game.scores[1] = 28540001 + 60000;
-    CHECK(all_refused(&game, HB_REFUSAL_NOT_OPEN));
-    game = fresh, game.scores[0] = -28540000, game.scores[1] = 28540000 + 60000;
-    CHECK(hb_riichi(&game, 3) == 0);
-    game = fresh, game.counter = 1;
-    CHECK(all_refused(&game, HB_REFUSAL_NOT_OPEN));
-    game = fresh, game.hands = 199, game.counter = 200;
-    CHECK(all_refused(&game, HB_REFUSAL_NOT_OPEN));
-    game = fresh, game.hands = 199, game.counter = UINT32_MAX;
-    CHECK(all_refused(&game, HB_REFUSAL_NOT_OPEN));
+    book = fresh, book.game.over = 1;
+    CHECK(all_refused(&book, HB_REFUSAL_NOT_OPEN));
+    CHECK(hb_riichi(&book, 4) == HB_REFUSAL_ARGUMENT && hb_win(&book, table[0].record, 3) == HB_REFUSAL_NOT_OPEN);
+    CHECK(hb_feed(&book, 4, 4, 0) == HB_REFUSAL_ARGUMENT && hb_feed(&book, 3, 3, 0) == HB_REFUSAL_NOT_OPEN);
+    book = fresh, book.game.hands = 200;
+    CHECK(all_refused(&book, HB_REFUSAL_NOT_OPEN));
+    book = fresh, book.game.hands = 201;
+    CHECK(all_refused(&book, HB_REFUSAL_NOT_OPEN));
+    book = fresh, book.game.dealer = 4;
+    CHECK(all_refused(&book, HB_REFUSAL_NOT_OPEN));
+    book = fresh, book.game.wind = 2;
+    CHECK(all_refused(&book, HB_REFUSAL_NOT_OPEN));
+    book = fresh, book.game.declared[2] = 1;
+    CHECK(all_refused(&book, HB_REFUSAL_NOT_OPEN));
+    book = fresh, book.game.scores[0] = 30001;
+    CHECK(all_refused(&book, HB_REFUSAL_NOT_OPEN));
+    book = fresh, book.game.sticks = UINT32_MAX;
+    CHECK(all_refused(&book, HB_REFUSAL_NOT_OPEN));
+    book = fresh, book.game.scores[0] = -28540001, book.game.scores[1] = 28540001 + 60000;
+    CHECK(all_refused(&book, HB_REFUSAL_NOT_OPEN));
+    book = fresh, book.game.scores[0] = -28540000, book.game.scores[1] = 28540000 + 60000;
+    CHECK(hb_riichi(&book, 3) == 0);
+    book = fresh, book.game.counter = 1;
+    CHECK(all_refused(&book, HB_REFUSAL_NOT_OPEN));
+    book = fresh, book.game.hands = 199, book.game.counter = 200;
+    CHECK(all_refused(&book, HB_REFUSAL_NOT_OPEN));
+    book = fresh, book.game.hands = 199, book.game.counter = UINT32_MAX;
+    CHECK(all_refused(&book, HB_REFUSAL_NOT_OPEN));
     for (int place = 0; place < 8; place++)
         for (int feeder = 1; feeder < 256; feeder++) {
-            game = fresh, game.feeders[place] = (uint8_t)feeder;
+            book = fresh, book.game.feeders[place] = (uint8_t)feeder;
             if (feeder > 4 || feeder == place % 4 + 1)
-                CHECK_CASE(256 * place + feeder, all_refused(&game, HB_REFUSAL_NOT_OPEN));
+                CHECK_CASE(256 * place + feeder, all_refused(&book, HB_REFUSAL_NOT_OPEN));
             else
-                CHECK_CASE(256 * place + feeder, hb_riichi(&game, 0) == 0 && game.feeders[place] == feeder);
+                CHECK_CASE(256 * place + feeder, hb_riichi(&book, 0) == 0 && book.game.feeders[place] == feeder);
         }
 }
 
@@ -864,22 +866,23 @@ static void refused_bookings(void)
 static void marks(void)
 {
     static const uint8_t set[4] = {0, 1, 1, 0}, cleared[4] = {0, 0, 0, 0};
-    HbGame game = hb_fresh(), before;
-    game.over = 2;
-    CHECK(all_refused(&game, HB_REFUSAL_NOT_OPEN));
-    game.over = 0xff;
-    CHECK(all_refused(&game, HB_REFUSAL_NOT_OPEN));
+    HbBook book = hb_fresh(), before;
+    book.game.over = 2;
+    CHECK(all_refused(&book, HB_REFUSAL_NOT_OPEN));
+    book.game.over = 0xff;
+    CHECK(all_refused(&book, HB_REFUSAL_NOT_OPEN));
 
-    game = hb_fresh();
-    game.declared[2] = 0xfe, game.sticks = 1, game.scores[2] -= 1000;
-    before = game;
-    CHECK(hb_riichi(&game, 2) == HB_REFUSAL_DECLARED && memcmp(&game, &before, sizeof game) == 0);
-    CHECK(hb_draw(&game, 0) == 0 && game.sticks == 0 && game.scores[2] == 21000 && memcmp(game.declared, cleared, sizeof cleared) == 0);
-    game = before;
-    CHECK(hb_riichi(&game, 1) == 0 && game.sticks == 2 && memcmp(game.declared, set, sizeof set) == 0);
-    game = before;
-    CHECK(hb_chombo(&game, 0) == 0 && game.sticks == 0 && game.scores[2] == 33000);
-    CHECK(memcmp(game.declared, cleared, sizeof cleared) == 0);
+    book = hb_fresh();
+    book.game.declared[2] = 0xfe, book.game.sticks = 1, book.game.scores[2] -= 1000;
+    before = book;
+    CHECK(hb_riichi(&book, 2) == HB_REFUSAL_DECLARED && memcmp(&book, &before, sizeof book) == 0);
+    CHECK(hb_draw(&book, 0) == 0 && book.game.sticks == 0 && book.game.scores[2] == 21000);
+    CHECK(memcmp(book.game.declared, cleared, sizeof cleared) == 0);
+    book = before;
+    CHECK(hb_riichi(&book, 1) == 0 && book.game.sticks == 2 && memcmp(book.game.declared, set, sizeof set) == 0);
+    book = before;
+    CHECK(hb_chombo(&book, 0) == 0 && book.game.sticks == 0 && book.game.scores[2] == 33000);
+    CHECK(memcmp(book.game.declared, cleared, sizeof cleared) == 0);
 }
 
 /* Thirteen orphans won by seat 0 from seat 1. */
@@ -892,30 +895,30 @@ static void counters(void)
     static const int32_t by_tsumo[] = {28000, 34800, 28600, 28600};  /* line 2: 700, 700 and 1,300, and 100 for each from each */
     static const int32_t by_dealer[] = {35000, 30000, 30000, 25000}; /* line 3, 2,900 */
     static const int32_t lowest[] = {15601000, -15541000, 30000, 30000};
-    HbGame fresh = hb_fresh(), seven = fresh, game;
-    CHECK(fresh.counter == 0);
-    seven.hands = 7, seven.counter = 7;
-    game = seven;
-    CHECK(hb_win(&game, table[0].record, 13) == 0 && is_game(&game, by_child, 0, 1, HB_ROUND_EAST, 8) && game.counter == 0);
-    game = seven;
-    CHECK(hb_win(&game, table[1].record, 13) == 0 && is_game(&game, by_tsumo, 0, 1, HB_ROUND_EAST, 8) && game.counter == 0);
-    game = seven;
-    CHECK(hb_win(&game, table[2].record, 13) == 0 && is_game(&game, by_dealer, 0, 0, HB_ROUND_EAST, 8) && game.counter == 8);
-    game = seven;
-    CHECK(hb_draw(&game, 8) == 0 && game.counter == 8 && game.dealer == 0);
-    game = seven;
-    CHECK(hb_draw(&game, 0) == 0 && game.counter == 8 && game.dealer == 1);
-    game = seven;
-    CHECK(hb_riichi(&game, 2) == 0 && game.counter == 7);
-    CHECK(hb_chombo(&game, 2) == 0 && game.counter == 7 && game.hands == 8);
-    CHECK(hb_win(&game, table[0].record, 3) == HB_REFUSAL_LENGTH && game.counter == 7);
+    HbBook fresh = hb_fresh(), seven = fresh, book;
+    CHECK(fresh.game.counter == 0);
+    seven.game.hands = 7, seven.game.counter = 7;
+    book = seven;
+    CHECK(hb_win(&book, table[0].record, 13) == 0 && is_game(&book, by_child, 0, 1, HB_ROUND_EAST, 8) && book.game.counter == 0);
+    book = seven;
+    CHECK(hb_win(&book, table[1].record, 13) == 0 && is_game(&book, by_tsumo, 0, 1, HB_ROUND_EAST, 8) && book.game.counter == 0);
+    book = seven;
+    CHECK(hb_win(&book, table[2].record, 13) == 0 && is_game(&book, by_dealer, 0, 0, HB_ROUND_EAST, 8) && book.game.counter == 8);
+    book = seven;
+    CHECK(hb_draw(&book, 8) == 0 && book.game.counter == 8 && book.game.dealer == 0);
+    book = seven;
+    CHECK(hb_draw(&book, 0) == 0 && book.game.counter == 8 && book.game.dealer == 1);
+    book = seven;
+    CHECK(hb_riichi(&book, 2) == 0 && book.game.counter == 7);
+    CHECK(hb_chombo(&book, 2) == 0 && book.game.counter == 7 && book.game.hands == 8);
+    CHECK(hb_win(&book, table[0].record, 3) == HB_REFUSAL_LENGTH && book.game.counter == 7);
 
-    game = fresh;
-    CHECK(hb_riichi(&game, 1) == 0);
+    book = fresh;
+    CHECK(hb_riichi(&book, 1) == 0);
     for (int hand = 0; hand < 200; hand++)
-        CHECK_CASE(hand, game.counter == (uint32_t)hand && hb_win(&game, thirteen_orphans, 13) == 0);
-    CHECK(is_game(&game, lowest, 0, 0, HB_ROUND_EAST, 200) && game.over && game.counter == 200);
-    CHECK(all_refused(&game, HB_REFUSAL_NOT_OPEN));
+        CHECK_CASE(hand, book.game.counter == (uint32_t)hand && hb_win(&book, thirteen_orphans, 13) == 0);
+    CHECK(is_game(&book, lowest, 0, 0, HB_ROUND_EAST, 200) && book.game.over && book.game.counter == 200);
+    CHECK(all_refused(&book, HB_REFUSAL_NOT_OPEN));
 }
 
 /* Hands of seat 1 on tsumo: three dragon triplets; four wind triplets, concealed and melded; three and a wind pair. */
@@ -930,11 +933,11 @@ static const struct {
 };
 
 /* A win by one of them, of another seat: from a discarder, or on tsumo where it is 4. */
-static uint8_t yakuman_won(HbGame *game, size_t hand, uint8_t winner, uint8_t from)
+static uint8_t yakuman_won(HbBook *book, size_t hand, uint8_t winner, uint8_t from)
 {
     uint8_t *record = exact(yakuman[hand].record, yakuman[hand].length);
     record[0] = (uint8_t)(from > 3 ? 32 * winner : 128 + 32 * winner + 8 * from);
-    uint8_t refusal = hb_win(game, record, yakuman[hand].length);
+    uint8_t refusal = hb_win(book, record, yakuman[hand].length);
     free(record);
     return refusal;
 }
@@ -965,28 +968,29 @@ static void fed_wins(void)
     };
     for (size_t n = 0; n < COUNT_OF(cases); n++) {
         uint8_t winner = cases[n].winner;
-        HbGame game = hb_fresh(), named, wanted;
-        game.hands = 2, game.counter = 2;
-        CHECK_CASE(n, hb_riichi(&game, 3) == 0);
-        wanted = game, wanted.feeders[cases[n].holder + (cases[n].yaku == HB_YAKU_DAISANGEN ? 0 : 4)] = cases[n].feeder + 1;
-        CHECK_CASE(n, hb_feed(&game, cases[n].holder, cases[n].feeder, cases[n].yaku) == 0);
-        CHECK_CASE(n, memcmp(&game, &wanted, sizeof game) == 0);
-        named = game;
-        CHECK_CASE(n, yakuman_won(&game, cases[n].hand, winner, cases[n].from) == 0);
-        CHECK_CASE(n, is_game(&game, cases[n].scores, 0, winner != 0, HB_ROUND_EAST, 3) && game.counter == (winner ? 0 : 3));
-        CHECK_CASE(n, memcmp(game.feeders, nobody, sizeof nobody) == 0);
+        HbBook book = hb_fresh(), named, wanted;
+        book.game.hands = 2, book.game.counter = 2;
+        CHECK_CASE(n, hb_riichi(&book, 3) == 0);
+        wanted = book, wanted.earlier = book.game, wanted.held = 0;
+        wanted.game.feeders[cases[n].holder + (cases[n].yaku == HB_YAKU_DAISANGEN ? 0 : 4)] = cases[n].feeder + 1;
+        CHECK_CASE(n, hb_feed(&book, cases[n].holder, cases[n].feeder, cases[n].yaku) == 0);
+        CHECK_CASE(n, memcmp(&book, &wanted, sizeof book) == 0);
+        named = book;
+        CHECK_CASE(n, yakuman_won(&book, cases[n].hand, winner, cases[n].from) == 0);
+        CHECK_CASE(n, is_game(&book, cases[n].scores, 0, winner != 0, HB_ROUND_EAST, 3) && book.game.counter == (winner ? 0 : 3));
+        CHECK_CASE(n, memcmp(book.game.feeders, nobody, sizeof nobody) == 0);
 
         /* lapsed: each end of the hand clears all places, and the same win is then paid plainly */
         for (int end = 0; end < 4; end++) {
-            HbGame plain = named;
-            memcpy(plain.feeders, nobody, sizeof nobody);
-            HbGame *both[] = {&named, &plain};
-            HbGame after[2];
+            HbBook plain = named;
+            memcpy(plain.game.feeders, nobody, sizeof nobody);
+            HbBook *both[] = {&named, &plain};
+            HbBook after[2];
             for (int k = 0; k < 2; k++) {
                 after[k] = *both[k];
                 uint8_t refusal = end == 0 ? hb_draw(&after[k], 9) : end == 1 ? hb_draw(&after[k], 8) : end == 2 ? hb_chombo(&after[k], 2)
                                   : hb_win(&after[k], table[0].record, 13);
-                CHECK_CASE(n, refusal == 0 && memcmp(after[k].feeders, nobody, sizeof nobody) == 0);
+                CHECK_CASE(n, refusal == 0 && memcmp(after[k].game.feeders, nobody, sizeof nobody) == 0);
                 CHECK_CASE(n, yakuman_won(&after[k], cases[n].hand, winner, cases[n].from) == 0);
             }
             CHECK_CASE(n, memcmp(&after[0], &after[1], sizeof after[0]) == 0);
@@ -997,35 +1001,36 @@ static void fed_wins(void)
 /* Refusal 18, after 8 and 9: the holder himself, another yaku, or a holder and yaku named already; each leaves every byte. */
 static void refused_feeds(void)
 {
-    HbGame fresh = hb_fresh(), game = fresh, named;
+    HbBook fresh = hb_fresh(), book = fresh, named;
     for (int yaku = 0; yaku < 256; yaku++) {
         for (uint8_t holder = 0; holder < 4; holder++) {
-            CHECK_CASE(yaku, hb_feed(&game, holder, holder, (uint8_t)yaku) == HB_REFUSAL_FEED);
+            CHECK_CASE(yaku, hb_feed(&book, holder, holder, (uint8_t)yaku) == HB_REFUSAL_FEED);
             if (yaku != HB_YAKU_DAISANGEN && yaku != HB_YAKU_SUUSHIIHOU)
-                CHECK_CASE(yaku, hb_feed(&game, holder, (uint8_t)((holder + 1) % 4), (uint8_t)yaku) == HB_REFUSAL_FEED);
-            CHECK_CASE(yaku, hb_feed(&game, (uint8_t)(holder + 4), holder, (uint8_t)yaku) == HB_REFUSAL_ARGUMENT);
-            CHECK_CASE(yaku, hb_feed(&game, holder, (uint8_t)(holder + 4), (uint8_t)yaku) == HB_REFUSAL_ARGUMENT);
+                CHECK_CASE(yaku, hb_feed(&book, holder, (uint8_t)((holder + 1) % 4), (uint8_t)yaku) == HB_REFUSAL_FEED);
+            CHECK_CASE(yaku, hb_feed(&book, (uint8_t)(holder + 4), holder, (uint8_t)yaku) == HB_REFUSAL_ARGUMENT);
+            CHECK_CASE(yaku, hb_feed(&book, holder, (uint8_t)(holder + 4), (uint8_t)yaku) == HB_REFUSAL_ARGUMENT);
         }
-        CHECK_CASE(yaku, memcmp(&game, &fresh, sizeof game) == 0);
+        CHECK_CASE(yaku, memcmp(&book, &fresh, sizeof book) == 0);
     }
     /* all eight places, named one after the other: none is free again, with whatever feeder, and riichi leaves them */
     for (uint8_t place = 0; place < 8; place++) {
         uint8_t holder = place % 4, yaku = (uint8_t)(HB_YAKU_DAISANGEN + place / 4);
-        CHECK_CASE(place, hb_feed(&game, holder, (uint8_t)((holder + 1 + place / 4) % 4), yaku) == 0);
-        named = game;
+        CHECK_CASE(place, hb_feed(&book, holder, (uint8_t)((holder + 1 + place / 4) % 4), yaku) == 0);
+        named = book;
         for (uint8_t feeder = 0; feeder < 4; feeder++) {
-            CHECK_CASE(place, hb_feed(&game, holder, feeder, yaku) == HB_REFUSAL_FEED);
-            CHECK_CASE(place, book_feed(&game, (uint8_t)(64 * holder + 16 * feeder + 8 * (place / 4))) == HB_REFUSAL_FEED);
+            CHECK_CASE(place, hb_feed(&book, holder, feeder, yaku) == HB_REFUSAL_FEED);
+            CHECK_CASE(place, book_feed(&book, (uint8_t)(64 * holder + 16 * feeder + 8 * (place / 4))) == HB_REFUSAL_FEED);
         }
-        CHECK_CASE(place, memcmp(&game, &named, sizeof game) == 0);
+        CHECK_CASE(place, memcmp(&book, &named, sizeof book) == 0);
     }
-    CHECK(hb_riichi(&game, 1) == 0 && memcmp(game.feeders, named.feeders, sizeof named.feeders) == 0);
-    CHECK(hb_win(&game, table[6].record, 12) == HB_REFUSAL_NO_YAKU && memcmp(game.feeders, named.feeders, sizeof named.feeders) == 0);
-    CHECK(hb_draw(&game, 16) == HB_REFUSAL_ARGUMENT && memcmp(game.feeders, named.feeders, sizeof named.feeders) == 0);
-    game.over = 1, named = game;
-    CHECK(all_refused(&game, HB_REFUSAL_NOT_OPEN));
-    CHECK(hb_feed(&game, 0, 1, HB_YAKU_DAISANGEN) == HB_REFUSAL_NOT_OPEN && hb_feed(&game, 0, 4, 0) == HB_REFUSAL_ARGUMENT);
-    CHECK(memcmp(&game, &named, sizeof game) == 0);
+    CHECK(hb_riichi(&book, 1) == 0 && memcmp(book.game.feeders, named.game.feeders, sizeof named.game.feeders) == 0);
+    CHECK(hb_win(&book, table[6].record, 12) == HB_REFUSAL_NO_YAKU);
+    CHECK(memcmp(book.game.feeders, named.game.feeders, sizeof named.game.feeders) == 0);
+    CHECK(hb_draw(&book, 16) == HB_REFUSAL_ARGUMENT && memcmp(book.game.feeders, named.game.feeders, sizeof named.game.feeders) == 0);
+    book.game.over = 1, named = book;
+    CHECK(all_refused(&book, HB_REFUSAL_NOT_OPEN));
+    CHECK(hb_feed(&book, 0, 1, HB_YAKU_DAISANGEN) == HB_REFUSAL_NOT_OPEN && hb_feed(&book, 0, 4, 0) == HB_REFUSAL_ARGUMENT);
+    CHECK(memcmp(&book, &named, sizeof book) == 0);
 }
 
 /* A record as the ron of a seat from another, put at a place of a set; gives the place behind it. */
@@ -1036,23 +1041,23 @@ static size_t put_ron(uint8_t *records, size_t at, const uint8_t *record, size_t
     return at + length;
 }
 
-/* Whether a set is refused so, in a block of its length, with every byte of the game left; as an entry too, where it is one. */
-static int set_refused(const HbGame *game, uint8_t number, const uint8_t *records, size_t length, uint8_t refusal)
+/* Whether a set is refused so, in a block of its length, with every byte of the book left; as an entry too, where it is one. */
+static int set_refused(const HbBook *book, uint8_t number, const uint8_t *records, size_t length, uint8_t refusal)
 {
-    HbGame copy = *game;
+    HbBook copy = *book;
     uint8_t *own = exact(records, length);
     int same = hb_many(&copy, number, own, length) == refusal;
     same = same && (refusal == HB_REFUSAL_LENGTH || number == 0 || number > 3 || book_many(&copy, number, own, length) == refusal);
     free(own);
-    return same && memcmp(&copy, game, sizeof copy) == 0;
+    return same && memcmp(&copy, book, sizeof copy) == 0;
 }
 
-/* A fresh game with so many points of seat 1; seat 2 has the rest. */
-static HbGame with_points(int32_t points)
+/* A fresh book with so many points of seat 1; seat 2 has the rest. */
+static HbBook with_points(int32_t points)
 {
-    HbGame game = hb_fresh();
-    game.scores[1] = points, game.scores[2] = 60000 - points;
-    return game;
+    HbBook book = hb_fresh();
+    book.game.scores[1] = points, book.game.scores[2] = 60000 - points;
+    return book;
 }
 
 /* Riichi with under 1,000 points, by a call and by an entry: 21, after 8, 9 and 10, and no byte is changed. A win or a set with riichi
@@ -1063,38 +1068,39 @@ static void sticks(void)
     uint8_t set[26];
     CHECK(put_ron(set, put_ron(set, 0, table[0].record, 13, 2, 3), with_riichi, 13, 1, 3) == 26);
     for (size_t n = 0; n < COUNT_OF(few); n++) {
-        HbGame start = with_points(few[n]), game, before;
-        start.declared[3] = 0xfe, start.sticks = 1, start.scores[3] -= 1000;
-        game = start;
-        CHECK_CASE(few[n], hb_riichi(&game, 1) == HB_REFUSAL_STICK && memcmp(&game, &start, sizeof game) == 0);
-        CHECK_CASE(few[n], book_byte(&game, 0x01) == HB_REFUSAL_STICK && memcmp(&game, &start, sizeof game) == 0);
-        CHECK_CASE(few[n], hb_riichi(&game, 4) == HB_REFUSAL_ARGUMENT && memcmp(&game, &start, sizeof game) == 0);
-        CHECK_CASE(few[n], hb_win(&game, with_riichi, 13) == HB_REFUSAL_RIICHI && memcmp(&game, &start, sizeof game) == 0);
-        CHECK_CASE(few[n], book_win(&game, with_riichi, 13) == HB_REFUSAL_RIICHI && memcmp(&game, &start, sizeof game) == 0);
-        CHECK_CASE(few[n], set_refused(&game, 2, set, 26, HB_REFUSAL_RIICHI));
-        CHECK_CASE(few[n], hb_win(&game, table[0].record, 13) == 0 && game.scores[1] == few[n] + 2000 + 1000);
+        HbBook start = with_points(few[n]), book, before;
+        start.game.declared[3] = 0xfe, start.game.sticks = 1, start.game.scores[3] -= 1000;
+        book = start;
+        CHECK_CASE(few[n], hb_riichi(&book, 1) == HB_REFUSAL_STICK && memcmp(&book, &start, sizeof book) == 0);
+        CHECK_CASE(few[n], book_byte(&book, 0x01) == HB_REFUSAL_STICK && memcmp(&book, &start, sizeof book) == 0);
+        CHECK_CASE(few[n], hb_riichi(&book, 4) == HB_REFUSAL_ARGUMENT && memcmp(&book, &start, sizeof book) == 0);
+        CHECK_CASE(few[n], hb_win(&book, with_riichi, 13) == HB_REFUSAL_RIICHI && memcmp(&book, &start, sizeof book) == 0);
+        CHECK_CASE(few[n], book_win(&book, with_riichi, 13) == HB_REFUSAL_RIICHI && memcmp(&book, &start, sizeof book) == 0);
+        CHECK_CASE(few[n], set_refused(&book, 2, set, 26, HB_REFUSAL_RIICHI));
+        CHECK_CASE(few[n], hb_win(&book, table[0].record, 13) == 0 && book.game.scores[1] == few[n] + 2000 + 1000);
 
         /* the points of the other seats do not matter */
-        game = start;
-        CHECK_CASE(few[n], hb_riichi(&game, 2) == 0 && hb_riichi(&game, 0) == 0 && hb_riichi(&game, 1) == HB_REFUSAL_STICK);
+        book = start;
+        CHECK_CASE(few[n], hb_riichi(&book, 2) == 0 && hb_riichi(&book, 0) == 0 && hb_riichi(&book, 1) == HB_REFUSAL_STICK);
 
-        game = start, game.declared[1] = 7, game.sticks = 2, game.scores[0] -= 1000, before = game;
-        CHECK_CASE(few[n], hb_riichi(&game, 1) == HB_REFUSAL_DECLARED && book_byte(&game, 0x01) == HB_REFUSAL_DECLARED);
-        CHECK_CASE(few[n], memcmp(&game, &before, sizeof game) == 0);
-        game = start, game.over = 1, before = game;
-        CHECK_CASE(few[n], hb_riichi(&game, 1) == HB_REFUSAL_NOT_OPEN && book_byte(&game, 0x01) == HB_REFUSAL_NOT_OPEN);
-        CHECK_CASE(few[n], memcmp(&game, &before, sizeof game) == 0);
+        book = start, book.game.declared[1] = 7, book.game.sticks = 2, book.game.scores[0] -= 1000, before = book;
+        CHECK_CASE(few[n], hb_riichi(&book, 1) == HB_REFUSAL_DECLARED && book_byte(&book, 0x01) == HB_REFUSAL_DECLARED);
+        CHECK_CASE(few[n], memcmp(&book, &before, sizeof book) == 0);
+        book = start, book.game.over = 1, before = book;
+        CHECK_CASE(few[n], hb_riichi(&book, 1) == HB_REFUSAL_NOT_OPEN && book_byte(&book, 0x01) == HB_REFUSAL_NOT_OPEN);
+        CHECK_CASE(few[n], memcmp(&book, &before, sizeof book) == 0);
     }
     for (size_t n = 0; n < COUNT_OF(enough); n++) {
         static const uint8_t one[4] = {0, 1, 0, 0};
-        HbGame game = with_points(enough[n]), booked = game, before;
-        CHECK_CASE(enough[n], hb_riichi(&game, 1) == 0 && book_byte(&booked, 0x01) == 0 && memcmp(&game, &booked, sizeof game) == 0);
-        CHECK_CASE(enough[n], game.scores[1] == enough[n] - 1000 && game.sticks == 1 && memcmp(game.declared, one, sizeof one) == 0);
-        before = game;
-        CHECK_CASE(enough[n], hb_riichi(&game, 1) == HB_REFUSAL_DECLARED && memcmp(&game, &before, sizeof game) == 0);
-        CHECK_CASE(enough[n], hb_many(&game, 2, set, 26) == 0 && game.sticks == 0);
-        game = before;
-        CHECK_CASE(enough[n], hb_win(&game, with_riichi, 13) == 0 && game.scores[1] == enough[n] + 3900 && game.sticks == 0);
+        HbBook book = with_points(enough[n]), booked = book, before;
+        CHECK_CASE(enough[n], hb_riichi(&book, 1) == 0 && book_byte(&booked, 0x01) == 0 && memcmp(&book, &booked, sizeof book) == 0);
+        CHECK_CASE(enough[n], book.game.scores[1] == enough[n] - 1000 && book.game.sticks == 1);
+        CHECK_CASE(enough[n], memcmp(book.game.declared, one, sizeof one) == 0);
+        before = book;
+        CHECK_CASE(enough[n], hb_riichi(&book, 1) == HB_REFUSAL_DECLARED && memcmp(&book, &before, sizeof book) == 0);
+        CHECK_CASE(enough[n], hb_many(&book, 2, set, 26) == 0 && book.game.sticks == 0);
+        book = before;
+        CHECK_CASE(enough[n], hb_win(&book, with_riichi, 13) == 0 && book.game.scores[1] == enough[n] + 3900 && book.game.sticks == 0);
     }
 }
 
@@ -1119,29 +1125,29 @@ static void sets(void)
         {3, {0, 1, 2}, 3, {34500, 32000, 32000, 21500}, 0, 3},
     };
     uint8_t records[39];
-    HbGame start = hb_fresh(), game, booked;
-    start.hands = 2, start.counter = 2;
+    HbBook start = hb_fresh(), book, booked;
+    start.game.hands = 2, start.game.counter = 2;
     CHECK(hb_riichi(&start, 3) == 0);
     for (size_t n = 0; n < COUNT_OF(cases); n++) {
         size_t length = 0;
         for (size_t k = 0; k < cases[n].number; k++)
             length = put_ron(records, length, table[0].record, 13, cases[n].winners[k], cases[n].from);
         uint8_t *own = exact(records, length);
-        game = start, booked = start;
-        CHECK_CASE(n, hb_many(&game, cases[n].number, own, length) == 0);
-        CHECK_CASE(n, is_game(&game, cases[n].scores, 0, cases[n].dealer, HB_ROUND_EAST, 3) && game.counter == cases[n].counter);
-        CHECK_CASE(n, !game.declared[3] && !game.over);
-        CHECK_CASE(n, book_many(&booked, cases[n].number, own, length) == 0 && memcmp(&booked, &game, sizeof game) == 0);
+        book = start, booked = start;
+        CHECK_CASE(n, hb_many(&book, cases[n].number, own, length) == 0);
+        CHECK_CASE(n, is_game(&book, cases[n].scores, 0, cases[n].dealer, HB_ROUND_EAST, 3) && book.game.counter == cases[n].counter);
+        CHECK_CASE(n, !book.game.declared[3] && !book.game.over);
+        CHECK_CASE(n, book_many(&booked, cases[n].number, own, length) == 0 && memcmp(&booked, &book, sizeof book) == 0);
         booked = start;
-        CHECK_CASE(n, cases[n].number > 1 || (hb_win(&booked, own, 13) == 0 && memcmp(&booked, &game, sizeof game) == 0));
+        CHECK_CASE(n, cases[n].number > 1 || (hb_win(&booked, own, 13) == 0 && memcmp(&booked, &book, sizeof book) == 0));
         free(own);
     }
     /* records of 13 and of 12 bytes, one of a declared winner: line 1 with riichi of seat 1 (h 3, 3,900), line 6 of seat 2 (1,000) */
     static const int32_t declared[] = {30000, 33900, 31000, 25100};
     size_t length = put_ron(records, put_ron(records, 0, numbered(6)->record, 12, 2, 3), with_riichi, 13, 1, 3);
-    game = hb_fresh();
-    CHECK(hb_riichi(&game, 1) == 0 && hb_many(&game, 2, records, length) == 0);
-    CHECK(is_game(&game, declared, 0, 1, HB_ROUND_EAST, 1));
+    book = hb_fresh();
+    CHECK(hb_riichi(&book, 1) == 0 && hb_many(&book, 2, records, length) == 0);
+    CHECK(is_game(&book, declared, 0, 1, HB_ROUND_EAST, 1));
 }
 
 /* Second records beside line 1 of seat 1 from seat 3, and the refusal of the two. */
@@ -1164,7 +1170,7 @@ static const struct {
 static void refused_sets(void)
 {
     uint8_t records[3 * 13 + 1];
-    HbGame fresh = hb_fresh(), declared = fresh;
+    HbBook fresh = hb_fresh(), declared = fresh;
     size_t both = put_ron(records, put_ron(records, 0, table[0].record, 13, 1, 3), table[0].record, 13, 2, 3), at;
     for (int number = 0; number < 256; number++)
         if (number == 0 || number > 3) {
@@ -1186,13 +1192,13 @@ static void refused_sets(void)
         memcpy(records + at, record, length);
         CHECK_CASE(n, set_refused(&fresh, 3, records, at + length, unsound[n].refusal));
         if (unsound[n].refusal != HB_REFUSAL_LENGTH) {
-            HbGame game = fresh;
+            HbBook book = fresh;
             memcpy(records, record, length);
             at = put_ron(records, length, table[0].record, 13, 1, 3);
             CHECK_CASE(n, set_refused(&fresh, 2, records, at, unsound[n].refusal));
             records[length + 2] = 0x66, records[length + 3] = 0x82; /* m 5 */
-            CHECK_CASE(n, hb_many(&game, 2, records, at) == unsound[n].refusal);
-            CHECK_CASE(n, memcmp(&game, &fresh, sizeof game) == 0);
+            CHECK_CASE(n, hb_many(&book, 2, records, at) == unsound[n].refusal);
+            CHECK_CASE(n, memcmp(&book, &fresh, sizeof book) == 0);
         }
         free(record);
     }
@@ -1216,7 +1222,7 @@ static void refused_sets(void)
     CHECK(set_refused(&fresh, 1, table[1].record, 13, HB_REFUSAL_MANY)); /* a tsumo alone */
     CHECK(hb_riichi(&declared, 1) == 0);
     CHECK(set_refused(&declared, 1, table[0].record, 13, HB_REFUSAL_RIICHI)); /* declared, and no riichi in the record */
-    declared.over = 1;
+    declared.game.over = 1;
     CHECK(all_refused(&declared, HB_REFUSAL_NOT_OPEN));
 }
 
@@ -1239,17 +1245,17 @@ static void fed_sets(void)
     static const uint8_t nobody[8] = {0};
     for (size_t n = 0; n < COUNT_OF(cases); n++) {
         uint8_t records[26];
-        HbGame game = hb_fresh(), booked;
-        game.hands = 2, game.counter = 2;
-        CHECK_CASE(n, hb_riichi(&game, 1) == 0);
+        HbBook book = hb_fresh(), booked;
+        book.game.hands = 2, book.game.counter = 2;
+        CHECK_CASE(n, hb_riichi(&book, 1) == 0);
         for (size_t k = 0; k < cases[n].feeds; k++)
-            CHECK_CASE(n, hb_feed(&game, cases[n].holder[k], cases[n].feeder[k], HB_YAKU_DAISANGEN) == 0);
-        booked = game;
+            CHECK_CASE(n, hb_feed(&book, cases[n].holder[k], cases[n].feeder[k], HB_YAKU_DAISANGEN) == 0);
+        booked = book;
         put_ron(records, 13, cases[n].dragons[0] ? yakuman[DRAGONS].record : orphans, 13, 0, 3);
         put_ron(records, 0, cases[n].dragons[1] ? yakuman[DRAGONS].record : orphans, 13, 2, 3);
-        CHECK_CASE(n, hb_many(&game, 2, records, 26) == 0 && is_game(&game, cases[n].scores, 0, 0, HB_ROUND_EAST, 3));
-        CHECK_CASE(n, game.counter == 3 && memcmp(game.feeders, nobody, sizeof nobody) == 0);
-        CHECK_CASE(n, book_many(&booked, 2, records, 26) == 0 && memcmp(&booked, &game, sizeof game) == 0);
+        CHECK_CASE(n, hb_many(&book, 2, records, 26) == 0 && is_game(&book, cases[n].scores, 0, 0, HB_ROUND_EAST, 3));
+        CHECK_CASE(n, book.game.counter == 3 && memcmp(book.game.feeders, nobody, sizeof nobody) == 0);
+        CHECK_CASE(n, book_many(&booked, 2, records, 26) == 0 && memcmp(&booked, &book, sizeof book) == 0);
     }
 }
 
@@ -1261,13 +1267,13 @@ static void lowest_of_all(void)
     uint8_t records[39];
     size_t length = put_ron(records, 0, thirteen_orphans, 13, 0, 1);
     length = put_ron(records, put_ron(records, length, thirteen_orphans, 13, 2, 1), thirteen_orphans, 13, 3, 1);
-    HbGame game = hb_fresh();
+    HbBook book = hb_fresh();
     for (int hand = 0; hand < 200; hand++) {
-        CHECK_CASE(hand, hb_riichi(&game, 1) == (hand ? HB_REFUSAL_STICK : 0));
-        CHECK_CASE(hand, game.counter == (uint32_t)hand && hb_many(&game, 3, records, length) == 0);
+        CHECK_CASE(hand, hb_riichi(&book, 1) == (hand ? HB_REFUSAL_STICK : 0));
+        CHECK_CASE(hand, book.game.counter == (uint32_t)hand && hb_many(&book, 3, records, length) == 0);
     }
-    CHECK(is_game(&game, lowest, 0, 0, HB_ROUND_EAST, 200) && game.over && game.counter == 200);
-    CHECK(all_refused(&game, HB_REFUSAL_NOT_OPEN));
+    CHECK(is_game(&book, lowest, 0, 0, HB_ROUND_EAST, 200) && book.game.over && book.game.counter == 200);
+    CHECK(all_refused(&book, HB_REFUSAL_NOT_OPEN));
 }
 
 /* Draws in which declared seats are not ready: a chombo of each. Each is made in a game with an older stick, two counters and the
@@ -1286,40 +1292,382 @@ static void not_ready(void)
         {0xf, 0x1, {27000, 26000, 27000, 39000}}, /* and seat 3's stick returns */
         {0xf, 0x0, {30000, 29000, 30000, 30000}}, /* all four: the sticks return, nothing else moves */
     };
-    HbGame start = hb_fresh();
-    start.scores[1] = 29000, start.sticks = 1, start.hands = 2, start.counter = 2, start.dealer = 1;
+    HbBook start = hb_fresh();
+    start.game.scores[1] = 29000, start.game.sticks = 1, start.game.hands = 2, start.game.counter = 2, start.game.dealer = 1;
     for (size_t n = 0; n < COUNT_OF(cases); n++) {
-        HbGame game = start, booked;
+        HbBook book = start, booked;
         for (uint8_t seat = 0; seat < 4; seat++)
-            CHECK_CASE(n, !(cases[n].declared >> (3 - seat) & 1) || hb_riichi(&game, seat) == 0);
-        booked = game;
-        CHECK_CASE(n, hb_draw(&game, cases[n].bits) == 0 && book_byte(&booked, (uint8_t)(0x20 + cases[n].bits)) == 0);
-        CHECK_CASE(n, is_game(&game, cases[n].scores, 1, 1, HB_ROUND_EAST, 3) && game.counter == 2 && !game.over);
-        CHECK_CASE(n, !game.declared[0] && !game.declared[1] && !game.declared[2] && !game.declared[3]);
-        CHECK_CASE(n, memcmp(&game, &booked, sizeof game) == 0);
+            CHECK_CASE(n, !(cases[n].declared >> (3 - seat) & 1) || hb_riichi(&book, seat) == 0);
+        booked = book;
+        CHECK_CASE(n, hb_draw(&book, cases[n].bits) == 0 && book_byte(&booked, (uint8_t)(0x20 + cases[n].bits)) == 0);
+        CHECK_CASE(n, is_game(&book, cases[n].scores, 1, 1, HB_ROUND_EAST, 3) && book.game.counter == 2 && !book.game.over);
+        CHECK_CASE(n, !book.game.declared[0] && !book.game.declared[1] && !book.game.declared[2] && !book.game.declared[3]);
+        CHECK_CASE(n, memcmp(&book, &booked, sizeof book) == 0);
     }
-    HbGame last = hb_fresh();
-    last.hands = 199, last.dealer = 3, last.wind = HB_ROUND_SOUTH;
-    CHECK(hb_riichi(&last, 0) == 0 && hb_draw(&last, 7) == 0 && last.over && last.dealer == 3 && last.hands == 200);
-    CHECK(last.scores[0] == 21000 && last.scores[3] == 33000 && last.sticks == 0);
+    HbBook last = hb_fresh();
+    last.game.hands = 199, last.game.dealer = 3, last.game.wind = HB_ROUND_SOUTH;
+    CHECK(hb_riichi(&last, 0) == 0 && hb_draw(&last, 7) == 0 && last.game.over && last.game.dealer == 3 && last.game.hands == 200);
+    CHECK(last.game.scores[0] == 21000 && last.game.scores[3] == 33000 && last.game.sticks == 0);
 }
 
 /* The end by the deal after eight draws with none ready, and at 200 hands of chombo. */
 static void ends(void)
 {
-    HbGame game = hb_fresh();
+    HbBook book = hb_fresh();
     for (int hand = 0; hand < 8; hand++) {
-        CHECK_CASE(hand, game.dealer == hand % 4 && game.wind == hand / 4 && game.hands == hand && !game.over);
-        CHECK_CASE(hand, hb_draw(&game, 0) == 0);
+        CHECK_CASE(hand, book.game.dealer == hand % 4 && book.game.wind == hand / 4 && book.game.hands == hand && !book.game.over);
+        CHECK_CASE(hand, hb_draw(&book, 0) == 0);
     }
-    CHECK(game.over && game.dealer == 3 && game.wind == HB_ROUND_SOUTH && game.hands == 8);
-    CHECK(all_refused(&game, HB_REFUSAL_NOT_OPEN));
+    CHECK(book.game.over && book.game.dealer == 3 && book.game.wind == HB_ROUND_SOUTH && book.game.hands == 8);
+    CHECK(all_refused(&book, HB_REFUSAL_NOT_OPEN));
 
-    game = hb_fresh();
+    book = hb_fresh();
     for (int hand = 0; hand < 200; hand++)
-        CHECK_CASE(hand, !game.over && hb_chombo(&game, (uint8_t)(hand % 4)) == 0);
-    CHECK(game.over && game.dealer == 0 && game.wind == HB_ROUND_EAST && game.hands == 200);
-    CHECK(all_refused(&game, HB_REFUSAL_NOT_OPEN));
+        CHECK_CASE(hand, !book.game.over && hb_chombo(&book, (uint8_t)(hand % 4)) == 0);
+    CHECK(book.game.over && book.game.dealer == 0 && book.game.wind == HB_ROUND_EAST && book.game.hands == 200);
+    CHECK(all_refused(&book, HB_REFUSAL_NOT_OPEN));
+}
+
+/* A result: of a win or a many its records and of a many their number, the bits of a draw, the seat of a chombo. */
+typedef struct {
+    uint8_t kind, argument;
+    size_t length;
+    uint8_t records[3 * 13];
+} Result;
+
+/* Each kind of result, of a child and of the dealer; all are accepted in a fresh game, and where seat 3 has declared. */
+enum { RESULTS = 10 };
+static const Result *each_result(void)
+{
+    static Result list[RESULTS] = {
+        {HB_KIND_WIN, 0, 13, {0}},   {HB_KIND_WIN, 0, 13, {0}},   {HB_KIND_WIN, 0, 13, {0}},    /* lines 1, 2 and 3 */
+        {HB_KIND_DRAW, 8, 0, {0}},   {HB_KIND_DRAW, 5, 0, {0}},   {HB_KIND_DRAW, 4, 0, {0}},
+        {HB_KIND_CHOMBO, 0, 0, {0}}, {HB_KIND_CHOMBO, 3, 0, {0}},
+        {HB_KIND_MANY, 2, 25, {0}},  {HB_KIND_MANY, 1, 12, {0}},                                /* lines 1 and 6; line 6 of seat 0 */
+    };
+    for (size_t n = 0; n < 3; n++)
+        memcpy(list[n].records, table[n].record, 13);
+    put_ron(list[8].records, put_ron(list[8].records, 0, table[0].record, 13, 1, 3), numbered(6)->record, 12, 2, 3);
+    put_ron(list[9].records, 0, numbered(6)->record, 12, 0, 2);
+    return list;
+}
+
+/* Books a result, its records in a block of their length. */
+static uint8_t book_result(HbBook *book, const Result *result)
+{
+    uint8_t *own = exact(result->records, result->length);
+    uint8_t refusal = result->kind == HB_KIND_WIN  ? hb_win(book, own, result->length)
+                    : result->kind == HB_KIND_DRAW ? hb_draw(book, result->argument)
+                    : result->kind == HB_KIND_MANY ? hb_many(book, result->argument, own, result->length)
+                                                   : hb_chombo(book, result->argument);
+    free(own);
+    return refusal;
+}
+
+/* Books a result instead of the last one. */
+static uint8_t correct(HbBook *book, const Result *result)
+{
+    uint8_t *own = exact(result->records, result->length);
+    uint8_t refusal = result->kind == HB_KIND_WIN  ? hb_correct_win(book, own, result->length)
+                    : result->kind == HB_KIND_DRAW ? hb_correct_draw(book, result->argument)
+                    : result->kind == HB_KIND_MANY ? hb_correct_many(book, result->argument, own, result->length)
+                                                   : hb_correct_chombo(book, result->argument);
+    free(own);
+    return refusal;
+}
+
+/* The entry of a correction, in a block of its length; an argument over 15 has none. */
+static uint8_t *correction_entry(const Result *result)
+{
+    uint8_t entry[2 + sizeof result->records] = {0x60, (uint8_t)(16 * result->kind + result->argument)};
+    memcpy(entry + 2, result->records, result->length);
+    return exact(entry, 2 + result->length);
+}
+
+/* Whether a correction is refused so, with every byte of the book left; as an entry too, or with 14 where its bytes are none. */
+static int correction_refused(const HbBook *book, const Result *result, uint8_t refusal)
+{
+    HbBook copy = *book;
+    int same = correct(&copy, result) == refusal;
+    if (result->argument <= 15) {
+        size_t length = 2 + result->length;
+        uint8_t *entry = correction_entry(result), wanted = hb_next(entry, length, 0).length == length ? refusal : HB_REFUSAL_ENTRY;
+        same = same && hb_book(&copy, entry, length) == wanted;
+        free(entry);
+    }
+    return same && memcmp(&copy, book, sizeof copy) == 0;
+}
+
+/* Whether a correction is accepted, and the book then is the one in which its result was booked in the earlier game; as an entry too. The
+ * book is left with the correction made. */
+static int is_corrected(HbBook *book, const Result *result)
+{
+    HbBook wanted = hb_fresh(), copy = *book;
+    wanted.game = book->earlier;
+    int same = book_result(&wanted, result) == 0 && memcmp(&wanted.earlier, &book->earlier, sizeof wanted.earlier) == 0 && wanted.held == 1;
+    same = same && correct(book, result) == 0 && memcmp(book, &wanted, sizeof wanted) == 0;
+    uint8_t *entry = correction_entry(result);
+    same = same && hb_book(&copy, entry, 2 + result->length) == 0 && memcmp(&copy, &wanted, sizeof wanted) == 0;
+    free(entry);
+    return same;
+}
+
+/* Whether every kind of correction is refused so. */
+static int all_corrections_refused(const HbBook *book, uint8_t refusal)
+{
+    for (size_t n = 0; n < RESULTS; n++)
+        if (!correction_refused(book, &each_result()[n], refusal))
+            return 0;
+    return 1;
+}
+
+/* A hand in play: an older stick, two counters, the deal of seat 0, seat 3 declared, and a feeder of seat 1's and of seat 2's named. */
+static HbBook in_play(void)
+{
+    HbBook book = hb_fresh();
+    book.game.scores[2] = 29000, book.game.sticks = 1, book.game.hands = 2, book.game.counter = 2;
+    CHECK(hb_riichi(&book, 3) == 0 && hb_feed(&book, 1, 0, HB_YAKU_SUUSHIIHOU) == 0 && hb_feed(&book, 2, 3, HB_YAKU_DAISANGEN) == 0);
+    CHECK(book.held == 0);
+    return book;
+}
+
+/* Each result put right by each, and that by the first again: "the game is the one in which the superseded booking was never made and the
+ * new one was". Refused bookings in between change nothing. */
+static void corrections(void)
+{
+    const Result *results = each_result();
+    HbBook start = in_play();
+    for (size_t old = 0; old < RESULTS; old++)
+        for (size_t new = 0; new < RESULTS; new++) {
+            HbBook book = start, wanted = start, first;
+            CHECK_CASE(100 * old + new, book_result(&book, &results[old]) == 0 && book_result(&wanted, &results[new]) == 0);
+            CHECK_CASE(100 * old + new, memcmp(&book.earlier, &start.game, sizeof start.game) == 0 && book.held == 1);
+            first = book;
+            CHECK_CASE(100 * old + new, hb_riichi(&book, 4) == HB_REFUSAL_ARGUMENT && hb_feed(&book, 1, 1, 28) == HB_REFUSAL_FEED);
+            CHECK_CASE(100 * old + new, hb_win(&book, table[9].record, 13) == HB_REFUSAL_NO_READING);
+            CHECK_CASE(100 * old + new, hb_correct_draw(&book, 16) == HB_REFUSAL_ARGUMENT && memcmp(&book, &first, sizeof book) == 0);
+            CHECK_CASE(100 * old + new, is_corrected(&book, &results[new]) && memcmp(&book, &wanted, sizeof book) == 0);
+            CHECK_CASE(100 * old + new, is_corrected(&book, &results[old]) && memcmp(&book, &first, sizeof book) == 0);
+        }
+}
+
+/* What comes back with a correction: sticks, counters, declared seats, feeders and the deal of the superseded hand. */
+static void given_back(void)
+{
+    static const int32_t by_win[] = {30000, 34600, 29000, 26400};     /* line 1: 2,000, 600 for counters, two sticks */
+    static const int32_t by_fed_win[] = {-2600, 64600, 29000, 29000}; /* four winds: seat 0 pays 32,000 and 600 */
+    static const int32_t by_draw[] = {33000, 33000, 32000, 21000};    /* seat 3 has declared and is not ready: its stick goes back */
+    static const int32_t by_chombo[] = {21000, 33000, 32000, 33000};
+    static const uint8_t nobody[8] = {0};
+    uint8_t winds[13];
+    HbBook book = in_play(), start = book;
+    memcpy(winds, yakuman[WINDS].record, 13);
+    CHECK(hb_win(&book, table[0].record, 13) == 0 && is_game(&book, by_win, 0, 1, HB_ROUND_EAST, 3) && book.game.counter == 0);
+    CHECK(hb_correct_win(&book, winds, 13) == 0 && is_game(&book, by_fed_win, 0, 1, HB_ROUND_EAST, 3) && book.game.counter == 0);
+    CHECK(hb_correct_draw(&book, 8) == 0 && is_game(&book, by_draw, 1, 0, HB_ROUND_EAST, 3) && book.game.counter == 2);
+    CHECK(hb_correct_chombo(&book, 0) == 0 && is_game(&book, by_chombo, 1, 0, HB_ROUND_EAST, 3) && book.game.counter == 2);
+    CHECK(memcmp(book.game.feeders, nobody, sizeof nobody) == 0 && !book.game.declared[3]);
+    CHECK(memcmp(&book.earlier, &start.game, sizeof start.game) == 0 && book.held == 1);
+    /* a win of the declared seat: with riichi, which it has not in the game as it stands */
+    uint8_t declared[13];
+    CHECK(put_ron(declared, 0, with_riichi, 13, 3, 2) == 13);
+    CHECK(hb_win(&book, declared, 13) == HB_REFUSAL_RIICHI && hb_correct_win(&book, declared, 13) == 0 && book.game.sticks == 0);
+}
+
+/* Refusal 20: nothing booked yet, or a riichi or a feed accepted since; before the refusals of the new booking. The next result can be
+ * put right again. */
+static void none_to_supersede(void)
+{
+    static const Result unfit[] = {
+        {HB_KIND_DRAW, 16, 0, {0}}, {HB_KIND_CHOMBO, 4, 0, {0}},
+        {HB_KIND_WIN, 0, 0, {0}},   {HB_KIND_MANY, 0, 0, {0}},   {HB_KIND_MANY, 255, 3, {0}},
+    };
+    const Result *results = each_result();
+    HbBook fresh = hb_fresh();
+    CHECK(all_corrections_refused(&fresh, HB_REFUSAL_SUPERSEDE));
+    for (size_t n = 0; n < COUNT_OF(unfit); n++)
+        CHECK_CASE(n, correction_refused(&fresh, &unfit[n], HB_REFUSAL_SUPERSEDE));
+    for (size_t n = 0; n < RESULTS; n++)
+        for (int since = 0; since < 2; since++) {
+            HbBook book = fresh, before;
+            CHECK_CASE(n, book_result(&book, &results[n]) == 0);
+            before = book;
+            CHECK_CASE(n, (since ? hb_feed(&book, 0, 2, HB_YAKU_DAISANGEN) : hb_riichi(&book, 3)) == 0);
+            CHECK_CASE(n, memcmp(&book.earlier, &before.game, sizeof before.game) == 0 && book.held == 0);
+            CHECK_CASE(n, all_corrections_refused(&book, HB_REFUSAL_SUPERSEDE));
+            for (size_t k = 0; k < COUNT_OF(unfit); k++)
+                CHECK_CASE(k, correction_refused(&book, &unfit[k], HB_REFUSAL_SUPERSEDE));
+            CHECK_CASE(n, hb_chombo(&book, 1) == 0 && is_corrected(&book, &results[n]));
+        }
+}
+
+/* Where the new booking is refused, the old one stands: each refusal of a win, a draw, a chombo and a many, in the earlier game, in which
+ * seat 1 has declared. */
+static void refused_corrections(void)
+{
+    HbBook book = hb_fresh(), declared;
+    CHECK(hb_riichi(&book, 1) == 0);
+    declared = book;
+    CHECK(hb_draw(&book, 4) == 0);
+    Result result = {HB_KIND_WIN, 0, 0, {0}};
+    for (size_t n = 0; n < COUNT_OF(unsound); n++) {
+        uint8_t *record = unsound_record(n, &result.length);
+        memcpy(result.records, record, result.length);
+        result.kind = HB_KIND_WIN, result.argument = 0;
+        CHECK_CASE(n, correction_refused(&book, &result, unsound[n].refusal));
+        result.kind = HB_KIND_MANY, result.argument = 1;
+        CHECK_CASE(n, correction_refused(&book, &result, unsound[n].refusal));
+        free(record);
+    }
+    static const struct {
+        uint8_t refusal;
+        int line;
+    } wins[] = {{HB_REFUSAL_NO_YAKU, 7}, {HB_REFUSAL_NO_READING, 12}, {HB_REFUSAL_RIICHI, 1}, {HB_REFUSAL_RIICHI, 2}};
+    for (size_t n = 0; n < COUNT_OF(wins); n++) {
+        const struct line *line = numbered(wins[n].line);
+        result.length = line->length, memcpy(result.records, line->record, line->length);
+        result.kind = HB_KIND_WIN, result.argument = 0;
+        CHECK_CASE(n, correction_refused(&book, &result, wins[n].refusal));
+        result.kind = HB_KIND_MANY, result.argument = 1;
+        CHECK_CASE(n, correction_refused(&book, &result, wins[n].line == 2 ? HB_REFUSAL_MANY : wins[n].refusal));
+    }
+    for (size_t n = 0; n < COUNT_OF(seconds); n++) {
+        size_t at = put_ron(result.records, 0, with_riichi, 13, 1, 3);
+        memcpy(result.records + at, seconds[n].record, seconds[n].length);
+        result.kind = HB_KIND_MANY, result.argument = 2, result.length = at + seconds[n].length;
+        CHECK_CASE(n, correction_refused(&book, &result, seconds[n].refusal));
+    }
+    for (int n = 0; n < 256; n++) {
+        Result draw = {HB_KIND_DRAW, (uint8_t)n, 0, {0}}, chombo = {HB_KIND_CHOMBO, (uint8_t)n, 0, {0}};
+        Result set = {HB_KIND_MANY, (uint8_t)n, 13, {0}};
+        memcpy(set.records, with_riichi, 13);
+        CHECK_CASE(n, n <= 15 || correction_refused(&book, &draw, HB_REFUSAL_ARGUMENT));
+        CHECK_CASE(n, n <= 3 || correction_refused(&book, &chombo, HB_REFUSAL_ARGUMENT));
+        CHECK_CASE(n, (n > 0 && n <= 3) || correction_refused(&book, &set, HB_REFUSAL_MANY));
+    }
+    Result riichi = {HB_KIND_WIN, 0, 13, {0}};
+    memcpy(riichi.records, with_riichi, 13);
+    CHECK(memcmp(&book.earlier, &declared.game, sizeof declared.game) == 0 && is_corrected(&book, &riichi));
+}
+
+/* "This holds too when the superseded one had ended the game": after South's seat 3, where play may go on then, and at the 200th hand. */
+static void corrected_ends(void)
+{
+    const Result *results = each_result();
+    HbBook last_deal = hb_fresh(), last_hand = hb_fresh();
+    last_deal.game.dealer = 3, last_deal.game.wind = HB_ROUND_SOUTH, last_deal.game.hands = 7, last_deal.game.counter = 1;
+    last_hand.game.hands = 199, last_hand.game.counter = 199;
+    for (size_t n = 0; n < RESULTS; n++) {
+        HbBook book = last_deal;
+        CHECK_CASE(n, hb_draw(&book, 0) == 0 && book.game.over == 1 && all_refused(&book, HB_REFUSAL_NOT_OPEN));
+        CHECK_CASE(n, is_corrected(&book, &results[n]));
+        CHECK_CASE(n, book.game.dealer == 3 && book.game.wind == HB_ROUND_SOUTH && book.game.hands == 8);
+        /* seat 3 is ready in the second draw alone, and wins in none */
+        int over = results[n].kind != HB_KIND_CHOMBO && n != 4;
+        CHECK_CASE(n, book.game.over == over && (over ? all_refused(&book, HB_REFUSAL_NOT_OPEN) : hb_riichi(&book, 0) == 0));
+        CHECK_CASE(n, over ? is_corrected(&book, &results[6]) && !book.game.over : all_corrections_refused(&book, HB_REFUSAL_SUPERSEDE));
+        CHECK_CASE(n, hb_draw(&book, 8) == 0 && book.game.over == 1);
+
+        book = last_hand;
+        CHECK_CASE(n, hb_chombo(&book, 2) == 0 && book.game.over == 1 && book.game.hands == 200);
+        CHECK_CASE(n, is_corrected(&book, &results[n]) && book.game.over == 1 && book.game.hands == 200);
+        CHECK_CASE(n, all_refused(&book, HB_REFUSAL_NOT_OPEN) && is_corrected(&book, &results[0]));
+    }
+}
+
+/* A game out of form in one way, or in all. */
+enum { WAYS = 9 };
+static HbGame out_of_form(int way)
+{
+    HbGame game = hb_fresh().game;
+    if (way == 0)
+        game.dealer = 4;
+    else if (way == 1)
+        game.wind = 2;
+    else if (way == 2)
+        game.hands = 201;
+    else if (way == 3)
+        game.declared[2] = 0x80;
+    else if (way == 4)
+        game.scores[0] = -28540001, game.scores[1] = 28540001 + 60000;
+    else if (way == 5)
+        game.scores[3] = 30001;
+    else if (way == 6)
+        game.counter = 1;
+    else if (way == 7)
+        game.feeders[6] = 3;
+    else
+        memset(&game, 0xff, sizeof game);
+    return game;
+}
+
+/* Whether plain bookings with arguments out of range get 8, and leave every byte. */
+static int out_of_range_first(const HbBook *book)
+{
+    HbBook copy = *book;
+    int same = hb_riichi(&copy, 4) == HB_REFUSAL_ARGUMENT && hb_draw(&copy, 16) == HB_REFUSAL_ARGUMENT;
+    same = same && hb_chombo(&copy, 4) == HB_REFUSAL_ARGUMENT && hb_feed(&copy, 0, 4, 28) == HB_REFUSAL_ARGUMENT;
+    same = same && book_byte(&copy, 0x04) == HB_REFUSAL_ARGUMENT && book_byte(&copy, 0x34) == HB_REFUSAL_ARGUMENT;
+    return same && memcmp(&copy, book, sizeof copy) == 0;
+}
+
+/* Books lent with any bytes: 9 for a game out of form before 20, and for an earlier one where it is held; no 9 for a game that is over; the
+ * new booking's 9 where the earlier game is over, after its 8. A mark that is not 0 holds. */
+static void lent_books(void)
+{
+    static const uint32_t marks[] = {1, 2, 0xff, 0x100, 0x10000, 0x80000000, UINT32_MAX};
+    static const Result over_15 = {HB_KIND_DRAW, 16, 0, {0}}, seat_4 = {HB_KIND_CHOMBO, 4, 0, {0}};
+    const Result *results = each_result();
+    for (size_t n = 0; n < COUNT_OF(marks); n++) {
+        HbBook book = hb_fresh(), lent;
+        book.held = marks[n];
+        for (size_t k = 0; k < RESULTS; k++) {
+            lent = book, lent.game.over = k % 2 ? 0xfe : 0, lent.game.hands = k % 3 ? 0 : 200;
+            CHECK_CASE(marks[n], is_corrected(&lent, &results[k]) && lent.held == 1);
+            lent = book;
+            CHECK_CASE(marks[n], book_result(&lent, &results[k]) == 0 && lent.held == 1);
+        }
+        lent = book;
+        CHECK_CASE(marks[n], hb_riichi(&lent, 2) == 0 && lent.held == 0);
+        for (int way = 0; way < WAYS; way++) {
+            lent = book, lent.game = out_of_form(way);
+            CHECK_CASE(way, all_refused(&lent, HB_REFUSAL_NOT_OPEN) && out_of_range_first(&lent));
+            CHECK_CASE(way, all_corrections_refused(&lent, HB_REFUSAL_NOT_OPEN));
+            CHECK_CASE(way, correction_refused(&lent, &over_15, HB_REFUSAL_NOT_OPEN));
+            lent.held = 0;
+            CHECK_CASE(way, all_corrections_refused(&lent, HB_REFUSAL_NOT_OPEN));
+            CHECK_CASE(way, correction_refused(&lent, &seat_4, HB_REFUSAL_NOT_OPEN));
+            lent = book, lent.earlier = out_of_form(way);
+            CHECK_CASE(way, all_refused(&lent, HB_REFUSAL_NOT_OPEN) && out_of_range_first(&lent));
+            CHECK_CASE(way, all_corrections_refused(&lent, HB_REFUSAL_NOT_OPEN));
+            CHECK_CASE(way, correction_refused(&lent, &seat_4, HB_REFUSAL_NOT_OPEN));
+            lent.game.over = 1;
+            CHECK_CASE(way, all_corrections_refused(&lent, HB_REFUSAL_NOT_OPEN));
+            CHECK_CASE(way, correction_refused(&lent, &over_15, HB_REFUSAL_NOT_OPEN));
+            /* where it is not held the earlier game does not matter */
+            lent.game.over = 0, lent.held = 0;
+            CHECK_CASE(way, all_corrections_refused(&lent, HB_REFUSAL_SUPERSEDE));
+            CHECK_CASE(way, correction_refused(&lent, &over_15, HB_REFUSAL_SUPERSEDE));
+            HbGame before = lent.game;
+            CHECK_CASE(way, hb_chombo(&lent, 2) == 0 && memcmp(&lent.earlier, &before, sizeof before) == 0 && lent.held == 1);
+        }
+        for (int way = 0; way < 2; way++) {
+            lent = book, lent.game.over = way ? 0 : 7, lent.game.hands = way ? 200 : 0, lent.held = 0;
+            CHECK_CASE(way, all_corrections_refused(&lent, HB_REFUSAL_SUPERSEDE));
+            CHECK_CASE(way, correction_refused(&lent, &seat_4, HB_REFUSAL_SUPERSEDE));
+            lent = book, lent.earlier.over = way ? 0 : 7, lent.earlier.hands = way ? 200 : 0;
+            CHECK_CASE(way, all_corrections_refused(&lent, HB_REFUSAL_NOT_OPEN));
+            CHECK_CASE(way, correction_refused(&lent, &over_15, HB_REFUSAL_ARGUMENT));
+            CHECK_CASE(way, correction_refused(&lent, &seat_4, HB_REFUSAL_ARGUMENT));
+            CHECK_CASE(way, hb_chombo(&lent, 2) == 0);
+        }
+    }
+    /* the earlier game is kept as it was lent, its marks too; an accepted booking sets those of the game alone to 0 or 1 */
+    HbBook book = hb_fresh(), before;
+    book.game.declared[2] = 0xfe, book.game.sticks = 1, book.game.scores[2] -= 1000, before = book;
+    CHECK(hb_draw(&book, 2) == 0 && memcmp(&book.earlier, &before.game, sizeof before.game) == 0 && !book.game.declared[2]);
+    CHECK(is_corrected(&book, &results[0]) && memcmp(&book.earlier, &before.game, sizeof before.game) == 0);
+    CHECK(hb_correct_draw(&book, 0) == 0 && book.game.scores[2] == 21000 && book.game.sticks == 0);
 }
 
 /* Whether an entry has these values. */
@@ -1409,67 +1757,111 @@ static void entries(void)
     CHECK(no_entry(hb_next(log, 15, 0), HB_REFUSAL_ENTRY));
 }
 
-/* Whether booking an entry of a log does to a game what a booking did: the refusal, and each byte of the game. */
-static int books_as(const uint8_t *part, size_t length, HbGame game, uint8_t refusal, HbGame after)
+/* Entries of corrections: every cut, every argument, and every entry inside. */
+static void correction_entries(void)
 {
-    uint8_t got = hb_book(&game, part, length);
-    return got == refusal && memcmp(&game, &after, sizeof game) == 0;
+    for (size_t n = 0; n < RESULTS; n++) {
+        size_t whole = 2 + each_result()[n].length;
+        uint8_t *entry = correction_entry(&each_result()[n]), longer[2 + 3 * 13 + 1] = {0};
+        memcpy(longer, entry, whole);
+        CHECK_CASE(n, is_entry(hb_next(longer, sizeof longer, 0), HB_KIND_CORRECTION, 0, HB_LETTER_CORRECTION, whole));
+        for (size_t length = 1; length <= whole; length++) {
+            uint8_t *cut = exact(entry, length);
+            CHECK_CASE(length, length == whole ? is_entry(hb_next(cut, length, 0), HB_KIND_CORRECTION, 0, HB_LETTER_CORRECTION, length)
+                                               : no_entry(hb_next(cut, length, 0), HB_REFUSAL_ENTRY));
+            free(cut);
+        }
+        for (int argument = 1; argument < 16; argument++) {
+            longer[0] = (uint8_t)(0x60 + argument);
+            CHECK_CASE(argument, no_entry(hb_next(longer, sizeof longer, 0), HB_REFUSAL_ENTRY));
+        }
+        free(entry);
+    }
+    /* whatever stands inside: an entry of kind 1 to 4 alone, and what is refused of it alone is refused in a correction */
+    for (int header = 0; header < 256; header++) {
+        uint8_t log[2 + 3 * 13] = {0x60, (uint8_t)header};
+        for (size_t k = 0; k < 3; k++)
+            memcpy(log + 2 + 13 * k, table[0].record, 13);
+        HbNextEntry inside = hb_next(log, sizeof log, 1), entry = hb_next(log, sizeof log, 0);
+        int carried = inside.refusal == 0 && inside.kind >= HB_KIND_WIN && inside.kind <= HB_KIND_MANY;
+        CHECK_CASE(header, carried ? is_entry(entry, HB_KIND_CORRECTION, 0, HB_LETTER_CORRECTION, 1 + inside.length)
+                                   : no_entry(entry, HB_REFUSAL_ENTRY));
+        HbBook book = hb_fresh(), before;
+        CHECK_CASE(header, hb_draw(&book, 8) == 0);
+        before = book;
+        uint8_t refusal = hb_book(&book, log, sizeof log);
+        CHECK_CASE(header, (refusal == HB_REFUSAL_ENTRY) == !carried && (refusal == 0 || memcmp(&book, &before, sizeof book) == 0));
+    }
+    uint8_t m_5[15] = {0x60, 0x10};
+    memcpy(m_5 + 2, table[0].record, 13), m_5[4] = 0x66, m_5[5] = 0x82;
+    CHECK(no_entry(hb_next(m_5, 15, 0), HB_REFUSAL_ENTRY));
+    /* a riichi, a feed and a correction are entries, but not inside */
+    static const uint8_t others[][4] = {{0x60, 0x01}, {0x60, 0x50, 0x70}, {0x60, 0x60, 0x20}, {0x60, 0x60, 0x60, 0x20}};
+    for (size_t n = 0; n < COUNT_OF(others); n++)
+        CHECK_CASE(n, no_entry(hb_next(others[n], 4, 0), HB_REFUSAL_ENTRY));
+}
+
+/* Whether booking an entry of a log does to a book what a booking did: the refusal, and each byte of the book. */
+static int books_as(const uint8_t *part, size_t length, HbBook book, uint8_t refusal, HbBook after)
+{
+    uint8_t got = hb_book(&book, part, length);
+    return got == refusal && memcmp(&book, &after, sizeof book) == 0;
 }
 
 /* Each kind of entry booked: what its booking gives, in a fresh game, with a riichi declared, and over. */
 static void booked_entries(void)
 {
-    HbGame games[3] = {hb_fresh(), hb_fresh(), hb_fresh()};
+    HbBook books[3] = {hb_fresh(), hb_fresh(), hb_fresh()};
     uint8_t riichi_entry[14] = {0x10};
     memcpy(riichi_entry + 1, with_riichi, 13);
-    CHECK(hb_riichi(&games[1], 1) == 0);
-    games[2].over = 1;
-    CHECK(hb_feed(&games[1], 2, 0, HB_YAKU_SUUSHIIHOU) == 0);
+    CHECK(hb_riichi(&books[1], 1) == 0);
+    books[2].game.over = 1;
+    CHECK(hb_feed(&books[1], 2, 0, HB_YAKU_SUUSHIIHOU) == 0);
     for (size_t n = 0; n < 3; n++) {
-        HbGame after;
+        HbBook after;
         uint8_t refusal;
         for (int byte = 0; byte < 256; byte += 8) {
             uint8_t feed[] = {0x50, (uint8_t)byte, 0x07};
-            after = games[n], refusal = hb_feed(&after, (uint8_t)(byte / 64), (uint8_t)(byte / 16 % 4), (uint8_t)(28 + byte / 8 % 2));
-            CHECK_CASE(byte, books_as(feed, 2, games[n], refusal, after) && books_as(feed, 3, games[n], refusal, after));
+            after = books[n], refusal = hb_feed(&after, (uint8_t)(byte / 64), (uint8_t)(byte / 16 % 4), (uint8_t)(28 + byte / 8 % 2));
+            CHECK_CASE(byte, books_as(feed, 2, books[n], refusal, after) && books_as(feed, 3, books[n], refusal, after));
         }
         for (uint8_t argument = 0; argument < 16; argument++) {
             uint8_t header[] = {argument, (uint8_t)(0x20 + argument), (uint8_t)(0x30 + argument)};
-            after = games[n], refusal = hb_riichi(&after, argument);
-            CHECK_CASE(argument, books_as(header, 1, games[n], refusal, after));
-            after = games[n], refusal = hb_draw(&after, argument);
-            CHECK_CASE(argument, books_as(header + 1, 1, games[n], refusal, after));
-            after = games[n], refusal = hb_chombo(&after, argument);
-            CHECK_CASE(argument, books_as(header + 2, 1, games[n], refusal, after));
+            after = books[n], refusal = hb_riichi(&after, argument);
+            CHECK_CASE(argument, books_as(header, 1, books[n], refusal, after));
+            after = books[n], refusal = hb_draw(&after, argument);
+            CHECK_CASE(argument, books_as(header + 1, 1, books[n], refusal, after));
+            after = books[n], refusal = hb_chombo(&after, argument);
+            CHECK_CASE(argument, books_as(header + 2, 1, books[n], refusal, after));
         }
-        after = games[n], refusal = hb_win(&after, table[0].record, 13);
-        CHECK_CASE(n, books_as(win_entry, 14, games[n], refusal, after));
-        CHECK_CASE(n, books_as(win_entry, 16, games[n], refusal, after)); /* the first entry of several */
-        after = games[n], refusal = hb_win(&after, with_riichi, 13);
-        CHECK_CASE(n, books_as(riichi_entry, 14, games[n], refusal, after));
+        after = books[n], refusal = hb_win(&after, table[0].record, 13);
+        CHECK_CASE(n, books_as(win_entry, 14, books[n], refusal, after));
+        CHECK_CASE(n, books_as(win_entry, 16, books[n], refusal, after)); /* the first entry of several */
+        after = books[n], refusal = hb_win(&after, with_riichi, 13);
+        CHECK_CASE(n, books_as(riichi_entry, 14, books[n], refusal, after));
     }
-    CHECK(books_as(win_entry, 14, games[1], HB_REFUSAL_RIICHI, games[1]));
-    CHECK(book_byte(&games[1], 0x01) == HB_REFUSAL_DECLARED);
-    CHECK(book_byte(&games[1], 0x04) == HB_REFUSAL_ARGUMENT && book_byte(&games[1], 0x3f) == HB_REFUSAL_ARGUMENT);
-    CHECK(book_byte(&games[2], 0x04) == HB_REFUSAL_ARGUMENT && book_byte(&games[2], 0x20) == HB_REFUSAL_NOT_OPEN);
+    CHECK(books_as(win_entry, 14, books[1], HB_REFUSAL_RIICHI, books[1]));
+    CHECK(book_byte(&books[1], 0x01) == HB_REFUSAL_DECLARED);
+    CHECK(book_byte(&books[1], 0x04) == HB_REFUSAL_ARGUMENT && book_byte(&books[1], 0x3f) == HB_REFUSAL_ARGUMENT);
+    CHECK(book_byte(&books[2], 0x04) == HB_REFUSAL_ARGUMENT && book_byte(&books[2], 0x20) == HB_REFUSAL_NOT_OPEN);
 }
 
 /* Entries whose record is refused, and each way to refusal 14, in an open game and one that is over, with any marks. */
 static void refused_entries(void)
 {
-    HbGame fresh = hb_fresh(), game = fresh, over = fresh;
+    HbBook fresh = hb_fresh(), book = fresh, over = fresh;
     for (size_t n = 0; n < COUNT_OF(unsound); n++) {
         size_t length;
         uint8_t *record = unsound_record(n, &length);
         uint8_t wanted = unsound[n].refusal == HB_REFUSAL_LENGTH ? HB_REFUSAL_ENTRY : unsound[n].refusal;
-        CHECK_CASE(n, book_win(&game, record, length) == wanted && memcmp(&game, &fresh, sizeof game) == 0);
+        CHECK_CASE(n, book_win(&book, record, length) == wanted && memcmp(&book, &fresh, sizeof book) == 0);
         free(record);
     }
-    CHECK(book_win(&game, table[6].record, 12) == HB_REFUSAL_NO_YAKU && memcmp(&game, &fresh, sizeof game) == 0);
-    CHECK(book_win(&game, table[9].record, 13) == HB_REFUSAL_NO_READING && memcmp(&game, &fresh, sizeof game) == 0);
+    CHECK(book_win(&book, table[6].record, 12) == HB_REFUSAL_NO_YAKU && memcmp(&book, &fresh, sizeof book) == 0);
+    CHECK(book_win(&book, table[9].record, 13) == HB_REFUSAL_NO_READING && memcmp(&book, &fresh, sizeof book) == 0);
 
-    over.over = 0x80, over.declared[0] = 3, over.declared[3] = 0xff;
-    const HbGame *each[] = {&fresh, &over};
+    over.game.over = 0x80, over.game.declared[0] = 3, over.game.declared[3] = 0xff;
+    const HbBook *each[] = {&fresh, &over};
     for (size_t n = 0; n < 2; n++) {
         uint8_t part[14];
         for (size_t length = 0; length < 14; length++) {
@@ -1498,24 +1890,24 @@ static void refused_entries(void)
 static void marked_entries(void)
 {
     static const uint8_t set[4] = {0, 1, 1, 0}, cleared[4] = {0, 0, 0, 0};
-    HbGame game = hb_fresh(), before;
-    game.declared[2] = 2, game.sticks = 1, game.scores[2] -= 1000;
-    before = game;
-    CHECK(book_byte(&game, 0x02) == HB_REFUSAL_DECLARED && memcmp(&game, &before, sizeof game) == 0);
-    CHECK(book_byte(&game, 0x2d) == 0 && game.sticks == 0 && game.scores[2] == 21000);
-    CHECK(memcmp(game.declared, cleared, sizeof cleared) == 0);
-    game = before;
-    CHECK(book_win(&game, with_riichi, 13) == HB_REFUSAL_RIICHI && memcmp(&game, &before, sizeof game) == 0);
-    CHECK(book_byte(&game, 0x01) == 0 && game.sticks == 2 && memcmp(game.declared, set, sizeof set) == 0);
-    CHECK(book_win(&game, with_riichi, 13) == 0 && game.sticks == 0 && memcmp(game.declared, cleared, sizeof cleared) == 0);
-    game = before;
-    CHECK(book_byte(&game, 0x22) == 0 && game.sticks == 1 && memcmp(game.declared, cleared, sizeof cleared) == 0);
+    HbBook book = hb_fresh(), before;
+    book.game.declared[2] = 2, book.game.sticks = 1, book.game.scores[2] -= 1000;
+    before = book;
+    CHECK(book_byte(&book, 0x02) == HB_REFUSAL_DECLARED && memcmp(&book, &before, sizeof book) == 0);
+    CHECK(book_byte(&book, 0x2d) == 0 && book.game.sticks == 0 && book.game.scores[2] == 21000);
+    CHECK(memcmp(book.game.declared, cleared, sizeof cleared) == 0);
+    book = before;
+    CHECK(book_win(&book, with_riichi, 13) == HB_REFUSAL_RIICHI && memcmp(&book, &before, sizeof book) == 0);
+    CHECK(book_byte(&book, 0x01) == 0 && book.game.sticks == 2 && memcmp(book.game.declared, set, sizeof set) == 0);
+    CHECK(book_win(&book, with_riichi, 13) == 0 && book.game.sticks == 0 && memcmp(book.game.declared, cleared, sizeof cleared) == 0);
+    book = before;
+    CHECK(book_byte(&book, 0x22) == 0 && book.game.sticks == 1 && memcmp(book.game.declared, cleared, sizeof cleared) == 0);
 }
 
-/* Whether two walks stand alike; the game byte for byte. */
+/* Whether two walks stand alike; the book byte for byte. */
 static int same_walk(const HbWalk *one, const HbWalk *two)
 {
-    return memcmp(&one->game, &two->game, sizeof one->game) == 0 && one->at == two->at && one->entry == two->entry;
+    return memcmp(&one->book, &two->book, sizeof one->book) == 0 && one->at == two->at && one->entry == two->entry;
 }
 
 /* Books the entry where a walk stands, by hb_next and hb_book, and writes its line by hb_line. Gives the line's length, or 0
@@ -1525,11 +1917,11 @@ static size_t step(HbWalk *walk, const uint8_t *log, size_t length, uint8_t *tex
     HbNextEntry entry = hb_next(log, length, walk->at);
     if (entry.refusal || entry.end)
         return 0;
-    HbGame game = walk->game;
-    uint8_t refusal = hb_book(&game, log + walk->at, entry.length);
-    size_t line = hb_line(&game, text, room, walk->entry, entry.letter, refusal);
+    HbBook book = walk->book;
+    uint8_t refusal = hb_book(&book, log + walk->at, entry.length);
+    size_t line = hb_line(&book.game, text, room, walk->entry, entry.letter, refusal);
     if (line)
-        walk->game = game, walk->at += entry.length, walk->entry++;
+        walk->book = book, walk->at += entry.length, walk->entry++;
     return line;
 }
 
@@ -1570,13 +1962,13 @@ static size_t tally(const uint8_t *log, size_t length, size_t room, uint8_t *tex
 /* A walk at its start. */
 static void starts(void)
 {
-    HbGame fresh = hb_fresh();
+    HbBook fresh = hb_fresh();
     HbWalk walk = hb_start();
-    CHECK(memcmp(&walk.game, &fresh, sizeof fresh) == 0 && walk.at == 0 && walk.entry == 1);
+    CHECK(memcmp(&walk.book, &fresh, sizeof fresh) == 0 && walk.at == 0 && walk.entry == 1);
 }
 
 /* Document 01's log 01 24, one with a win, refused bookings and a bad entry at its end, one with a counter, one with feeds,
- * one with sets of rons, and one with a riichi of a seat that has no points for it. */
+ * one with sets of rons, one with a riichi of a seat that has no points for it, and one with corrections. */
 static void logs(void)
 {
     static const int32_t after[] = {29000, 32000, 29000, 29000};
@@ -1589,7 +1981,7 @@ static void logs(void)
     uint8_t text[HB_LINE_MAX], log[18];
     HbPrinted printed = hb_lines(hb_start(), example, 2, text, sizeof text);
     CHECK(printed.written == sizeof lines - 1 && memcmp(text, lines, sizeof lines - 1) == 0);
-    CHECK(is_game(&printed.walk.game, after, 1, 1, HB_ROUND_EAST, 1) && printed.walk.at == 2 && printed.walk.entry == 3);
+    CHECK(is_game(&printed.walk.book, after, 1, 1, HB_ROUND_EAST, 1) && printed.walk.at == 2 && printed.walk.entry == 3);
     HbPrinted again = hb_lines(printed.walk, example, 2, text, sizeof text);
     CHECK(again.written == 0 && same_walk(&again.walk, &printed.walk));
 
@@ -1617,10 +2009,17 @@ static void logs(void)
     uint8_t of_sticks[33] = {0x31, 0x31, 0x31, 0x31, 0x01, 0x10}, seven[7 * HB_LINE_MAX];
     memcpy(of_sticks + 6, with_riichi, 13), memcpy(of_sticks + 19, win_entry, 14);
     CHECK(tally(of_sticks, 33, 7 * HB_LINE_MAX, seven) == sizeof broke - 1 && memcmp(seven, broke, sizeof broke - 1) == 0);
+
+    /* a draw put right by a win of the declared seat, that by a chombo; a riichi, and one too late; a riichi inside is 14 */
+    static const char corrected[] = "1 R 0 30000 29000 30000 30000 1\n2 D 0 29000 32000 29000 29000 1\n3 X 0 30000 33900 30000 26100 0\n"
+                                    "4 X 0 33000 33000 33000 21000 0\n5 R 0 33000 33000 32000 21000 1\n6 X 20 33000 33000 32000 21000 1\n";
+    uint8_t of_corrections[24] = {0x01, 0x24, 0x60, 0x10}, tail[] = {0x60, 0x33, 0x02, 0x60, 0x2f, 0x60, 0x02};
+    memcpy(of_corrections + 4, with_riichi, 13), memcpy(of_corrections + 17, tail, sizeof tail);
+    CHECK(tally(of_corrections, 24, 6 * HB_LINE_MAX, seven) == sizeof corrected - 1 && memcmp(seven, corrected, sizeof corrected - 1) == 0);
 }
 
 /* A log of many entries, to the game's end and past it, and a bad one last. Gives its length. */
-enum { ROUNDS = 120, PER_ROUND = 22, ENTRIES = 8 };
+enum { ROUNDS = 160, PER_ROUND = 26, ENTRIES = 10 };
 static size_t many(uint8_t *log)
 {
     size_t length = 0;
@@ -1634,7 +2033,11 @@ static size_t many(uint8_t *log)
         log[length++] = (uint8_t)(0x20 + round % 16);/* draw, refused where seat 1 is not ready */
         log[length++] = 0x28;
         log[length++] = (uint8_t)(0x30 + round % 4);
+        log[length++] = 0x60;                        /* that chombo put right by a draw */
+        log[length++] = (uint8_t)(0x20 + round % 16);
         log[length++] = (uint8_t)(0x30 + round % 6);
+        log[length++] = 0x60;                        /* and by another chombo, of seat 4 refused */
+        log[length++] = (uint8_t)(0x30 + round % 5);
     }
     log[length++] = 0x17;
     return length;
@@ -1651,7 +2054,7 @@ static void many_lines(void)
     HbWalk last = hb_start(), walk;
     while ((line = step(&last, log, length, whole + used, sizeof whole - used)) != 0)
         used += line, entries++;
-    CHECK(entries == ENTRIES * ROUNDS && last.at == length - 1 && last.entry == ENTRIES * ROUNDS + 1 && last.game.over == 1);
+    CHECK(entries == ENTRIES * ROUNDS && last.at == length - 1 && last.entry == ENTRIES * ROUNDS + 1 && last.book.game.over == 1);
     for (size_t n = 0; n < COUNT_OF(rooms); n++)
         CHECK_CASE(rooms[n], tally(log, length, rooms[n], text) == used && memcmp(text, whole, used) == 0);
 
@@ -1691,8 +2094,10 @@ static void walks_by_value(void)
 {
     static const uint8_t log[] = {0x01, 0x24};
     static const char line[] = "4000000000 D 9 1 -2 2147483647 -2147483648 4294967295\n";
-    const HbGame odd = {{1, -2, INT32_MAX, INT32_MIN}, UINT32_MAX, {6, 0x87, 0, 0xff}, 10, 11, 12, 0, 0xa1b2c3d4,
-                        {21, 0, 23, 0xfe, 25, 26, 0x80, 28}};
+    const HbBook odd = {{{1, -2, INT32_MAX, INT32_MIN}, UINT32_MAX, {6, 0x87, 0, 0xff}, 10, 11, 12, 0, 0xa1b2c3d4,
+                         {21, 0, 23, 0xfe, 25, 26, 0x80, 28}},
+                        {{INT32_MIN, 30, -31, INT32_MAX}, 0xe5f60718, {0, 33, 0xfd, 35}, 36, 37, 38, 39, 0x293a4b5c,
+                         {41, 42, 0, 44, 45, 0xff, 47, 48}}, 0x6d7e8f90};
     const HbWalk before = {odd, 1, 4000000000u}, after = {odd, 2, 4000000001u};
     uint8_t text[HB_LINE_MAX];
     HbPrinted printed = hb_lines(before, log, 2, text, sizeof text);
@@ -1700,7 +2105,7 @@ static void walks_by_value(void)
     CHECK(same_walk(&printed.walk, &after));
 
     HbWalk past = {odd, SIZE_MAX - 5, 14};
-    past.game.over = 0xfe;
+    past.book.game.over = 0xfe;
     for (size_t at = 2; at < 5; at++) {
         HbWalk walk = past;
         walk.at = at == 4 ? past.at : at;
@@ -1738,7 +2143,7 @@ static void line_in_buffers(const HbGame *game, uint32_t entry, uint8_t letter, 
 /* The shortest line of a game and the longest of any. */
 static void lines(void)
 {
-    HbGame game = hb_fresh();
+    HbGame game = hb_fresh().game;
     line_in_buffers(&game, 1, HB_LETTER_CHOMBO, 9, "1 C 9 30000 30000 30000 30000 0\n");
     for (size_t seat = 0; seat < 4; seat++)
         game.scores[seat] = INT32_MIN;
@@ -1751,7 +2156,7 @@ static void lines(void)
 static void empty_slices(void)
 {
     uint8_t byte = 0x5a;
-    HbGame fresh = hb_fresh(), game = fresh;
+    HbBook fresh = hb_fresh(), book = fresh;
     HbReadHand read = hb_read(&byte, 0);
     HbScored scored = hb_score(&byte, 0, 0, 0);
     HbWritten written = hb_write(hb_read(table[0].record, 13).hand, &byte, 0);
@@ -1764,17 +2169,23 @@ static void empty_slices(void)
     CHECK(hb_cards(0, 2, &byte, 0).refusal == HB_REFUSAL_CARDS);
     CHECK(hb_judge(&byte, 0, &byte, 0, 0, 0).refusal == HB_REFUSAL_LENGTH);
     CHECK(hb_judge(table[0].record, 13, &byte, 0, 0, 0).refusal == HB_REFUSAL_CLAIM);
-    CHECK(hb_win(&game, &byte, 0) == HB_REFUSAL_LENGTH && memcmp(&game, &fresh, sizeof game) == 0);
-    CHECK(hb_many(&game, 1, &byte, 0) == HB_REFUSAL_LENGTH && hb_many(&game, 0, &byte, 0) == HB_REFUSAL_MANY);
-    CHECK(memcmp(&game, &fresh, sizeof game) == 0);
+    CHECK(hb_win(&book, &byte, 0) == HB_REFUSAL_LENGTH && memcmp(&book, &fresh, sizeof book) == 0);
+    CHECK(hb_many(&book, 1, &byte, 0) == HB_REFUSAL_LENGTH && hb_many(&book, 0, &byte, 0) == HB_REFUSAL_MANY);
+    CHECK(hb_correct_win(&book, &byte, 0) == HB_REFUSAL_SUPERSEDE && hb_correct_many(&book, 1, &byte, 0) == HB_REFUSAL_SUPERSEDE);
+    CHECK(memcmp(&book, &fresh, sizeof book) == 0);
+    HbBook drawn = fresh, before;
+    CHECK(hb_draw(&drawn, 0) == 0);
+    before = drawn;
+    CHECK(hb_correct_win(&drawn, &byte, 0) == HB_REFUSAL_LENGTH && hb_correct_many(&drawn, 1, &byte, 0) == HB_REFUSAL_LENGTH);
+    CHECK(hb_correct_many(&drawn, 0, &byte, 0) == HB_REFUSAL_MANY && memcmp(&drawn, &before, sizeof drawn) == 0);
     CHECK(no_entry(hb_next(&byte, 0, 0), 0));
-    CHECK(hb_book(&game, &byte, 0) == HB_REFUSAL_ENTRY && memcmp(&game, &fresh, sizeof game) == 0);
+    CHECK(hb_book(&book, &byte, 0) == HB_REFUSAL_ENTRY && memcmp(&book, &fresh, sizeof book) == 0);
     HbWalk start = hb_start();
     uint8_t entry = 0x01;
     HbPrinted no_log = hb_lines(start, &entry, 0, &byte, 1), no_buffer = hb_lines(start, &entry, 1, &byte, 0);
     CHECK(no_log.written == 0 && same_walk(&no_log.walk, &start));
     CHECK(no_buffer.written == 0 && same_walk(&no_buffer.walk, &start));
-    CHECK(hb_line(&game, &byte, 0, 1, HB_LETTER_RIICHI, 0) == 0);
+    CHECK(hb_line(&book.game, &byte, 0, 1, HB_LETTER_RIICHI, 0) == 0);
     CHECK(byte == 0x5a);
 }
 
@@ -1803,7 +2214,14 @@ int main(void)
     lowest_of_all();
     not_ready();
     ends();
+    corrections();
+    given_back();
+    none_to_supersede();
+    refused_corrections();
+    corrected_ends();
+    lent_books();
     entries();
+    correction_entries();
     booked_entries();
     refused_entries();
     marked_entries();

@@ -4,11 +4,11 @@
 It runs the program `vectors` (made by `rt check vectors`) on hands of crates/vectors/stdin. A figure is that of one entry: reading
 54 bytes, Score, and comparing. Mean: over the first 10,000 entries. Costliest found: the hands are measured in blocks, and those of the
 three costliest blocks one by one, so a costly hand among cheap ones can be missed.
-Stack: of hb_score, hb_win and hb_many the deepest chain of calls in the archive (`rt staticlib handset`), by their frames; the search recurses
+Stack: of hb_score, hb_win, hb_many and hb_correct_many the deepest chain of calls in the archive (`rt staticlib handset`), by their frames; the search recurses
 five deep at most, the settling of records three deep.
 Slip: what hb_slip takes beyond hb_score, by a C program over the archive (`rt staticlib handset`). Bookings: what hb_win takes beyond
-hb_score, of a yakuman that was fed too, what hb_many of one to three records takes beyond their Scores, and what hb_feed takes, by
-another, with the copy of the game. Waits: what hb_waits takes, by another, over hands drawn from a wall, hands of one suit and hands
+hb_score, of a yakuman that was fed too, what hb_many of one to three records takes beyond their Scores, what hb_feed takes and
+what a correction of a draw takes, by another, with the copy of the book. Waits: what hb_waits takes, by another, over hands drawn from a wall, hands of one suit and hands
 one tile short of groups, 1,000 each from a fixed seed, and over hands of 3 to 5 neighbouring numbers, the widest searches that a climb
 over hands found. Ready: what hb_ready takes, over 100 of each of those sets, and the frame of hb_ready in that program, with the one
 under it; what the C library takes is left out.
@@ -101,14 +101,18 @@ int main(int argc, char **argv) {
     uint8_t records[39];
     int length = strlen(argv[3]) / 2;
     for (int i = 0; i < length; i++) { char two[3] = {argv[3][2 * i], argv[3][2 * i + 1]}; records[i] = strtol(two, 0, 16); }
-    HbGame start = hb_fresh();
+    HbBook start = hb_fresh();
     if (argc > 4) hb_feed(&start, 1, 3, 28);
-    for (int n = atoi(argv[1]), what = atoi(argv[2]); n > 0; n--) {
-        HbGame game = start;
+    int what = atoi(argv[2]);
+    if (what > 3) hb_draw(&start, 0);
+    for (int n = atoi(argv[1]); n > 0; n--) {
+        HbBook book = start;
         if (what == 0   ? hb_score(records, 13, 0, 0).refusal
-            : what == 1 ? hb_win(&game, records, 13)
-            : what == 2 ? hb_feed(&game, 2, 3, 29)
-                        : hb_many(&game, length / 13, records, length)) return 1;
+            : what == 1 ? hb_win(&book, records, 13)
+            : what == 2 ? hb_feed(&book, 2, 3, 29)
+            : what == 3 ? hb_many(&book, length / 13, records, length)
+            : what == 4 ? hb_correct_win(&book, records, 13)
+                        : hb_correct_draw(&book, 15)) return 1;
     }
     return 0;
 }
@@ -117,7 +121,7 @@ int main(int argc, char **argv) {
 
 def bookings():
     """What booking a win takes beyond its Score, for line 1 of the table of hands and for three dragon triplets that were fed; the same of sets of
-    line 1's hand, won by seats 1, 2 and 0; what a feed takes."""
+    line 1's hand, won by seats 1, 2 and 0; what a feed takes, and a correction of a draw by line 1's win and by another draw."""
     with tempfile.TemporaryDirectory() as d:
         run = compiled(d, BOOKINGS)
 
@@ -130,6 +134,8 @@ def bookings():
             scores = sum(each(0, record) for record in won[:number])
             print(f"set of {number}: {each(3, ''.join(won[:number])) - scores} instructions beyond its Scores, {scores}")
         print(f"feed: {each(2, '00' * 13)} instructions")
+        line = "b81e640210620a31661a9a6bb0"
+        print(f"correction of a draw: {each(4, line) - each(0, line)} instructions beyond its Score by a win, {each(5, line)} by a draw")
 
 
 WAITS = """#include "herbassolh.h"
@@ -283,14 +289,15 @@ def frames(name):
 
 STACKS = """#include "herbassolh.h"
 int main(int argc, char **argv) {
-    HbGame game = hb_fresh();
-    return hb_score((uint8_t *)argv[0], argc, 0, 0).refusal + hb_win(&game, (uint8_t *)argv[0], argc) + hb_many(&game, 2, (uint8_t *)argv[0], argc);
+    HbBook book = hb_fresh();
+    return hb_score((uint8_t *)argv[0], argc, 0, 0).refusal + hb_win(&book, (uint8_t *)argv[0], argc) + hb_many(&book, 2, (uint8_t *)argv[0], argc)
+        + hb_correct_many(&book, 2, (uint8_t *)argv[0], argc);
 }
 """
 
 
 def stack():
-    """The stack that Score, Win and Many take, by the frames of the archive: the deepest chain of calls, of those that recurse as often as they can."""
+    """The stack that Score, Win, Many and its correction take, by the frames of the archive: the deepest chain of calls, of those that recurse as often as they can."""
     most = {"search::split": 5, "sets::settle_all": 3}
     with tempfile.TemporaryDirectory() as d:
         compiled(d, STACKS)
@@ -301,7 +308,7 @@ def stack():
             return 0, []
         size, chain = max((deepest(c, above + [name]) for c in calls[name] if c in sizes), default=(0, []))
         return sizes[name] + size, [name] + chain
-    for call in ("hb_score", "hb_win", "hb_many"):
+    for call in ("hb_score", "hb_win", "hb_many", "hb_correct_many"):
         size, chain = deepest(call, [])
         print(f"stack of {call}: {size} bytes: " + ", ".join(f"{chain.count(n)} times {n} {sizes[n]}" if chain.count(n) > 1 else f"{n} {sizes[n]}" for n in dict.fromkeys(chain)))
 

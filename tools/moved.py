@@ -48,7 +48,7 @@ def proofs(revisions, said):
     for line in listed.splitlines():
         sign, *paths = [p.removeprefix("crates/") for p in line.split("\t")]
         touched += sign != "D"
-        what = {"A": "new", "D": "gone", "R": "moved", "M": "changed"}[sign[0]]
+        what = {"A": "new", "C": "new", "D": "gone", "R": "moved", "M": "changed"}[sign[0]]
         said.setdefault(("proof", what), []).append(" to ".join(paths))
     listing = ["ls-tree", "-r", "--name-only", revisions[1]] if revisions[1:] else ["ls-files"]
     now = subprocess.run(git + listing, capture_output=True, text=True, check=True).stdout.splitlines()

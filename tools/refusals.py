@@ -4,7 +4,8 @@
 - the page: each call's row lists the numbers that name it under "given by" ("none" where none does), and the reverse; numbers ascend;
 - include/herbassolh.h: the names and numbers of HB_REFUSAL_*, with the paper's words as comment; each call has a row, and the comment before
   it gives its refusals in the row's order ("refusals 8, 1 to 7 in order"), or none; where the row ends with "then its booking's", those of
-  each booking too, in the order of the booking's row (without those that no entry meets: of a win 1, of a many 1 and its first 17, ..);
+  each booking too, in the order of the booking's row (without those that no entry meets: of a win 1, of a many 1 and its first 17, ..), and of
+  a correction 9 and 20, which are first in the row of each correction, before those of the booking that it carries;
 - docs/RECORDS.md names the page and has no table of refusals of its own; docs/*.md and README.md name no number that the page lacks;
 - the tester's tool: a Rust function `refusal` that gives words for numbers (N => "words") has those of the column "in the tool";
 - with the papers' files as arguments: each quotation is in one of them, word for word."""
@@ -19,6 +20,8 @@ PAGE = "docs/REFUSALS.md"
 HEADER = "include/herbassolh.h"
 BOOKINGS = ("Riichi", "Win", "Draw", "Chombo", "Many", "Feed")
 LEFT_OUT = [("Win", 1), ("Draw", 8), ("Many", 1), ("Feed", 8)]  # of an entry's booking
+CARRIED = ("Win", "Draw", "Chombo", "Many")  # by a correction
+CORRECTION = [9, 20]  # its refusals before those of the booking that it carries
 
 
 def plain(text):
@@ -49,6 +52,10 @@ def check_page(calls, refusals):
         yield f"{PAGE}: numbers {list(refusals)}"
     for call, (_, order, _) in calls.items():
         yield from (f"{PAGE}: {call} gives {n}, which has no row" for n in order if n not in refusals)
+    for booking in CARRIED:
+        here, wanted = calls[f"Correct {booking.lower()}"][1], CORRECTION + calls[booking][1]
+        if here != wanted:
+            yield f"{PAGE}: Correct {booking.lower()} gives {here}; by the row of {booking} it is {wanted}"
 
 
 def check_entry(comment, call, calls):
@@ -58,6 +65,7 @@ def check_entry(comment, call, calls):
     for booking in BOOKINGS:
         order = calls[booking][1]  # the first of a number that is there twice is about an argument that fits in an entry
         wanted[booking.lower()] = [n for k, n in enumerate(order) if (booking, n) not in LEFT_OUT and n not in order[k + 1:]]
+    wanted["correction"] = CORRECTION
     if said != wanted:
         yield f"{HEADER}: {call} says refusals {said}; by the rows of {PAGE} they are {wanted}"
 

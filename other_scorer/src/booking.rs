@@ -1,4 +1,4 @@
-//! A booking and its log entry (01, The game; Log; 02, S-6 and S-8).
+//! A booking and its log entry (01, The game; Log; 02, S-6, S-8 and S-10).
 
 use crate::fed::WINDS;
 
@@ -13,11 +13,23 @@ pub enum Booking {
     Many { number: u8, records: Vec<u8> },
     /// Who fed whom with which yaku (02, S-8).
     Feed { holder: u8, feeder: u8, yaku: u8 },
+    /// A win, draw, chombo or set that supersedes the last finished booking (02, S-10).
+    Correction(Box<Booking>),
 }
 
 impl Booking {
-    /// The entry's bytes: header, and the record of a win, those of a set, or the byte of a feed; an argument that does not fit has no
-    /// entry (01, Log; 02, S-6 and S-8).
+    /// A correction that carries this booking (02, S-10).
+    pub fn as_correction(self) -> Booking {
+        Booking::Correction(Box::new(self))
+    }
+
+    /// Whether it finishes a hand, if accepted (01, The game; 02, S-6, S-8 and S-10).
+    pub fn finishes(&self) -> bool {
+        !matches!(self, Booking::Riichi(_) | Booking::Feed { .. })
+    }
+
+    /// The entry's bytes: header, and the record of a win, those of a set, the byte of a feed, or the entry that a correction carries; an
+    /// argument that does not fit has no entry (01, Log; 02, S-6, S-8 and S-10).
     pub fn bytes(&self) -> Vec<u8> {
         match self {
             Booking::Riichi(seat) => vec![seat & 15],
@@ -26,6 +38,7 @@ impl Booking {
             Booking::Chombo(seat) => vec![0x30 | seat & 15],
             Booking::Many { number, records } => [&[0x40 | number & 15], records.as_slice()].concat(),
             Booking::Feed { holder, feeder, yaku } => vec![0x50, holder << 6 | (feeder & 3) << 4 | ((*yaku == WINDS) as u8) << 3],
+            Booking::Correction(new) => [&[0x60], new.bytes().as_slice()].concat(),
         }
     }
 }

@@ -66,9 +66,14 @@ impl Game {
         ]
     }
 
+    /// Not out of form, over or not (01, The game, refusal 9).
+    pub fn is_in_form(&self) -> bool {
+        !self.form_faults().contains(&true)
+    }
+
     /// Neither over nor out of form (01, The game, refusal 9).
     pub fn is_open(&self) -> bool {
-        !self.over && self.hands != LAST_HAND && !self.form_faults().contains(&true)
+        !self.over && self.hands != LAST_HAND && self.is_in_form()
     }
 
     /// Whether a seat has the points of a stick; 1,000 exactly is enough (02, S-11).
@@ -289,7 +294,7 @@ pub fn feed(game: &mut Game, holder: u8, feeder: u8, yaku: u8) -> u8 {
     0
 }
 
-/// Books any of the six (01, The game; 02, S-6 and S-8).
+/// Books any of the six; a game alone has no result to supersede, so a correction is refused (01, The game; 02, S-6, S-8 and S-10).
 pub fn book(game: &mut Game, booking: &Booking) -> u8 {
     match booking {
         Booking::Riichi(seat) => riichi(game, *seat),
@@ -298,5 +303,7 @@ pub fn book(game: &mut Game, booking: &Booking) -> u8 {
         Booking::Chombo(seat) => chombo(game, *seat),
         Booking::Many { number, records } => many(game, *number, records),
         Booking::Feed { holder, feeder, yaku } => feed(game, *holder, *feeder, *yaku),
+        Booking::Correction(_) if !game.is_in_form() => 9,
+        Booking::Correction(_) => 20,
     }
 }

@@ -1,9 +1,9 @@
-//! The ledger: a second bookkeeping, from the bookings' arguments alone (01, Ledger; 02, S-5 to S-8 and S-11).
+//! The ledger: a second bookkeeping, from the bookings' arguments alone (01, Ledger; 02, S-5 to S-8, S-10 and S-11).
 //! It shares only the scoring of a win with the game.
 
 use std::collections::{BTreeMap, BTreeSet};
 
-use crate::booking::Booking::{self, Chombo, Draw, Feed, Many, Riichi, Win};
+use crate::booking::Booking::{self, Chombo, Correction, Draw, Feed, Many, Riichi, Win};
 use crate::codec::read;
 use crate::fed;
 use crate::score::score;
@@ -20,6 +20,8 @@ pub struct Ledger {
     pub counter: i64,
     /// The feeder of each holder and yaku that are named (02, S-8).
     pub fed: BTreeMap<(u8, u8), u8>,
+    /// Where the last accepted booking finished a hand: the ledger before it, without what that one kept (02, S-10).
+    pub earlier: Option<Box<Ledger>>,
 }
 
 /// The seats set in a draw's four bits, seat 0 first (01, Draw).
@@ -85,12 +87,12 @@ fn winners(booking: &Booking) -> Vec<u8> {
 impl Ledger {
     /// The ledger before any booking (01, Ledger).
     pub fn fresh() -> Ledger {
-        let (scores, declared) = ([30_000; 4], BTreeSet::new());
-        Ledger { scores, sticks: 0, declared, dealer: 0, wind: 0, hands: 0, over: false, counter: 0, fed: BTreeMap::new() }
+        let (scores, declared, fed) = ([30_000; 4], BTreeSet::new(), BTreeMap::new());
+        Ledger { scores, sticks: 0, declared, dealer: 0, wind: 0, hands: 0, over: false, counter: 0, fed, earlier: None }
     }
 
-    /// Whether the ledger's game is closed: over, or out of form (01, The game, refusal 9).
-    fn is_closed(&self) -> bool {
+    /// Whether the ledger's game is out of form, or the earlier one that is kept (01, The game, refusal 9; 02, S-10).
+    fn is_out_of_form(&self) -> bool {
         let in_form = self.dealer <= 3
             && self.wind <= 1
             && self.hands <= 200
@@ -99,12 +101,12 @@ impl Ledger {
             && self.fed.iter().all(|((holder, _), feeder)| *feeder <= 3 && feeder != holder)
             && self.scores.iter().all(|&score| -28_540_000 <= score)
             && self.scores.iter().sum::<i64>() + 1000 * self.sticks == 120_000;
-        self.over || self.hands == 200 || !in_form
+        !in_form || self.earlier.as_ref().is_some_and(|earlier| earlier.is_out_of_form())
     }
 
-    /// The first listed refusal that a booking meets, 0 if none (01, The game; Ledger; 02, S-11).
+    /// The first listed refusal that a booking meets, 0 if none (01, The game; Ledger; 02, S-10 and S-11).
     pub fn refusal(&self, booking: &Booking) -> u8 {
-        let closed = self.is_closed();
+        let closed = self.over || self.hands == 200 || self.is_out_of_form();
         let met = match booking {
             Riichi(seat) => {
                 let short = self.scores.get(*seat as usize).is_some_and(|&score| score < 1000);
@@ -131,6 +133,10 @@ impl Ledger {
             Feed { holder, feeder, yaku } => {
                 let unfit = holder == feeder || *yaku < 28 || *yaku > 29 || self.fed.contains_key(&(*holder, *yaku));
                 vec![(8, *holder.max(feeder) > 3), (9, closed), (18, unfit)]
+            }
+            Correction(new) => {
+                let own = self.earlier.as_ref().map_or(20, |earlier| earlier.refusal(new));
+                vec![(9, self.is_out_of_form()), (own, true)]
             }
         };
         met.into_iter().find(|(_, holds)| *holds).map_or(0, |(number, _)| number)
@@ -172,7 +178,7 @@ impl Ledger {
         match booking {
             Chombo(seat) => BTreeSet::from([*seat]),
             Draw(bits) => &self.declared - &ready(*bits),
-            Riichi(_) | Win(_) | Many { .. } | Feed { .. } => BTreeSet::new(),
+            _ => BTreeSet::new(),
         }
     }
 
@@ -182,12 +188,11 @@ impl Ledger {
         3000 * faulty.len() as i64 - 12_000 * faulty.contains(&seat) as i64 + back
     }
 
-    /// What an accepted booking gives or costs a seat (01, Ledger; 02, S-5 to S-8).
+    /// What an accepted booking that is no correction gives or costs a seat (01, Ledger; 02, S-5 to S-8).
     fn moved(&self, booking: &Booking, seat: u8) -> i64 {
         let faulty = self.faulty(booking);
         match booking {
             Riichi(own) if *own == seat => -1000,
-            Riichi(_) | Feed { .. } => 0,
             Win(record) if winner(record) == seat => self.paid(record, seat) + 1000 * self.sticks,
             Win(record) => self.paid(record, seat),
             Many { number, records: bytes } => {
@@ -208,6 +213,7 @@ impl Ledger {
                 }
             }
             Draw(_) | Chombo(_) => self.fined(&faulty, seat),
+            _ => 0,
         }
     }
 
@@ -216,9 +222,9 @@ impl Ledger {
         match booking {
             Riichi(_) => self.sticks + 1,
             Win(_) | Many { .. } => 0,
-            Feed { .. } => self.sticks,
             Draw(_) if self.faulty(booking).is_empty() => self.sticks,
             Draw(_) | Chombo(_) => self.sticks - self.declared.len() as i64,
+            _ => self.sticks,
         }
     }
 
@@ -228,7 +234,7 @@ impl Ledger {
             Win(_) | Many { .. } if winners(booking).contains(&self.dealer) => self.counter + 1,
             Win(_) | Many { .. } => 0,
             Draw(_) if self.faulty(booking).is_empty() => self.counter + 1,
-            Riichi(_) | Draw(_) | Chombo(_) | Feed { .. } => self.counter,
+            _ => self.counter,
         }
     }
 
@@ -237,17 +243,20 @@ impl Ledger {
         match booking {
             Win(_) | Many { .. } => !winners(booking).contains(&self.dealer),
             Draw(bits) if self.faulty(booking).is_empty() => !ready(*bits).contains(&self.dealer),
-            Riichi(_) | Draw(_) | Chombo(_) | Feed { .. } => false,
+            _ => false,
         }
     }
 
-    /// The ledger after a booking, and the booking's number (01, Ledger).
+    /// The ledger after a booking, and the booking's number (01, Ledger; 02, S-10).
     pub fn after(&self, booking: &Booking) -> (Ledger, u8) {
         let number = self.refusal(booking);
         if number != 0 {
             return (self.clone(), number);
         }
-        let mut next = self.clone();
+        if let (Correction(new), Some(earlier)) = (booking, &self.earlier) {
+            return earlier.after(new);
+        }
+        let mut next = Ledger { earlier: None, ..self.clone() };
         next.scores = [0, 1, 2, 3].map(|seat| {
             self.scores[seat as usize] + self.moved(booking, seat)
         });
@@ -267,6 +276,7 @@ impl Ledger {
         let deal = 4 * self.wind + self.dealer + self.passes(booking) as u8;
         next.over = deal == 8 || next.hands == 200;
         (next.wind, next.dealer) = (deal.min(7) / 4, deal.min(7) % 4);
+        next.earlier = Some(Box::new(Ledger { earlier: None, ..self.clone() }));
         (next, 0)
     }
 

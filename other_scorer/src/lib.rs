@@ -21,6 +21,7 @@ pub mod win;
 pub mod yaku;
 pub mod yakuman;
 
+pub mod book;
 pub mod booking;
 pub mod fed;
 pub mod game;
@@ -40,6 +41,7 @@ pub mod rng;
 pub mod survey;
 pub mod themes;
 
+pub use book::Book;
 pub use booking::Booking;
 pub use codec::{read, write};
 pub use game::Game;

@@ -1,9 +1,9 @@
-//! Walking a log, and the lines of program tally (01, Log; 02, S-6 and S-8).
+//! Walking a log, and the lines of program tally (01, Log; 02, S-6, S-8 and S-10).
 
+use crate::book::Book;
 use crate::booking::Booking;
 use crate::codec::{length, meld_count};
 use crate::fed::{DRAGONS, WINDS};
-use crate::game::{book, Game};
 
 pub const RIICHI: u8 = 0;
 pub const WIN: u8 = 1;
@@ -11,6 +11,7 @@ pub const DRAW: u8 = 2;
 pub const CHOMBO: u8 = 3;
 pub const MANY: u8 = 4;
 pub const FEED: u8 = 5;
+pub const CORRECTION: u8 = 6;
 
 /// Program tally reads no bytes past this (01, Log).
 pub const LONGEST: usize = 65_536;
@@ -23,15 +24,17 @@ pub enum Next<'a> {
     Bad(u8),
 }
 
-/// The ways to meet refusal 14 in words, by the number that `size` gives (01, Next entry; 02, S-6 and S-8).
-pub const ENTRY_FAULTS: [&str; 7] = [
-    "kind over 5",
+/// The ways to meet refusal 14 in words, by the number that `size` gives (01, Next entry; 02, S-6, S-8 and S-10).
+pub const ENTRY_FAULTS: [&str; 9] = [
+    "kind over 6",
     "win argument not 0",
     "m over 4",
     "bytes missing",
     "feed argument not 0",
     "a zero bit of a feed set",
     "no records or over three",
+    "correction argument not 0",
+    "a correction of no win, draw, chombo or many",
 ];
 
 /// The length of the record that a stretch starts with; the error is how it is bad (01, Next entry).
@@ -42,7 +45,8 @@ fn record_size(rest: &[u8]) -> Result<usize, usize> {
     }
 }
 
-/// The length of the entry that a non-empty stretch starts with; the error is how it is bad (01, Next entry; 02, S-6 and S-8).
+/// The length of the entry that a non-empty stretch starts with; the error is how it is bad, of a correction's entry too (01, Next
+/// entry; 02, S-6, S-8 and S-10).
 pub fn size(rest: &[u8]) -> Result<usize, usize> {
     let size = match (rest[0] >> 4, rest[0] & 15) {
         (RIICHI | DRAW | CHOMBO, _) => 1,
@@ -61,6 +65,11 @@ pub fn size(rest: &[u8]) -> Result<usize, usize> {
             _ => return Err(5),
         },
         (FEED, _) => return Err(4),
+        (CORRECTION, 0) => match rest.get(1).ok_or(3usize)? >> 4 {
+            WIN | DRAW | CHOMBO | MANY => 1 + size(&rest[1..])?,
+            _ => return Err(8),
+        },
+        (CORRECTION, _) => return Err(7),
         _ => return Err(0),
     };
     if size <= rest.len() { Ok(size) } else { Err(3) }
@@ -78,7 +87,8 @@ pub fn next(log: &[u8], offset: usize) -> Next<'_> {
     }
 }
 
-/// The booking of an entry; a win's record, those of a set, or a feed's byte follow the header (01, Log; 02, S-6 and S-8).
+/// The booking of an entry; a win's record, those of a set, a feed's byte or the entry that a correction carries follow the header (01,
+/// Log; 02, S-6, S-8 and S-10).
 pub fn booking(kind: u8, argument: u8, part: &[u8]) -> Booking {
     match kind {
         RIICHI => Booking::Riichi(argument),
@@ -89,6 +99,7 @@ pub fn booking(kind: u8, argument: u8, part: &[u8]) -> Booking {
             let (seats, yaku) = (part[1] / 16, if part[1] % 16 / 8 == 0 { DRAGONS } else { WINDS });
             Booking::Feed { holder: seats / 4, feeder: seats % 4, yaku }
         }
+        CORRECTION => booking(part[1] >> 4, part[1] & 15, &part[1..]).as_correction(),
         _ => Booking::Chombo(argument),
     }
 }
@@ -109,7 +120,7 @@ pub fn bookings(log: &[u8]) -> (Vec<Booking>, u8) {
     }
 }
 
-/// The letter of a booking (01, Log; 02, S-6 and S-8).
+/// The letter of a booking (01, Log; 02, S-6, S-8 and S-10).
 pub fn letter(booking: &Booking) -> char {
     match booking {
         Booking::Riichi(_) => 'R',
@@ -118,18 +129,19 @@ pub fn letter(booking: &Booking) -> char {
         Booking::Chombo(_) => 'C',
         Booking::Many { .. } => 'M',
         Booking::Feed { .. } => 'P',
+        Booking::Correction(_) => 'X',
     }
 }
 
 /// What program tally prints for a log on standard input (01, Log).
 pub fn tally_lines(log: &[u8]) -> String {
     let (list, _) = bookings(&log[..log.len().min(LONGEST)]);
-    let mut game = Game::fresh();
+    let mut book = Book::fresh();
     let mut lines = String::new();
     for (at, booking) in list.iter().enumerate() {
-        let refusal = book(&mut game, booking);
-        let [a, b, c, d] = game.scores;
-        let (entry, letter, sticks) = (at + 1, letter(booking), game.sticks);
+        let refusal = book.book(booking);
+        let [a, b, c, d] = book.game().scores;
+        let (entry, letter, sticks) = (at + 1, letter(booking), book.game().sticks);
         lines += &format!("{entry} {letter} {refusal} {a} {b} {c} {d} {sticks}\n");
     }
     lines

@@ -17,7 +17,7 @@ use other_scorer::game::{book, FLOOR};
 use other_scorer::notation::parse;
 use other_scorer::points::{basic, ron, tsumo, YAKUMAN};
 use other_scorer::rng::Rng;
-use other_scorer::{Booking, Game};
+use other_scorer::{Book, Booking, Game};
 
 /// The lowest score that a list of bookings reaches.
 const LOWEST: i32 = -28_341_000;
@@ -131,14 +131,15 @@ fn no_list_undercuts_the_lowest_score() {
     let mut rng = Rng::new(31);
     let win = yakuman();
     for _ in 0..150 {
-        let mut game = Game::fresh();
+        let mut book = Book::fresh();
         for _ in 0..500 {
             let booking = match rng.below(10) {
                 0..=3 => win.clone(),
                 4..=6 => Booking::Riichi(1),
-                _ => chance::booking(&mut rng, &game, true),
+                _ => chance::booking(&mut rng, &book, true),
             };
-            book(&mut game, &booking);
+            book.book(&booking);
+            let game = book.game();
             assert!(game.counter <= game.hands as u32);
             for score in game.scores {
                 assert!(score >= lowest(game.hands as i32) && score >= LOWEST && score > FLOOR);

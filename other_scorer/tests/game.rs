@@ -1,10 +1,10 @@
-//! The six bookings: refusals in their order, points, deal, wind and mark (01, The game), the counter (02, S-5), sets of
-//! rons (02, S-6), seats that are not ready (02, S-7), feeders (02, S-8) and the points of a stick (02, S-11).
+//! The seven bookings: refusals in their order, points, deal, wind and mark (01, The game), the counter (02, S-5), sets of
+//! rons (02, S-6), seats that are not ready (02, S-7), feeders (02, S-8), corrections (02, S-10) and the points of a stick (02, S-11).
 
 use other_scorer::codec::pack;
 use other_scorer::game::{book, chombo, draw, feed, many, riichi, win, FLOOR};
 use other_scorer::notation::parse;
-use other_scorer::{Booking, Game};
+use other_scorer::{Book, Booking, Game};
 
 /// A record from notation.
 fn record(words: &[&str]) -> Vec<u8> {
@@ -629,5 +629,239 @@ fn article_67_holds_for_each_record_of_a_set() {
         feeds.iter().for_each(|&(holder, feeder)| assert_eq!(feed(&mut game, holder, feeder, 28), 0));
         assert_eq!(book(&mut game, &set(&records)), 0);
         assert_eq!((game.scores, game.feeders, game.sticks, game.total()), (scores, [0; 8], 0, 120_000), "{feeds:?}");
+    }
+}
+
+/// Results of each kind that a fresh game accepts, the seats that have declared not among the winners.
+fn results() -> Vec<Booking> {
+    vec![
+        Booking::Win(pinfu(1, 3, &[])),
+        Booking::Win(pinfu(0, 3, &[])),
+        yakuman(WINDS, 1, None),
+        Booking::Draw(0b1000),
+        Booking::Draw(0b0001),
+        Booking::Draw(0b0100),
+        Booking::Chombo(0),
+        Booking::Chombo(3),
+        set(&pinfus(&[1, 2], 3)),
+        set(&pinfus(&[0, 1], 2)),
+    ]
+}
+
+/// A book after bookings from a fresh one, each with its number.
+fn booked(list: &[(Booking, u8)]) -> Book {
+    let mut book = Book::fresh();
+    for (booking, number) in list {
+        let before = book.clone();
+        assert_eq!(book.book(booking), *number, "{booking:?}");
+        assert!(*number == 0 || book == before);
+    }
+    book
+}
+
+/// The number of a booking in a book, of which a refused one changes nothing.
+fn number_in(book: &Book, booking: Booking) -> u8 {
+    let mut after = book.clone();
+    let number = after.book(&booking);
+    assert!(number == 0 || after == *book);
+    number
+}
+
+/// Corrections of each kind.
+fn corrections() -> Vec<Booking> {
+    results().into_iter().map(Booking::as_correction).collect()
+}
+
+#[test]
+fn a_correction_is_as_if_the_superseded_booking_was_never_made() {
+    // A stick of seat 3 and a counter from the hand before; then riichi of seat 3 and feeders.
+    let first = [Booking::Riichi(3), Booking::Draw(0b0001), Booking::Riichi(3), fed(1, 0, 29), fed(2, 3, 28)];
+    for old in results() {
+        for new in results() {
+            let wanted = after(&[&first[..], std::slice::from_ref(&new)].concat());
+            let list: Vec<(Booking, u8)> = first.iter().cloned().chain([old.clone(), new.as_correction()]).map(|booking| (booking, 0)).collect();
+            let book = booked(&list);
+            assert_eq!(book.game(), &wanted, "{old:?}");
+            assert_eq!(book.earlier(), Some(after(&first)));
+            assert_eq!(book.replayed(), Some(wanted));
+        }
+    }
+}
+
+#[test]
+fn what_a_correction_gives_back() {
+    // Two sticks, two counters, the deal of seat 1, seats 0 and 2 declared, seat 3 named for seat 1's dragons.
+    let start = Game { scores: [29_000, 30_000, 29_000, 30_000], sticks: 2, declared: [true, false, true, false], dealer: 1, hands: 5, ..Game::fresh() };
+    let start = Game { counter: 2, feeders: [0, 4, 0, 0, 0, 0, 0, 0], ..start };
+    let mut book = Book::lent(start, None);
+    assert_eq!(book.book(&Booking::Win(pinfu(3, 1, &[]))), 0);
+    let won = *book.game();
+    assert_eq!((won.scores, won.sticks, won.declared), ([29_000, 27_400, 29_000, 34_600], 0, [false; 4]));
+    assert_eq!((won.dealer, won.hands, won.counter, won.feeders), (2, 6, 0, [0; 8]));
+    // It was the dealer, with dragons, by tsumo: seat 3, who fed them, pays 48,000 and 600; the sticks are the dealer's, and the deal stays.
+    assert_eq!(book.book(&yakuman(DRAGONS, 1, None).as_correction()), 0);
+    let won = *book.game();
+    assert_eq!((won.scores, won.sticks, won.declared), ([29_000, 80_600, 29_000, -18_600], 0, [false; 4]));
+    assert_eq!((won.dealer, won.hands, won.counter, won.feeders), (1, 6, 3, [0; 8]));
+    // It was no win: seat 0 had declared and was not ready, a chombo of his; the sticks of this hand go back.
+    assert_eq!(book.book(&Booking::Draw(0b0010).as_correction()), 0);
+    let drawn = *book.game();
+    assert_eq!((drawn.scores, drawn.sticks, drawn.dealer, drawn.hands, drawn.counter), ([21_000, 33_000, 33_000, 33_000], 0, 1, 6, 2));
+}
+
+#[test]
+fn none_to_supersede_is_20() {
+    for new in corrections() {
+        assert_eq!(number_in(&Book::fresh(), new.clone()), 20);
+        let won = booked(&[(Booking::Win(pinfu(1, 3, &[])), 0)]);
+        for since in [Booking::Riichi(3), fed(1, 3, 28)] {
+            let mut book = won.clone();
+            assert_eq!((book.book(&since), number_in(&book, new.clone())), (0, 20));
+            // The next result can be put right again.
+            assert_eq!((book.book(&Booking::Chombo(0)), number_in(&book, new.clone())), (0, 0));
+        }
+        // Bookings that are refused are none.
+        let list = [(Booking::Riichi(4), 8), (fed(1, 1, 28), 18), (Booking::Draw(16), 8), (Booking::Win(vec![]), 1), (Booking::Chombo(4).as_correction(), 8)];
+        let mut book = won.clone();
+        list.iter().for_each(|(booking, number)| assert_eq!(book.book(booking), *number));
+        assert_eq!((&book, number_in(&book, new.clone())), (&won, 0));
+    }
+}
+
+#[test]
+fn a_correction_can_itself_be_superseded() {
+    let mut book = booked(&[(Booking::Riichi(3), 0), (Booking::Draw(0b0001), 0)]);
+    for new in results() {
+        assert_eq!(book.book(&new.clone().as_correction()), 0);
+        assert_eq!((*book.game(), book.standing()), (after(&[Booking::Riichi(3), new.clone()]), vec![&Booking::Riichi(3), &new]));
+    }
+}
+
+#[test]
+fn where_the_new_booking_is_refused_the_old_one_stands() {
+    // Seat 1 declared in the hand that is put right.
+    let book = booked(&[(Booking::Riichi(1), 0), (Booking::Draw(0b0100), 0)]);
+    for (at, record) in refused().into_iter().enumerate() {
+        assert_eq!(number_in(&book, Booking::Win(record).as_correction()), at as u8 + 1);
+    }
+    for (new, number) in [
+        (Booking::Win(pinfu(1, 3, &[])), 11),
+        (Booking::Win(pinfu(1, 3, &["riichi"])), 0),
+        (Booking::Win(pinfu(2, 3, &["riichi"])), 11),
+        (Booking::Draw(16), 8),
+        (Booking::Draw(255), 8),
+        (Booking::Chombo(4), 8),
+        (Booking::Many { number: 0, records: vec![] }, 17),
+        (Booking::Many { number: 2, records: pinfu(2, 3, &[]) }, 1),
+        (set(&pinfus(&[2, 2], 3)), 17),
+        (set(&pinfus(&[1, 2], 3)), 11),
+        (set(&[pinfu(1, 3, &["riichi"]), pinfu(2, 3, &[])]), 0),
+    ] {
+        assert_eq!(number_in(&book, new.clone().as_correction()), number, "{new:?}");
+    }
+}
+
+#[test]
+fn a_result_that_ended_the_game_is_put_right() {
+    // South's seat 3 deals, and a child wins.
+    let start = Game { dealer: 3, wind: 1, hands: 7, counter: 2, ..Game::fresh() };
+    let mut book = Book::lent(start, None);
+    assert_eq!((book.book(&Booking::Win(pinfu(1, 3, &[]))), book.game().over), (0, true));
+    for booking in [Booking::Riichi(0), Booking::Draw(0), fed(0, 1, 28)] {
+        assert_eq!(number_in(&book, booking), 9);
+    }
+    for (new, over, counter) in [
+        (Booking::Win(pinfu(3, 1, &[])), false, 3),
+        (Booking::Draw(0), true, 3),
+        (Booking::Draw(1), false, 3),
+        (Booking::Chombo(1), false, 2),
+        (set(&pinfus(&[0, 3], 1)), false, 3),
+        (set(&pinfus(&[0, 1], 2)), true, 0),
+    ] {
+        let mut plain = start;
+        assert_eq!((book.book(&new.clone().as_correction()), other_scorer::game::book(&mut plain, &new)), (0, 0));
+        assert_eq!((*book.game(), plain.over, plain.counter, plain.dealer, plain.wind, plain.hands), (plain, over, counter, 3, 1, 8));
+        // Play goes on, and then there is none to supersede.
+        let mut next = book.clone();
+        assert_eq!((next.book(&Booking::Riichi(0)), number_in(&next, Booking::Chombo(0).as_correction())), if over { (9, 0) } else { (0, 20) });
+    }
+    // The 200th hand: whatever it was, it is finished.
+    let start = Game { hands: 199, counter: 4, ..Game::fresh() };
+    let mut book = Book::lent(start, None);
+    assert_eq!(book.book(&Booking::Chombo(2)), 0);
+    for new in results() {
+        let mut plain = start;
+        assert_eq!((book.book(&new.clone().as_correction()), other_scorer::game::book(&mut plain, &new)), (0, 0));
+        assert_eq!((*book.game(), plain.over, plain.hands), (plain, true, 200));
+        assert_eq!(number_in(&book, Booking::Riichi(0)), 9);
+    }
+}
+
+/// Bookings that a fresh game accepts, and some with an argument out of range.
+fn plain_bookings() -> Vec<(Booking, bool)> {
+    let out = [Booking::Riichi(4), Booking::Draw(16), Booking::Chombo(4), fed(4, 0, 28), fed(0, 4, 28)];
+    let fit = results().into_iter().chain([Booking::Riichi(0), fed(1, 3, 28)]);
+    fit.map(|booking| (booking, false)).chain(out.map(|booking| (booking, true))).collect()
+}
+
+#[test]
+fn twenty_comes_before_all_else_but_9_for_a_game_out_of_form() {
+    let unfit = [Booking::Draw(16), Booking::Chombo(4), Booking::Win(vec![]), Booking::Many { number: 0, records: vec![] }];
+    for game in not_open() {
+        let over = game.is_in_form();
+        for new in corrections().into_iter().chain(unfit.clone().map(Booking::as_correction)) {
+            assert_eq!(number_in(&Book::lent(game, None), new.clone()), if over { 20 } else { 9 });
+            // With a result to supersede a game that is over is no hindrance, one out of form is.
+            let wanted = other_scorer::game::book(&mut Game::fresh(), match &new {
+                Booking::Correction(new) => new,
+                _ => unreachable!("a correction"),
+            });
+            assert_eq!(number_in(&Book::lent(game, Some(Game::fresh())), new), if over { wanted } else { 9 });
+        }
+    }
+    for new in unfit {
+        assert_eq!(number_in(&Book::fresh(), new.as_correction()), 20);
+    }
+}
+
+#[test]
+fn an_earlier_game_out_of_form_is_9_for_every_booking() {
+    for earlier in not_open().into_iter().filter(|game| !game.is_in_form()) {
+        let book = Book::lent(Game::fresh(), Some(earlier));
+        for (booking, out) in plain_bookings() {
+            assert_eq!(number_in(&book, booking), if out { 8 } else { 9 });
+        }
+        // A correction's own argument comes after it.
+        for new in corrections().into_iter().chain([Booking::Draw(16).as_correction(), Booking::Chombo(4).as_correction()]) {
+            assert_eq!(number_in(&book, new), 9);
+        }
+    }
+}
+
+#[test]
+fn an_earlier_game_that_is_over_is_the_new_bookings_9() {
+    for earlier in not_open().into_iter().filter(Game::is_in_form) {
+        let book = Book::lent(Game::fresh(), Some(earlier));
+        for (booking, out) in plain_bookings() {
+            assert_eq!(number_in(&book, booking), if out { 8 } else { 0 });
+        }
+        for new in corrections() {
+            assert_eq!(number_in(&book, new), 9);
+        }
+        for new in [Booking::Draw(16), Booking::Chombo(4)] {
+            assert_eq!(number_in(&book, new.as_correction()), 8);
+        }
+        for new in [Booking::Win(vec![]), Booking::Many { number: 0, records: vec![] }] {
+            assert_eq!(number_in(&book, new.as_correction()), 9);
+        }
+    }
+}
+
+#[test]
+fn a_game_alone_has_no_result_to_supersede() {
+    for game in not_open().into_iter().chain([Game::fresh(), after(&[Booking::Chombo(1)])]) {
+        for new in corrections() {
+            assert_eq!(number(&game, new), if game.is_in_form() { 20 } else { 9 });
+        }
     }
 }

@@ -1,10 +1,10 @@
-//! Walking a log and the lines of program tally (01, Log; 02, S-6, S-8 and S-11).
+//! Walking a log and the lines of program tally (01, Log; 02, S-6, S-8, S-10 and S-11).
 
 use other_scorer::booking::Booking;
 use other_scorer::codec::pack;
 use other_scorer::deal::themed;
 use other_scorer::example::{example, survey::survey, End};
-use other_scorer::log::{bookings, next, tally_lines, Next, FEED, LONGEST, MANY, WIN};
+use other_scorer::log::{bookings, next, tally_lines, Next, CORRECTION, FEED, LONGEST, MANY, WIN};
 use other_scorer::rng::Rng;
 use other_scorer::{Hand, Ledger};
 
@@ -55,7 +55,7 @@ fn bad_headers_and_melds() {
         let mut log = [0; 40];
         log[0] = header;
         let set = header >> 4 == 4 && ![1, 2, 3].contains(&(header & 15));
-        let bad = header >> 4 > 5 || set || [1, 5].contains(&(header >> 4)) && header & 15 != 0;
+        let bad = header >> 4 > 5 || set || [1, 5].contains(&(header >> 4)) && header & 15 != 0; // a correction of a riichi is bad
         assert_eq!(next(&log, 0) == Next::Bad(14), bad, "{header:02x}");
     }
     for m in 0..8u8 {
@@ -124,18 +124,75 @@ fn the_byte_of_a_feed() {
     }
 }
 
+/// Line 1 of document 01's table.
+const LINE_1: [u8; 13] = [0xB8, 0x1E, 0x64, 0x02, 0x10, 0x62, 0x0A, 0x31, 0x66, 0x1A, 0x9A, 0x6B, 0xB0];
+
+#[test]
+fn corrections_of_every_entry_and_every_cut() {
+    let mut rng = Rng::new(43);
+    let record = |rng: &mut Rng| pack(&themed(rng));
+    for round in 0..200u8 {
+        let number = 1 + round % 3;
+        let set = (0..number).flat_map(|_| record(&mut rng)).collect();
+        let inside = [Booking::Win(record(&mut rng)), Booking::Draw(round % 16), Booking::Chombo(round % 16), Booking::Many { number, records: set }];
+        for new in inside {
+            let booking = new.clone().as_correction();
+            let entry = booking.bytes();
+            assert_eq!(entry, [&[0x60], new.bytes().as_slice()].concat());
+            let log = [&[0x00], entry.as_slice(), &[0x30]].concat();
+            assert_eq!(next(&log, 1), Next::Entry { kind: CORRECTION, argument: 0, part: &entry });
+            assert_eq!(bookings(&log).0[1], booking);
+            for end in 2..entry.len() + 1 {
+                assert_eq!(next(&log[..end], 1), Next::Bad(14));
+            }
+            for argument in 1..16 {
+                assert_eq!(next(&[&[0x60 | argument], &entry[1..]].concat(), 0), Next::Bad(14));
+            }
+        }
+    }
+}
+
+#[test]
+fn another_kind_of_entry_in_a_correction_is_bad() {
+    for header in 0..=255u8 {
+        let mut log = [0; 50];
+        (log[0], log[1]) = (0x60, header);
+        let bad = ![1, 2, 3, 4].contains(&(header >> 4)) || next(&log[1..], 0) == Next::Bad(14);
+        assert_eq!(next(&log, 0) == Next::Bad(14), bad, "{header:02x}");
+    }
+    // A riichi, a feed and a correction are whole entries.
+    for inside in [&[0x01][..], &[0x50, 0x70], &[0x60, 0x20], &[0x60, 0x60, 0x20]] {
+        assert_eq!(bookings(&[&[0x20, 0x60], inside].concat()).1, 14);
+        assert_eq!(tally_lines(&[&[0x20, 0x60], inside].concat()).lines().count(), 1);
+    }
+    // m over 4 in a win's record.
+    let mut log = [&[0x60, 0x10], &LINE_1[..]].concat();
+    assert!(matches!(next(&log, 0), Next::Entry { part, .. } if part.len() == 15));
+    (log[4], log[5]) = (log[4] | 2, log[5] | 128);
+    assert_eq!(next(&log, 0), Next::Bad(14));
+}
+
+#[test]
+fn lines_of_corrections() {
+    // Nothing to put right; a win, put right by a draw that ends nothing, by a chombo; one refused; riichi; one too late.
+    let log = [&[0x60, 0x20, 0x10], &LINE_1[..], &[0x60, 0x28, 0x60, 0x31, 0x60, 0x3F, 0x04, 0x60, 0x10], &LINE_1[..], &[0x02, 0x60, 0x2F]].concat();
+    let lines = "1 X 20 30000 30000 30000 30000 0\n2 W 0 30000 32000 30000 28000 0\n3 X 0 33000 29000 29000 29000 0\n\
+        4 X 0 33000 21000 33000 33000 0\n5 X 8 33000 21000 33000 33000 0\n6 R 8 33000 21000 33000 33000 0\n\
+        7 X 0 30000 32000 30000 28000 0\n8 R 0 30000 32000 29000 28000 1\n9 X 20 30000 32000 29000 28000 1\n";
+    assert_eq!(tally_lines(&log), lines);
+}
+
 #[test]
 fn a_stored_log_with_riichi_on_credit_goes_on() {
-    let win = [0xB8, 0x1E, 0x64, 0x02, 0x10, 0x62, 0x0A, 0x31, 0x66, 0x1A, 0x9A, 0x6B, 0xB0];
-    let marked = [&[0xBA], &win[1..]].concat();
-    let log = [&[0x31, 0x31, 0x31, 0x31, 0x01, 0x10], marked.as_slice(), &[0x10], &win].concat();
+    let marked = [&[0xBA], &LINE_1[1..]].concat();
+    let log = [&[0x31, 0x31, 0x31, 0x31, 0x01, 0x10], marked.as_slice(), &[0x10], &LINE_1].concat();
     let last = "4 C 0 42000 -6000 42000 42000 0\n5 R 21 42000 -6000 42000 42000 0\n6 W 11 42000 -6000 42000 42000 0\n7 W 0 42000 -4000 42000 40000 0\n";
     assert!(tally_lines(&log).ends_with(last));
 }
 
 #[test]
 fn tally_stops_at_14_without_a_line() {
-    let lines = tally_lines(&[0x00, 0x60, 0x00]);
+    let lines = tally_lines(&[0x00, 0x70, 0x00]);
     assert_eq!(lines, "1 R 0 29000 30000 30000 30000 1\n");
 }
 
@@ -165,6 +222,7 @@ fn examples_cover_everything_and_agree_with_the_ledger() {
         assert_eq!(cover.short(1), vec![""; 0], "seed {seed}");
         assert!((200..600).contains(&entries));
         assert_eq!(hands == 200, end == End::Hands);
+        assert_eq!(cover.lines().contains(&"play goes on after the end: yes=2".to_string()), end == End::Deal);
         let (list, bad) = bookings(&log);
         assert_eq!(bad, 14);
         let mut ledger = Ledger::fresh();
@@ -172,7 +230,7 @@ fn examples_cover_everything_and_agree_with_the_ledger() {
         for (at, booking) in list.iter().enumerate() {
             let (next, number) = ledger.after(booking);
             let ([a, b, c, d], sticks) = (next.scores, next.sticks);
-            let letter = ['R', 'W', 'D', 'C', 'M', 'P'][(booking.bytes()[0] >> 4) as usize];
+            let letter = ['R', 'W', 'D', 'C', 'M', 'P', 'X'][(booking.bytes()[0] >> 4) as usize];
             lines += &format!("{} {letter} {number} {a} {b} {c} {d} {sticks}\n", at + 1);
             ledger = next;
         }

@@ -6,7 +6,7 @@ ghost use lib.IntN.{pos};
 ghost use lib.ListN.{getD};
 ghost use lib.Signed.{ltZ};
 ghost use Rattle.tiles.specs.Below.{any, count, tabulate};
-ghost use Rattle.ledger.specs.Ledger.{pointsInPlay, floor, isSet, mark, eqZ, wrongFeeder, notOpen};
+ghost use Rattle.ledger.specs.Ledger.{pointsInPlay, floor, isSet, mark, eqZ, wrongFeeder, outOfForm, notOpen};
 ghost use Rattle.ledger.specs.laws.Form.{sumOf};
 use ledger::FLOOR;
 use ledger::Game;
@@ -66,20 +66,26 @@ fn balanced(s: [i32; 4], sticks: u32) -> bool
     (s0 as i64) + (s1 as i64) + (s2 as i64) + (s3 as i64) + 1000 * (sticks as i64) == POINTS_IN_PLAY
 }
 
-// The game is over or out of form: every booking of it is refused with 9.
-pub fn not_open(g: Game) -> bool
-    ensures { λ r. ⌜ r ≡ notOpen g ⌝ }
+// The game is out of form.
+pub fn out_of_form(g: Game) -> bool
+    ensures { λ r. ⌜ r ≡ outOfForm g ⌝ }
 {
     let s = g.scores;
     let d = g.declared;
     let f = g.feeders;
-    let out = (3 < g.dealer)
+    (3 < g.dealer)
         | (1 < g.wind)
         | (LAST_HAND < g.hands)
         | (g.sticks < count_true(set_marks(d)))
         | ((g.hands as u32) < g.counter)
         | any_wrong(f)
         | any_low(s)
-        | !balanced(s, g.sticks);
-    ((0 < g.over) | (g.hands == LAST_HAND)) | out
+        | !balanced(s, g.sticks)
+}
+
+// The game is over or out of form: every booking of it is refused with 9.
+pub fn not_open(g: Game) -> bool
+    ensures { λ r. ⌜ r ≡ notOpen g ⌝ }
+{
+    ((0 < g.over) | (g.hands == LAST_HAND)) | out_of_form(g)
 }

@@ -8,8 +8,7 @@ ghost use lib.ListN.{getD};
 ghost use lib.Signed.{ltZ};
 ghost use Rattle.tiles.specs.Below.{any, tabulate};
 ghost use Rattle.ledger.specs.Booking as Booking;
-ghost use Rattle.ledger.specs.Ledger.{isSet, fresh, isReady, wrongFeed};
-ghost use Rattle.ledger.specs.Runs.{Booked};
+ghost use Rattle.ledger.specs.Ledger.{isSet, fresh, isReady, wrongFeed, BookedIn};
 use ledger::Game;
 
 // What a booking gives: 0 and the game after it, or the refusal and the game as it was.
@@ -49,7 +48,7 @@ fn lacks_stick(s: [i32; 4], seat: u8) -> bool
 
 // Riichi: the seat declares. Refused with 8, a seat over 3; 9, a game that is not open; 10, a seat that has declared already; 21, one with under 1,000 points.
 pub fn riichi(g: Game, seat: u8) -> Outcome
-    ensures { λ r. ⌜ Booked g (Booking.riichi seat) (r .refusal) (r .game) ⌝ }
+    ensures { λ r. ⌜ BookedIn g (Booking.riichi seat) (r .refusal) (r .game) ⌝ }
 {
     if 3 < seat {
         return Outcome {
@@ -126,7 +125,7 @@ fn only(seat: u8) -> [bool; 4]
 // Draw: bits set for ready, seat 0's first; the counter rises. Where a declared seat is not ready it is a chombo of each such seat.
 // Refused with 8, bits over 15; 9, a game that is not open.
 pub fn draw(g: Game, bits: u8) -> Outcome
-    ensures { λ r. ⌜ Booked g (Booking.draw bits) (r .refusal) (r .game) ⌝ }
+    ensures { λ r. ⌜ BookedIn g (Booking.draw bits) (r .refusal) (r .game) ⌝ }
 {
     if 15 < bits {
         return Outcome {
@@ -160,7 +159,7 @@ pub fn draw(g: Game, bits: u8) -> Outcome
 
 // Chombo: the seat pays the others, and this hand's sticks go back. Refused with 8, a seat over 3; 9, a game that is not open.
 pub fn chombo(g: Game, seat: u8) -> Outcome
-    ensures { λ r. ⌜ Booked g (Booking.chombo seat) (r .refusal) (r .game) ⌝ }
+    ensures { λ r. ⌜ BookedIn g (Booking.chombo seat) (r .refusal) (r .game) ⌝ }
 {
     if 3 < seat {
         return Outcome {
@@ -197,7 +196,7 @@ fn wrong_feed(g: Game, holder: u8, feeder: u8, yaku: u8) -> bool
 // Feed: the feeder of a holder's yaku, 28 or 29, is named for this hand. Refused with 8, a seat over 3; 9, a game that is not open;
 // 18, a holder who is the feeder, another yaku, or one that is named already.
 pub fn feed(g: Game, holder: u8, feeder: u8, yaku: u8) -> Outcome
-    ensures { λ r. ⌜ Booked g (Booking.feed holder feeder yaku) (r .refusal) (r .game) ⌝ }
+    ensures { λ r. ⌜ BookedIn g (Booking.feed holder feeder yaku) (r .refusal) (r .game) ⌝ }
 {
     if (3 < holder) | (3 < feeder) {
         return Outcome {

@@ -1,6 +1,6 @@
--- A booking function over a lent struct, once for any struct of plain fields and any list of parameters beside it: `fn f(g: &mut Game, a: A, ..) -> u8 { let b = k(*g, a, ..); *g = b.game; b.refusal }`,
+-- A booking function over a lent struct, once for any struct of plain fields and any list of parameters beside it: `fn f(g: &mut S, a: A, ..) -> u8 { let b = k(*g, a, ..); *g = b.after; b.refusal }`,
 -- for any callee k whose contract is a relation P of the struct, what is seen of each parameter, the refusal and the struct after.
--- `Lendable` says what such a struct is; `game`, at the end, is the one that there is. `proofs/Params.antt` has the parameters. A proof of such a function cites `lent-meets`.
+-- `Lendable` says what such a struct is; `book`, at the end, is the one that there is. `proofs/Params.antt` has the parameters. A proof of such a function cites `lent-meets`.
 use mathlib.Core.Path.{_≡_, refl, ap, subst}
 use Prim.Native.Nat.{ℕ, suc, _<_, _^_}
 use mathlib.Core.List.{[], _∷_, List}
@@ -10,10 +10,13 @@ use mir.Syntax.{named, w8, Sym, Name, Fn, Ty, local, valueLocal, tyInt, tyRef, m
 use mir.Val.{Val, vint, vptr}
 use base.Logic.{SProp, ent, emp, via, fst∗, snd∗, exE, id⊢}
 use base.Fml.{GName, Lft, Share, Fml, flft, fobs, fbor, fat}
-use prog.Wp.{Heap, Calls, Loops, WpFn, Tables}
+use prog.Wp.{Heap, Calls, Loops, WpFn, Tables, Closed}
+use prog.Model.{Model}
+use prog.Routine.{Env}
 use ghost.Atoms.{Atoms, sem}
 use contract.Monad.{fact}
 use contract.Lifetimes.{Lfts, Shares, toks}
+use contract.Running.{GhostRules, Running, givenOf, tables, tablesOf}
 use types.Kit.{Given, ‵, raw, ⋆, some, later, _⊛_, _$_, _∵_, !, qed, by, move, keep, drop, use0, use1, use3, split, join, pick, rewrite, fsplit, fsplit3, fjoin, fjoin3, feqI, suffices, frame, await, done}
 use types.Run.{look, look-raw, init, store-raw, forget, stop, hop, fld, from, load, of-opd, and-then, assigns, land, returns, enter, alloc1, alloc0, params1, pass1, free1, free0}
 use types.Part.{whole, sub, look-in}
@@ -36,14 +39,15 @@ use denote.Triple.Entry.{onEntry}
 use denote.Triple.Spec.{Meets, tripleOf}
 use denote.Triple.Statement.{Contract, Triple}
 use denote.Triple.Call.{calls-at}
+use denote.Triple.Table.{entered}
 use denote.Triple.Clauses.{ensured, lasts, Ended, Clauses, closing}
 use denote.Triple.End.{all, Fins}
 use denote.Triple.Walked.{says, Stays, stay-ref, walkOf, hasOf, goes-ref, Walks, ends-at, walked, walk-meets}
 use denote.Exit.{yes}
-use Rattle.game.specs.declared.Outcome.{Outcome}
-use Rattle.ledger.proofs.Game as T
-use Rattle.ledger.proofs.Game.Laws as T′
-use Rattle.game.proofs.Outcome as B
+use Rattle.bookings.specs.declared.Entered.{Entered}
+use Rattle.book.proofs.Book as T
+use Rattle.book.proofs.Book.Laws as T′
+use Rattle.bookings.proofs.Entered as B
 use Rattle.handset.proofs.Params.{Param, locals, operands, past, lents, givens, kept, stays, goes, Sees, sees, Values, spells, tellss, lent-vals, handed, given-vals, at-end, fits, had, overs, env-past, allocated, passed, freed, found, second, loaded}
 
 -- a struct of plain fields, and what a callee gives of it, a struct of that name: a refusal, and the struct after
@@ -223,12 +227,22 @@ module _ (S : Lendable) where
         self-walks C Λ fm known = walked 𝓤 H A ended stayed (clauses 𝓤) (WpFn 𝓤 H C Λ (thin k)) (λ κs. (ptr-vals, spells κs ps)) (λ κs. (mut-tells (named 0) (κs .0) state, tellss κs ps))
             (λ κs qs bounds y _ are. via 𝓤 _ (fst∗ 𝓤 _ (emp 𝓤)) (walk (κs .0) (κs .1) (qs .0) (qs .1) (y .0 .ptr .0) (y .0 .ptr .1) (y .0 .name) (y .0 .now) (y .1) (are .1) C Λ fm known))
 
-        pub lent-meets : (𝓣 : Tables 𝓤 H) → Triple 𝓤 (𝓣 .C k) (Callee 𝓤 H A) → Meets 𝓤 H A sig (WpFn 𝓤 H (𝓣 .C) (𝓣 .Λ) (thin k)) (closing 𝓤 H A ended (clauses 𝓤))
-        lent-meets 𝓣 known =
+        thin-meets : (𝓣 : Tables 𝓤 H) → Triple 𝓤 (𝓣 .C k) (Callee 𝓤 H A) → Meets 𝓤 H A sig (WpFn 𝓤 H (𝓣 .C) (𝓣 .Λ) (thin k)) (closing 𝓤 H A ended (clauses 𝓤))
+        thin-meets 𝓣 known =
             walk-meets 𝓤 H A ended stayed W (goes-ref 𝓤 H A W (suc p) 0 tt (plain (λ _. state)), goes 𝓤 H A W ps) (clauses 𝓤) (WpFn 𝓤 H (𝓣 .C) (𝓣 .Λ) (thin k)) (WpFn-mono 𝓤 H (W .laws) 𝓣 (thin k))
             (self-walks (𝓣 .C) (𝓣 .Λ) (fmOf 𝓤 H (W .laws) 𝓣) known)
 
+      -- a crate's function `self` whose calls mean γ: where its code is `thin k`, and what k means meets the callee's contract, it meets its own
+      pub lent-meets : (self : Name) (γ : Env) {M : Type 1}
+          → ((𝓤 : URA M) (H : Heap 𝓤) (𝓜 : Model 𝓤 H) (𝓡 : Running 𝓤 H 𝓜) → Closed 𝓤 H (tables 𝓤 H 𝓜 𝓡 γ .C) (tables 𝓤 H 𝓜 𝓡 γ .Λ) self (thin k))
+          → ((𝓤 : URA M) (H : Heap 𝓤) (𝓜 : Model 𝓤 H) (𝓖 : GhostRules 𝓤 H) (𝓡 : Running 𝓤 H 𝓜) → Triple 𝓤 (𝓡 .run (γ k)) (Callee 𝓤 H (𝓖 .A)))
+          → (𝓤 : URA M) (H : Heap 𝓤) (𝓜 : Model 𝓤 H) (𝓖 : GhostRules 𝓤 H) (𝓡 : Running 𝓤 H 𝓜) → Meets 𝓤 H (𝓖 .A) sig (𝓡 .run (γ self)) (closing 𝓤 H (𝓖 .A) ended (clauses 𝓤))
+      unfolding tablesOf
+      lent-meets self γ closed met 𝓤 H 𝓜 𝓖 𝓡 =
+          entered 𝓤 H (tripleOf 𝓤 H (𝓖 .A) sig (closing 𝓤 H (𝓖 .A) ended (clauses 𝓤))) (tables 𝓤 H 𝓜 𝓡 γ .C) (tables 𝓤 H 𝓜 𝓡 γ .Λ) self (thin k) (closed 𝓤 H 𝓜 𝓡)
+          (thin-meets 𝓤 H (𝓖 .A) (givenOf 𝓤 H 𝓜 𝓖) (tablesOf 𝓤 H 𝓜 (tables 𝓤 H 𝓜 𝓡 γ)) (met 𝓤 H 𝓜 𝓖 𝓡))
+
 -- ---- the structs that there are
--- a game
-abbrev pub game : Lendable
-game = record { struct = T.the-type; laws = T′.the-laws; lowers = T′.lowers; plain = T′.the-plain; name = B.the-type .name; Outcome = Outcome; refusal = λ r. r .refusal; after = λ r. r .game; one = B.the-type .to-one }
+-- a book
+abbrev pub book : Lendable
+book = record { struct = T.the-type; laws = T′.the-laws; lowers = T′.lowers; plain = T′.the-plain; name = B.the-type .name; Outcome = Entered; refusal = λ r. r .refusal; after = λ r. r .book; one = B.the-type .to-one }

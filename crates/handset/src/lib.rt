@@ -1,5 +1,5 @@
-// The public calls as the handset's firmware links them, with one prefix. They take all input. The bookings are lent the game and update it there:
-// each gives 0, or its refusal with the game as it was.
+// The public calls as the handset's firmware links them, with one prefix. They take all input. The bookings and the corrections are lent the book and update it
+// there: each gives 0, or its refusal with the book as it was.
 ghost use mathlib.Core.Path.{_≡_};
 ghost use mathlib.Core.List.{[], _++_};
 ghost use Prim.Native.Nat.{_+_, _≤_, _<_};
@@ -15,10 +15,11 @@ ghost use Rattle.waits.specs.Answer.{waitsOf};
 ghost use Rattle.ready.specs.Ready.{IsAnswer};
 ghost use Rattle.card_writer.specs.Call.{answerOf, cardBuffer};
 ghost use Rattle.ledger.specs.Booking as Booking;
-ghost use Rattle.ledger.specs.Ledger.{fresh};
-ghost use Rattle.ledger.specs.Runs.{Booked};
+ghost use Rattle.book.specs.Book.{plain, correction, freshBook};
+ghost use Rattle.book.specs.Runs.{Booked};
 ghost use Rattle.play.specs.Play.{BookedPart, started, textLeft, linesOf};
 ghost use Rattle.handset.specs.Interface.{nextEntryOf, Lined};
+use book::Book;
 use card_writer::Cards;
 use claim::Judged;
 use hand::Hand;
@@ -113,71 +114,111 @@ pub extern "C" fn hb_judge(s: &[u8], claim: &[u8], dealer: u8, wind: u8) -> Judg
     claim::judge(s, claim, dealer, wind)
 }
 
-// A game before its first booking.
+// A book before its first booking.
 #[no_mangle]
-pub extern "C" fn hb_fresh() -> Game
-    ensures { λ r. ⌜ r ≡ fresh ⌝ }
+pub extern "C" fn hb_fresh() -> Book
+    ensures { λ r. ⌜ r ≡ freshBook ⌝ }
 {
-    game::fresh_game()
+    bookings::fresh_book()
 }
 
 // Riichi of a seat.
 #[no_mangle]
-pub extern "C" fn hb_riichi(g: &mut Game, seat: u8) -> u8
-    ensures { λ r. ⌜ Booked (now (g .entry)) (Booking.riichi seat) r (now (g .exit)) ⌝ }
+pub extern "C" fn hb_riichi(k: &mut Book, seat: u8) -> u8
+    ensures { λ r. ⌜ Booked (now (k .entry)) (plain (Booking.riichi seat)) r (now (k .exit)) ⌝ }
 {
-    let b = game::riichi(*g, seat);
-    *g = b.game;
+    let b = bookings::riichi(*k, seat);
+    *k = b.book;
     b.refusal
 }
 
 // A win by a record.
 #[no_mangle]
-pub extern "C" fn hb_win(g: &mut Game, s: &[u8]) -> u8
-    ensures { λ r. ⌜ Booked (now (g .entry)) (Booking.win (now (s .entry))) r (now (g .exit)) ⌝ }
+pub extern "C" fn hb_win(k: &mut Book, s: &[u8]) -> u8
+    ensures { λ r. ⌜ Booked (now (k .entry)) (plain (Booking.win (now (s .entry)))) r (now (k .exit)) ⌝ }
 {
-    let b = wins::win(*g, s);
-    *g = b.game;
+    let b = bookings::win(*k, s);
+    *k = b.book;
     b.refusal
 }
 
 // A draw, by four bits of who is ready, seat 0 first.
 #[no_mangle]
-pub extern "C" fn hb_draw(g: &mut Game, bits: u8) -> u8
-    ensures { λ r. ⌜ Booked (now (g .entry)) (Booking.draw bits) r (now (g .exit)) ⌝ }
+pub extern "C" fn hb_draw(k: &mut Book, bits: u8) -> u8
+    ensures { λ r. ⌜ Booked (now (k .entry)) (plain (Booking.draw bits)) r (now (k .exit)) ⌝ }
 {
-    let b = game::draw(*g, bits);
-    *g = b.game;
+    let b = bookings::draw(*k, bits);
+    *k = b.book;
     b.refusal
 }
 
 // Chombo of a seat.
 #[no_mangle]
-pub extern "C" fn hb_chombo(g: &mut Game, seat: u8) -> u8
-    ensures { λ r. ⌜ Booked (now (g .entry)) (Booking.chombo seat) r (now (g .exit)) ⌝ }
+pub extern "C" fn hb_chombo(k: &mut Book, seat: u8) -> u8
+    ensures { λ r. ⌜ Booked (now (k .entry)) (plain (Booking.chombo seat)) r (now (k .exit)) ⌝ }
 {
-    let b = game::chombo(*g, seat);
-    *g = b.game;
+    let b = bookings::chombo(*k, seat);
+    *k = b.book;
     b.refusal
 }
 
 // Several rons on one tile: their number, and the records end to end.
 #[no_mangle]
-pub extern "C" fn hb_many(g: &mut Game, number: u8, records: &[u8]) -> u8
-    ensures { λ r. ⌜ Booked (now (g .entry)) (Booking.many number (now (records .entry))) r (now (g .exit)) ⌝ }
+pub extern "C" fn hb_many(k: &mut Book, number: u8, records: &[u8]) -> u8
+    ensures { λ r. ⌜ Booked (now (k .entry)) (plain (Booking.many number (now (records .entry)))) r (now (k .exit)) ⌝ }
 {
-    let b = sets::many(*g, number, records);
-    *g = b.game;
+    let b = bookings::many(*k, number, records);
+    *k = b.book;
     b.refusal
 }
 
 // The feeder of a holder's yaku, 28 or 29, named for this hand.
 #[no_mangle]
-pub extern "C" fn hb_feed(g: &mut Game, holder: u8, feeder: u8, yaku: u8) -> u8
-    ensures { λ r. ⌜ Booked (now (g .entry)) (Booking.feed holder feeder yaku) r (now (g .exit)) ⌝ }
+pub extern "C" fn hb_feed(k: &mut Book, holder: u8, feeder: u8, yaku: u8) -> u8
+    ensures { λ r. ⌜ Booked (now (k .entry)) (plain (Booking.feed holder feeder yaku)) r (now (k .exit)) ⌝ }
 {
-    let b = game::feed(*g, holder, feeder, yaku);
-    *g = b.game;
+    let b = bookings::feed(*k, holder, feeder, yaku);
+    *k = b.book;
+    b.refusal
+}
+
+// The correction of the last finished booking by a win, which is booked in the earlier game; 20 where there is none to supersede.
+#[no_mangle]
+pub extern "C" fn hb_correct_win(k: &mut Book, s: &[u8]) -> u8
+    ensures { λ r. ⌜ Booked (now (k .entry)) (correction (Booking.win (now (s .entry)))) r (now (k .exit)) ⌝ }
+{
+    let b = bookings::correct_win(*k, s);
+    *k = b.book;
+    b.refusal
+}
+
+// The same by a draw.
+#[no_mangle]
+pub extern "C" fn hb_correct_draw(k: &mut Book, bits: u8) -> u8
+    ensures { λ r. ⌜ Booked (now (k .entry)) (correction (Booking.draw bits)) r (now (k .exit)) ⌝ }
+{
+    let b = bookings::correct_draw(*k, bits);
+    *k = b.book;
+    b.refusal
+}
+
+// The same by a chombo of a seat.
+#[no_mangle]
+pub extern "C" fn hb_correct_chombo(k: &mut Book, seat: u8) -> u8
+    ensures { λ r. ⌜ Booked (now (k .entry)) (correction (Booking.chombo seat)) r (now (k .exit)) ⌝ }
+{
+    let b = bookings::correct_chombo(*k, seat);
+    *k = b.book;
+    b.refusal
+}
+
+// The same by several rons on one tile.
+#[no_mangle]
+pub extern "C" fn hb_correct_many(k: &mut Book, number: u8, records: &[u8]) -> u8
+    ensures { λ r. ⌜ Booked (now (k .entry)) (correction (Booking.many number (now (records .entry)))) r (now (k .exit)) ⌝ }
+{
+    let b = bookings::correct_many(*k, number, records);
+    *k = b.book;
     b.refusal
 }
 
@@ -211,17 +252,17 @@ pub extern "C" fn hb_next(s: &[u8], at: usize) -> NextEntry
     }
 }
 
-// Books the entry that bytes start with, such as the part of a log that Next entry gave, into the lent game; 14 where they start with none.
+// Books the entry that bytes start with, such as the part of a log that Next entry gave, into the lent book; 14 where they start with none.
 #[no_mangle]
-pub extern "C" fn hb_book(g: &mut Game, s: &[u8]) -> u8
-    ensures { λ r. ⌜ BookedPart (now (g .entry)) (now (s .entry)) r (now (g .exit)) ⌝ }
+pub extern "C" fn hb_book(k: &mut Book, s: &[u8]) -> u8
+    ensures { λ r. ⌜ BookedPart (now (k .entry)) (now (s .entry)) r (now (k .exit)) ⌝ }
 {
-    let b = play::book_part(*g, s);
-    *g = b.game;
+    let b = play::book_part(*k, s);
+    *k = b.book;
     b.refusal
 }
 
-// A walk over a log before its first entry, with a fresh game.
+// A walk over a log before its first entry, with a fresh book.
 #[no_mangle]
 pub extern "C" fn hb_start() -> Walk
     ensures { λ r. ⌜ r ≡ started ⌝ }

@@ -1,4 +1,4 @@
--- The theorems of the game: demand 3, for every list of bookings from a fresh game.
+-- The theorems of the game, for every list of bookings from a fresh one; demand 3 stands in crate `book`.
 use mathlib.Core.Path.{_≡_}
 use mathlib.Core.Bool.{Bool, true, false, cond}
 use mathlib.Core.List.{List}
@@ -17,14 +17,11 @@ use Rattle.score.specs.Named.{groupsOf, IsReadingOf, scoredAs}
 use Rattle.ledger.specs.declared.Game.{Game}
 use Rattle.records.specs.Records.{recordsOf, isWinner, discarderOf, firstWinner, turnsAfter}
 use Rattle.ledger.specs.Booking.{Booking, riichi, win, draw, many}
-use Rattle.ledger.specs.Ledger.{fresh, scoreAt, declarations, feederAt, floor, outOfForm, notOpen, handFor, refusalFor, settles, repeatGives, wholeOf, fedPays, wonBy, holdsFourWinds, fineOf, chomboGives, chomboOf, isAtFault, effectOf, after, ledgerFrom, ledger}
-use Rattle.ledger.specs.Runs.{Runs, Every}
-pub use Rattle.ledger.specs.Runs.{refusalsFrom}
-pub use Rattle.ledger.specs.Demand3.{changeBy, fedBy, BestWithCounters, OfWin, Demand3}
+use Rattle.ledger.specs.Ledger.{fresh, scoreAt, declarations, feederAt, floor, outOfForm, notOpen, handFor, refusalFor, settles, repeatGives, wholeOf, fedPays, wonBy, holdsFourWinds, fineOf, chomboGives, chomboOf, isAtFault, effectOf, after, ledger}
+pub use Rattle.ledger.specs.Wins.{changeBy, fedBy}
 pub use Rattle.ledger.specs.NotReady.{BookedAsChombo}
 pub use Rattle.ledger.specs.Article67.{Article67}
-use Rattle.ledger.specs.laws.Demand3 as laws
-use Rattle.ledger.specs.laws.Lists as lists
+use Rattle.ledger.specs.laws.Kept as kept
 use Rattle.ledger.specs.laws.Repeat as repeat
 use Rattle.ledger.specs.laws.Fines as fines
 use Rattle.ledger.specs.laws.NotReady as not-ready
@@ -36,17 +33,9 @@ use Rattle.ledger.specs.laws.Lowest as lowest
 use Rattle.ledger.specs.laws.One as one
 use Rattle.ledger.specs.laws.Sets as sets
 
--- demand 3
-pub demand-3 : (bs : List Booking) (ns : List ℕ) (g : Game) → Runs fresh bs ns g → Demand3 bs ns g
-demand-3 = laws.demand-3
-
--- every list has its run, so that demand 3 speaks of each
-pub runs-exists : (bs : List Booking) (l : Game) → Runs l bs (refusalsFrom l bs) (ledgerFrom l bs)
-runs-exists = lists.runs-exist
-
 -- "From a fresh game no score falls under" the floor, which "becomes −28,540,000" (02, S-6), and the game stays in form
 pub never-below-floor : (bs : List Booking) → (outOfForm (ledger bs) ≡ false) × ((i : ℕ) → i < 4 → ltZ (scoreAt (ledger bs) i) floor ≡ false)
-never-below-floor = laws.never-below-floor
+never-below-floor = kept.never-below-floor
 
 -- ---- repeat counters (02, S-5)
 
@@ -60,13 +49,9 @@ pub winner-gets-300 : (winner payer : ℕ) (alone : Bool) (n : ℕ) → winner �
     → repeatGives winner payer alone n winner ≡ pos (300 * n)
 winner-gets-300 = repeat.winner-added
 
--- "which is equal for every reading of the tiles, so the best one stays best"
-pub counters-keep-best : (bs : List Booking) (ns : List ℕ) (g : Game) → Runs fresh bs ns g → Every (OfWin BestWithCounters) fresh bs ns
-counters-keep-best = laws.counters-keep-best
-
 -- "The counter never exceeds the hands finished"
 pub counter-within-hands : (bs : List Booking) → ledger bs .counter ≤ ledger bs .hands
-counter-within-hands = laws.counter-within-hands
+counter-within-hands = kept.counter-within-hands
 
 -- ---- declared, yet not ready (02, S-7)
 

@@ -1,5 +1,6 @@
 -- The ledger (01, The game and its paragraph "Ledger"; 02, S-5 to S-8 and S-11): kept from the bookings' arguments alone, with the game's fields.
 -- The game's numbers; its fields; refusals; what an accepted booking does, as one structure; the fields after it; the ledger of a list.
+use mathlib.Core.Path.{_≡_}
 use mathlib.Core.Bool.{Bool, true, false, _&&_, _||_, not, cond}
 use mathlib.Core.List.{List, [], _∷_}
 use Prim.Native.Nat.{ℕ, _+_, _-_, _*_, _/_, _%_, _^_}
@@ -346,6 +347,10 @@ applied l e = record {
 -- "the first listed is its number and the ledger stays. Otherwise ..."
 unfoldable pub after : Game → Booking → Game
 after l b = cond (ltb 0 (refusalFor l b)) l (applied l (effectOf l b))
+
+-- booking b in game g gives the refusal n and leaves the game g′
+abbrev pub BookedIn : Game → Booking → ℕ → Game → Type 0
+BookedIn g b n g′ = (n ≡ refusalFor g b) × (g′ ≡ after g b)
 
 -- after each of a list, from l on
 unfoldable pub ledgerFrom : Game → List Booking → Game

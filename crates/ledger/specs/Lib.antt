@@ -1,15 +1,13 @@
 -- Booking    the bookings
 -- Ledger     the ledger, kept from the bookings' arguments alone (01, Ledger)
--- Runs       a list of bookings, each lent the game as the last one left it
--- Demand3    what demand 3 claims of such a list
+-- Wins       what demand 3 claims of a win, and of several records
 -- NotReady   what a draw does in which a declared seat is not ready
 -- Article67  what a win gives each seat whose yaku was fed
--- Claims     the theorems: demand 3, never below the floor, repeat counters, declared yet not ready, who fed the dragons, several rons, no stick no riichi
+-- Claims     the theorems: never below the floor, repeat counters, declared yet not ready, who fed the dragons, several rons, no stick no riichi
 -- laws       what they stand on
 pub mod Booking
 pub mod Ledger
-pub mod Runs
-pub mod Demand3
+pub mod Wins
 pub mod NotReady
 pub mod Article67
 pub mod laws

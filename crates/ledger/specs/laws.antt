@@ -19,5 +19,4 @@ pub mod NotReady
 pub mod Credit
 pub mod Winds
 pub mod Tiles
-pub mod Demand3
 pub mod Examples

@@ -1,4 +1,4 @@
--- The theorems of the log (01, Log; 02, S-6 and S-8; "Before the batch is burned": "a walk saying "end" with bytes left" falls by them).
+-- The theorems of the log (01, Log; 02, S-6, S-8 and S-10; "Before the batch is burned": "a walk saying "end" with bytes left" falls by them).
 use mathlib.Core.Path.{_≡_}
 use mathlib.Core.Bool.{true, false}
 use mathlib.Core.Logic.{_⊎_, _↔_}
@@ -19,8 +19,8 @@ pub end-only-at-end : (log : List ℕ) (at : ℕ) → ((length (partAt log at) �
 end-only-at-end log at = laws.end-exactly log at
 
 -- "Refusal 14: kind over 3, win argument not 0, m over 4, or bytes missing"; S-6: of kind 4 "an argument of 0 or over 3, a record with m over 4, or missing bytes, is 14";
--- S-8: of kind 5 "any other form is 14": there and nowhere else
-pub bad-only-when-named : (log : List ℕ) (at : ℕ) → let s = drop at log in (refusalAt log at ≡ 14) ↔ ((at < length log) × ((5 < kindIn s) ⊎ ((kindIn s ≡ 1) × ((argumentIn s ≡ 0 → ⊥) ⊎ (isBroken (drop 1 s) ≡ true))) ⊎ ((kindIn s ≡ 4) × ((argumentIn s ≡ 0) ⊎ (3 < argumentIn s) ⊎ (hasBroken (argumentIn s) (drop 1 s) ≡ true))) ⊎ ((kindIn s ≡ 5) × ((argumentIn s ≡ 0 → ⊥) ⊎ (isOtherForm (drop 1 s) ≡ true)))))
+-- S-8: of kind 5 "any other form is 14"; S-10: of kind 6 "another argument or another kind of entry inside is 14", and what is 14 of the entry inside: there and nowhere else
+pub bad-only-when-named : (log : List ℕ) (at : ℕ) → let s = drop at log in (refusalAt log at ≡ 14) ↔ ((at < length log) × ((6 < kindIn s) ⊎ ((kindIn s ≡ 1) × ((argumentIn s ≡ 0 → ⊥) ⊎ (isBroken (drop 1 s) ≡ true))) ⊎ ((kindIn s ≡ 4) × ((argumentIn s ≡ 0) ⊎ (3 < argumentIn s) ⊎ (hasBroken (argumentIn s) (drop 1 s) ≡ true))) ⊎ ((kindIn s ≡ 5) × ((argumentIn s ≡ 0 → ⊥) ⊎ (isOtherForm (drop 1 s) ≡ true))) ⊎ ((kindIn s ≡ 6) × ((argumentIn s ≡ 0 → ⊥) ⊎ (kindIn (drop 1 s) < 1) ⊎ (4 < kindIn (drop 1 s)) ⊎ (refusalAt (drop 1 s) 0 ≡ 14)))))
 bad-only-when-named log at = laws.bad-exactly log at
 
 -- "it returns an empty part"
@@ -31,8 +31,8 @@ bad-empty log at h = laws.bad-part log at h
 pub part-inside : (log : List ℕ) (at : ℕ) → 0 < length (partAt log at) → at + length (partAt log at) ≤ length log
 part-inside log at h = omega (arith, h, next.part-inside log at)
 
--- "kind 4 bits (0 riichi, 1 win, 2 draw, 3 chombo), argument 4"; S-6: "kind 4"; S-8: "kind 5"; any other is refused
-pub kind-and-argument : (log : List ℕ) (at : ℕ) → 0 < length (partAt log at) → (kindIn (partAt log at) ≤ 5) × (argumentIn (partAt log at) ≤ 15)
+-- "kind 4 bits (0 riichi, 1 win, 2 draw, 3 chombo), argument 4"; S-6: "kind 4"; S-8: "kind 5"; S-10: "kind 6"; any other is refused
+pub kind-and-argument : (log : List ℕ) (at : ℕ) → 0 < length (partAt log at) → (kindIn (partAt log at) ≤ 6) × (argumentIn (partAt log at) ≤ 15)
 unfolding partAt
 kind-and-argument log at h = (next.part-kind (drop at log) h, omega arith)
 
@@ -54,6 +54,13 @@ pub feed-byte : (log : List ℕ) (at : ℕ) → 0 < length (partAt log at) → k
     × (getD s 0 0 < 256 → holderIn s ≤ 3) × (feederIn s ≤ 3) × (28 ≤ yakuIn s) × (yakuIn s ≤ 29)
 unfolding partAt
 feed-byte log at h w = let f = next.part-feed (drop at log) h w in let e = next.feed-ends (drop 1 (partAt log at)) in (f .0, f .1, f .2, e .0, e .1, e .2, e .3)
+
+-- S-10: "argument 0, then the replacing entry": after the header one entry of kind 1 to 4 stands, and nothing else
+pub correction-entry : (log : List ℕ) (at : ℕ) → 0 < length (partAt log at) → kindIn (partAt log at) ≡ 6
+    → let s = drop 1 (partAt log at) in
+    (argumentIn (partAt log at) ≡ 0) × (1 ≤ kindIn s) × (kindIn s ≤ 4) × (0 < length s) × (partAt s 0 ≡ s)
+unfolding partAt
+correction-entry log at h w = next.part-correction (drop at log) h w
 
 -- the walk's parts are those that "Next entry hands back", one after the other
 pub parts-follow : (log : List ℕ) (at : ℕ) → 0 < length (partAt log at) → partsOf (drop at log) ≡ partAt log at ∷ partsOf (drop (at + length (partAt log at)) log)

@@ -1,9 +1,9 @@
--- The kinds of a log's entries (01, Log; 02, S-6 and S-8): the number, the letter and the length of each, in this one place.
-use mathlib.Core.Bool.{Bool, false, _||_, cond}
+-- The kinds of a log's entries (01, Log; 02, S-6, S-8 and S-10): the number, the letter and the length of each, in this one place.
+use mathlib.Core.Bool.{Bool, false, _&&_, _||_, cond}
 use mathlib.Core.List.{List, [], _∷_}
 use Prim.Native.Nat.{ℕ, zero, suc, _+_, _/_, _%_}
-use lib.Dec.{ltb, eqb}
-use lib.ListN.{length, getD, take, drop}
+use lib.Dec.{ltb, leb, eqb}
+use lib.ListN.{length, getD, drop}
 use Rattle.hand_record.specs.Record.{lengthOf, countIn}
 use Rattle.record_lengths.specs.Lengths.{isBroken, recordLength}
 
@@ -28,10 +28,14 @@ manyKind = 4
 abbrev pub feedKind : ℕ
 feedKind = 5
 
--- "letter R W D C"; S-6: "letter M"; S-8: "letter P"
+-- S-10: "In the log it is kind 6"
+abbrev pub correctionKind : ℕ
+correctionKind = 6
+
+-- "letter R W D C"; S-6: "letter M"; S-8: "letter P"; S-10: "letter X"
 abbrev pub letterOf : ℕ → ℕ
 letterOf kind =
-    cond (eqb kind riichiKind) 82 (cond (eqb kind winKind) 87 (cond (eqb kind drawKind) 68 (cond (eqb kind manyKind) 77 (cond (eqb kind feedKind) 80 67))))
+    cond (eqb kind riichiKind) 82 (cond (eqb kind winKind) 87 (cond (eqb kind drawKind) 68 (cond (eqb kind manyKind) 77 (cond (eqb kind feedKind) 80 (cond (eqb kind correctionKind) 88 67)))))
 
 -- "Header byte: kind 4 bits": that of an entry's bytes
 abbrev pub kindIn : List ℕ → ℕ
@@ -87,12 +91,16 @@ manyLength argument rest = cond (eqb argument 0 || ltb 3 argument) 0 (withHeader
 abbrev pub feedLength : ℕ → List ℕ → ℕ
 feedLength argument rest = cond (eqb argument 0) (cond (isOtherForm rest) 0 2) 0
 
--- of a kind: of riichi, draw and chombo the header alone; bad: "kind over 3" other than S-6's and S-8's
+-- of a kind that carries no other entry: of riichi, draw and chombo the header alone; bad: "kind over 3" other than S-6's and S-8's
 unfoldable pub lengthBy : ℕ → ℕ → List ℕ → ℕ
 lengthBy kind argument rest =
     cond (eqb kind riichiKind) 1 (cond (eqb kind winKind) (winLength argument rest) (cond (eqb kind drawKind) 1 (cond (eqb kind chomboKind) 1 (cond (eqb kind manyKind) (manyLength argument rest) (cond (eqb kind feedKind) (feedLength argument rest) 0)))))
 
+-- S-10: "argument 0, then the replacing entry": "a win, draw, chombo or multiple ron"; bad: "another argument or another kind of entry inside is 14"
+abbrev pub correctionLength : ℕ → List ℕ → ℕ
+correctionLength argument rest = cond (eqb argument 0 && (leb winKind (kindIn rest) && leb (kindIn rest) manyKind)) (withHeader (lengthBy (kindIn rest) (argumentIn rest) (drop 1 rest))) 0
+
 -- how many bytes the entry has that bytes start with, "from its header on"; 0 where there is none
 unfoldable pub entryLength : List ℕ → ℕ
 entryLength [] = 0
-entryLength (header ∷ rest) = lengthBy (header / 16) (header % 16) rest
+entryLength (header ∷ rest) = cond (eqb (header / 16) correctionKind) (correctionLength (header % 16) rest) (lengthBy (header / 16) (header % 16) rest)

@@ -6,13 +6,9 @@ use lib.Dec.{leb, eqb}
 use lib.ListN.{length, take, drop}
 use Rattle.log.specs.Kinds.{entryLength}
 
--- the entry that bytes start with, header included; empty where there is none
-abbrev pub firstPart : List ℕ → List ℕ
-firstPart s = take (entryLength s) s
-
 -- "hands back that very part of the log, from its header on"; "an empty part" at 14 and at the end
 unfoldable pub partAt : List ℕ → ℕ → List ℕ
-partAt log at = firstPart (drop at log)
+partAt log at = take (entryLength (drop at log)) (drop at log)
 
 -- "Refusal 14" where no entry stands; 0 at an entry and, with the empty part, "from an offset at or past the log's end": "end"
 unfoldable pub refusalAt : List ℕ → ℕ → ℕ

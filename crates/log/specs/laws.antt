@@ -1,4 +1,5 @@
 pub mod Records
+pub mod Refusals
 pub mod Lengths
 pub mod Next
 pub mod Walk

@@ -1,7 +1,7 @@
-// The log (01, Log; 02, S-6 and S-8): the kinds of its entries, and Next entry. The public calls take all input.
+// The log (01, Log; 02, S-6, S-8 and S-10): the kinds of its entries, and Next entry. The public calls take all input.
 ghost use mathlib.Core.Path.{_≡_};
 ghost use Prim.Native.Nat.{_+_, _/_, _%_, _≤_};
-ghost use Rattle.log.specs.Kinds.{letterOf, recordsLength, withHeader, winLength, manyLength, feedLength, lengthBy, entryLength};
+ghost use Rattle.log.specs.Kinds.{letterOf, recordsLength, withHeader, winLength, manyLength, feedLength, lengthBy, correctionLength, entryLength};
 ghost use Rattle.log.specs.Log.{partAt, refusalAt};
 
 // The kinds by their numbers. Each one's letter stands in `letter`, its length in `length_by`.
@@ -16,6 +16,8 @@ pub const CHOMBO: u8 = 3;
 pub const MANY: u8 = 4;
 
 pub const FEED: u8 = 5;
+
+pub const CORRECTION: u8 = 6;
 
 // The kind that a header byte names.
 pub fn kind(header: u8) -> u8
@@ -71,6 +73,9 @@ pub fn letter(kind: u8) -> u8
     if kind == FEED {
         return b'P';
     }
+    if kind == CORRECTION {
+        return b'X';
+    }
     b'C'
 }
 
@@ -93,7 +98,7 @@ fn records_length(n: u8, s: &[u8]) -> usize
 
 // A header and the bytes that follow it; 0 stays 0.
 fn with_header(n: usize) -> usize
-    requires { ⌜ n ≤ 39 ⌝ }
+    requires { ⌜ n ≤ 40 ⌝ }
     ensures { λ r. ⌜ r ≡ withHeader n ⌝ }
 {
     if n == 0 {
@@ -141,7 +146,7 @@ fn feed_length(argument: u8, rest: &[u8]) -> usize
     2
 }
 
-// The same of a kind.
+// The same of a kind that carries no other entry.
 fn length_by(kind: u8, argument: u8, rest: &[u8]) -> usize
     ensures { λ r. ⌜ r ≡ lengthBy kind argument (now (rest .entry)) ⌝ }
 {
@@ -160,6 +165,27 @@ fn length_by(kind: u8, argument: u8, rest: &[u8]) -> usize
     1
 }
 
+// The same of a correction: the entry follows that replaces, a win, a draw, a chombo or several rons.
+fn correction_length(argument: u8, rest: &[u8]) -> usize
+    ensures { λ r. ⌜ r ≡ correctionLength argument (now (rest .entry)) ⌝ }
+{
+    if argument != 0 {
+        return 0;
+    }
+    if rest.len() == 0 {
+        return 0;
+    }
+    let header = rest[0];
+    let k = kind(header);
+    if k < WIN {
+        return 0;
+    }
+    if MANY < k {
+        return 0;
+    }
+    with_header(length_by(k, header % 16, &rest[1..]))
+}
+
 // How many bytes the entry has that bytes start with, 0 where there is none.
 fn entry_length(s: &[u8]) -> usize
     ensures { λ r. ⌜ r ≡ entryLength (now (s .entry)) ⌝ }
@@ -168,7 +194,11 @@ fn entry_length(s: &[u8]) -> usize
         return 0;
     }
     let header = s[0];
-    length_by(kind(header), argument(header), &s[1..])
+    let k = kind(header);
+    if k == CORRECTION {
+        return correction_length(argument(header), &s[1..]);
+    }
+    length_by(k, argument(header), &s[1..])
 }
 
 // Next entry: the part of the log that the entry at an offset takes, its header first. The part is empty where there is no entry;

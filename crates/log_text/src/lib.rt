@@ -11,12 +11,13 @@ use play::Walk;
 
 // The line of entry k, booked, at the start of a buffer, or nothing where the buffer is too short.
 fn entry_line(buf: &mut [u8], k: u32, t: Step) -> usize
-    ensures { λ r. ⌜ r ≡ lengthIn (now (buf .entry)) (entryLine k (t .entry .letter) (t .entry .refusal) (t .game)) ⌝ }
-    ensures { λ _. ⌜ now (buf .exit) ≡ bufferWith (now (buf .entry)) (entryLine k (t .entry .letter) (t .entry .refusal) (t .game)) ⌝ }
-    ensures { λ _. ⌜ length (entryLine k (t .entry .letter) (t .entry .refusal) (t .game)) ≤ 83 ⌝ }
+    ensures { λ r. ⌜ r ≡ lengthIn (now (buf .entry)) (entryLine k (t .entry .letter) (t .entry .refusal) (t .book .game)) ⌝ }
+    ensures { λ _. ⌜ now (buf .exit) ≡ bufferWith (now (buf .entry)) (entryLine k (t .entry .letter) (t .entry .refusal) (t .book .game)) ⌝ }
+    ensures { λ _. ⌜ length (entryLine k (t .entry .letter) (t .entry .refusal) (t .book .game)) ≤ 83 ⌝ }
 {
-    let s = t.game.scores;
-    text::line(buf, k, t.entry.letter, t.entry.refusal, s, t.game.sticks)
+    let g = t.book.game;
+    let s = g.scores;
+    text::line(buf, k, t.entry.letter, t.entry.refusal, s, g.sticks)
 }
 
 // Books entries of a log, from where a walk stands, and writes their lines into a buffer, one after the other: as many whole lines as fit.
@@ -29,10 +30,10 @@ pub fn lines(w: Walk, s: &[u8], buf: &mut [u8]) -> Printed
     let mut v = w;
     let mut n = 0usize;
     while v.at < s.len() {
-        let g = v.game;
+        let h = v.book;
         let at = v.at;
         let k = v.entry;
-        let b = play::book_at(g, s, at);
+        let b = play::book_at(h, s, at);
         let length = b.entry.length;
         if length == 0 {
             return Printed {
@@ -54,9 +55,9 @@ pub fn lines(w: Walk, s: &[u8], buf: &mut [u8]) -> Printed
             };
         }
         n += m;
-        let after = b.game;
+        let after = b.book;
         v = Walk {
-            game: after,
+            book: after,
             at: at + length,
             entry: k + 1,
         };

@@ -1,3 +1,4 @@
 pub mod Turn
 pub mod Fill
 pub mod Through
+pub mod Examples

@@ -4,7 +4,7 @@ ghost use mathlib.Core.Bool.{cond};
 ghost use Prim.Native.Nat.{_≤_};
 ghost use Rattle.records.specs.Records.{recordsOf, firstUnread};
 ghost use Rattle.ledger.specs.Booking as Booking;
-ghost use Rattle.ledger.specs.Runs.{Booked};
+ghost use Rattle.ledger.specs.Ledger.{BookedIn};
 ghost use Rattle.ledger.specs.laws.Form.{Open};
 ghost use Rattle.sets.specs.laws.Settled.{AllSettled, SetBooked};
 use game::Outcome;
@@ -76,7 +76,7 @@ fn book_set(g: Game, number: u8, s: &[u8]) -> Outcome
 // Refused with 9, a game that is not open; 17, no record or over three; Read's refusal of the first that does not read;
 // 17, one that is not ron, two with one winner, or two that differ in discarder, winning tile, indicator or situation; 6, 7 or 11 of the first that meets one.
 pub fn many(g: Game, number: u8, s: &[u8]) -> Outcome
-    ensures { λ r. ⌜ Booked g (Booking.many number (now (s .entry))) (r .refusal) (r .game) ⌝ }
+    ensures { λ r. ⌜ BookedIn g (Booking.many number (now (s .entry))) (r .refusal) (r .game) ⌝ }
 {
     if form::not_open(g) {
         return Outcome {

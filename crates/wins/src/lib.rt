@@ -6,8 +6,7 @@ ghost use lib.Dec.{ltb};
 ghost use lib.ListN.{getD};
 ghost use Rattle.hand.specs.Refusals.{wrongDiscarder};
 ghost use Rattle.ledger.specs.Booking as Booking;
-ghost use Rattle.ledger.specs.Ledger.{lastHand, fedIn, holdsFourWinds};
-ghost use Rattle.ledger.specs.Runs.{Booked};
+ghost use Rattle.ledger.specs.Ledger.{lastHand, fedIn, holdsFourWinds, BookedIn};
 ghost use Rattle.ledger.specs.laws.Bounds.{mostSticks};
 ghost use Rattle.ledger.specs.laws.Form.{Open};
 ghost use Rattle.ledger.specs.laws.Sums.{Changes};
@@ -123,7 +122,7 @@ pub fn settle(g: Game, s: &[u8], n: u32, k: u32) -> Settled
 
 // Win: the record is settled, and the winner takes the counters and the sticks. Refused with 9, a game that is not open; what its settling is refused with.
 pub fn win(g: Game, s: &[u8]) -> Outcome
-    ensures { λ r. ⌜ Booked g (Booking.win (now (s .entry))) (r .refusal) (r .game) ⌝ }
+    ensures { λ r. ⌜ BookedIn g (Booking.win (now (s .entry))) (r .refusal) (r .game) ⌝ }
 {
     if form::not_open(g) {
         return Outcome {

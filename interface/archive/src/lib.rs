@@ -164,6 +164,14 @@ pub struct Game {
 }
 
 #[repr(C)]
+#[derive(Clone, Copy, Debug, PartialEq, Eq)]
+pub struct Book {
+    pub game: Game,
+    pub earlier: Game,
+    pub held: u32,
+}
+
+#[repr(C)]
 #[derive(Clone, Copy, Debug, Default, PartialEq, Eq)]
 pub struct NextEntry {
     pub refusal: u8,
@@ -177,7 +185,7 @@ pub struct NextEntry {
 #[repr(C)]
 #[derive(Clone, Copy, Debug, PartialEq, Eq)]
 pub struct Walk {
-    pub game: Game,
+    pub book: Book,
     pub at: usize,
     pub entry: u32,
 }
@@ -230,22 +238,26 @@ extern "C" {
     fn hb_ready(hand: *const u8, len: usize) -> Ready;
     fn hb_cards(suit: u8, size: u8, buffer: *mut u8, len: usize) -> Cards;
     fn hb_judge(record: *const u8, len: usize, claim: *const u8, claim_len: usize, dealer: u8, wind: u8) -> Judged;
-    fn hb_fresh() -> Game;
-    fn hb_riichi(game: &mut Game, seat: u8) -> u8;
-    fn hb_win(game: &mut Game, record: *const u8, len: usize) -> u8;
-    fn hb_draw(game: &mut Game, bits: u8) -> u8;
-    fn hb_chombo(game: &mut Game, seat: u8) -> u8;
-    fn hb_many(game: &mut Game, number: u8, records: *const u8, len: usize) -> u8;
-    fn hb_feed(game: &mut Game, holder: u8, feeder: u8, yaku: u8) -> u8;
+    fn hb_fresh() -> Book;
+    fn hb_riichi(book: &mut Book, seat: u8) -> u8;
+    fn hb_win(book: &mut Book, record: *const u8, len: usize) -> u8;
+    fn hb_draw(book: &mut Book, bits: u8) -> u8;
+    fn hb_chombo(book: &mut Book, seat: u8) -> u8;
+    fn hb_many(book: &mut Book, number: u8, records: *const u8, len: usize) -> u8;
+    fn hb_feed(book: &mut Book, holder: u8, feeder: u8, yaku: u8) -> u8;
+    fn hb_correct_win(book: &mut Book, record: *const u8, len: usize) -> u8;
+    fn hb_correct_draw(book: &mut Book, bits: u8) -> u8;
+    fn hb_correct_chombo(book: &mut Book, seat: u8) -> u8;
+    fn hb_correct_many(book: &mut Book, number: u8, records: *const u8, len: usize) -> u8;
     fn hb_next(log: *const u8, len: usize, at: usize) -> NextEntry;
-    fn hb_book(game: &mut Game, part: *const u8, len: usize) -> u8;
+    fn hb_book(book: &mut Book, part: *const u8, len: usize) -> u8;
     fn hb_start() -> Walk;
     fn hb_lines(walk: Walk, log: *const u8, log_len: usize, buffer: *mut u8, len: usize) -> Printed;
     fn hb_line(game: &Game, buffer: *mut u8, len: usize, entry: u32, letter: u8, refusal: u8) -> usize;
 }
 
-// SAFETY, for every call below: the pointers and lengths are a slice's, which is never null; a game and a buffer that a
-// call writes are borrowed alone, so nothing overlaps them; any bytes are a game.
+// SAFETY, for every call below: the pointers and lengths are a slice's, which is never null; a book and a buffer that a
+// call writes are borrowed alone, so nothing overlaps them; any bytes are a book.
 
 /// Read.
 pub fn read(record: &[u8]) -> ReadHand {
@@ -287,39 +299,59 @@ pub fn judge(record: &[u8], claim: &[u8], dealer: u8, wind: u8) -> Judged {
     unsafe { hb_judge(record.as_ptr(), record.len(), claim.as_ptr(), claim.len(), dealer, wind) }
 }
 
-/// A game at its start.
-pub fn fresh() -> Game {
+/// A book at its start.
+pub fn fresh() -> Book {
     unsafe { hb_fresh() }
 }
 
 /// Riichi.
-pub fn riichi(game: &mut Game, seat: u8) -> u8 {
-    unsafe { hb_riichi(game, seat) }
+pub fn riichi(book: &mut Book, seat: u8) -> u8 {
+    unsafe { hb_riichi(book, seat) }
 }
 
 /// Win.
-pub fn win(game: &mut Game, record: &[u8]) -> u8 {
-    unsafe { hb_win(game, record.as_ptr(), record.len()) }
+pub fn win(book: &mut Book, record: &[u8]) -> u8 {
+    unsafe { hb_win(book, record.as_ptr(), record.len()) }
 }
 
 /// Draw.
-pub fn draw(game: &mut Game, bits: u8) -> u8 {
-    unsafe { hb_draw(game, bits) }
+pub fn draw(book: &mut Book, bits: u8) -> u8 {
+    unsafe { hb_draw(book, bits) }
 }
 
 /// Chombo.
-pub fn chombo(game: &mut Game, seat: u8) -> u8 {
-    unsafe { hb_chombo(game, seat) }
+pub fn chombo(book: &mut Book, seat: u8) -> u8 {
+    unsafe { hb_chombo(book, seat) }
 }
 
 /// Many: so many rons on one tile.
-pub fn many(game: &mut Game, number: u8, records: &[u8]) -> u8 {
-    unsafe { hb_many(game, number, records.as_ptr(), records.len()) }
+pub fn many(book: &mut Book, number: u8, records: &[u8]) -> u8 {
+    unsafe { hb_many(book, number, records.as_ptr(), records.len()) }
 }
 
 /// Feed.
-pub fn feed(game: &mut Game, holder: u8, feeder: u8, yaku: u8) -> u8 {
-    unsafe { hb_feed(game, holder, feeder, yaku) }
+pub fn feed(book: &mut Book, holder: u8, feeder: u8, yaku: u8) -> u8 {
+    unsafe { hb_feed(book, holder, feeder, yaku) }
+}
+
+/// A win instead of the last result.
+pub fn correct_win(book: &mut Book, record: &[u8]) -> u8 {
+    unsafe { hb_correct_win(book, record.as_ptr(), record.len()) }
+}
+
+/// A draw instead of the last result.
+pub fn correct_draw(book: &mut Book, bits: u8) -> u8 {
+    unsafe { hb_correct_draw(book, bits) }
+}
+
+/// A chombo instead of the last result.
+pub fn correct_chombo(book: &mut Book, seat: u8) -> u8 {
+    unsafe { hb_correct_chombo(book, seat) }
+}
+
+/// So many rons on one tile instead of the last result.
+pub fn correct_many(book: &mut Book, number: u8, records: &[u8]) -> u8 {
+    unsafe { hb_correct_many(book, number, records.as_ptr(), records.len()) }
 }
 
 /// Next entry.
@@ -328,8 +360,8 @@ pub fn next(log: &[u8], at: usize) -> NextEntry {
 }
 
 /// Books the entry that a part of a log begins with.
-pub fn book(game: &mut Game, part: &[u8]) -> u8 {
-    unsafe { hb_book(game, part.as_ptr(), part.len()) }
+pub fn book(book: &mut Book, part: &[u8]) -> u8 {
+    unsafe { hb_book(book, part.as_ptr(), part.len()) }
 }
 
 /// A walk before a log's first entry.

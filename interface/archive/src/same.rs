@@ -2,10 +2,10 @@
 
 use std::collections::BTreeMap;
 
-use other_scorer::game::book;
 use other_scorer::log::{booking, letter, next, Next};
 use other_scorer::record::Meld;
 use other_scorer::turn::moved_changes;
+use other_scorer::Booking;
 
 use crate as archive;
 
@@ -164,8 +164,40 @@ fn named(feeders: &[u8; 8]) -> BTreeMap<(u8, u8), u8> {
     places.map(|(place, feeder)| ((place % 4, 28 + place / 4), feeder - 1)).collect()
 }
 
-/// The archive's game as a ledger (01, Ledger).
-pub fn ledger(game: &archive::Game) -> other_scorer::Ledger {
+/// A book at its start in the archive's form.
+pub fn fresh() -> archive::Book {
+    let fresh = game(&other_scorer::Game::fresh());
+    archive::Book { game: fresh, earlier: fresh, held: 0 }
+}
+
+/// The earlier game of the archive's book, none where it does not hold one (02, S-10).
+pub fn earlier(book: &archive::Book) -> Option<archive::Game> {
+    (book.held != 0).then_some(book.earlier)
+}
+
+/// A book of the other scorer from the archive's form.
+pub fn to_other_book(book: &archive::Book) -> other_scorer::Book {
+    other_scorer::Book::lent(to_other_game(&book.game), earlier(book).as_ref().map(to_other_game))
+}
+
+/// What a book should hold after a booking with a refusal, from the book before and the other scorer's game then: a refused one leaves
+/// every byte; an accepted one keeps the game before, a correction the earlier one, and marks whether it can be superseded (02, S-10).
+pub fn after(before: &archive::Book, booking: &Booking, refusal: u8, other: &other_scorer::Game) -> archive::Book {
+    let kept = if let Booking::Correction(_) = booking { before.earlier } else { before.game };
+    match refusal {
+        0 => archive::Book { game: game(other), earlier: kept, held: booking.finishes() as u32 },
+        _ => *before,
+    }
+}
+
+/// The archive's book as a ledger (01, Ledger; 02, S-10).
+pub fn ledger(book: &archive::Book) -> other_scorer::Ledger {
+    let earlier = earlier(book).map(|earlier| Box::new(ledger_of(&earlier)));
+    other_scorer::Ledger { earlier, ..ledger_of(&book.game) }
+}
+
+/// The archive's game as a ledger.
+fn ledger_of(game: &archive::Game) -> other_scorer::Ledger {
     other_scorer::Ledger {
         scores: game.scores.map(i64::from),
         sticks: game.sticks as i64,
@@ -176,6 +208,7 @@ pub fn ledger(game: &archive::Game) -> other_scorer::Ledger {
         over: game.over != 0,
         counter: game.counter as i64,
         fed: named(&game.feeders),
+        earlier: None,
     }
 }
 
@@ -194,14 +227,14 @@ pub fn entry(log: &[u8], at: usize) -> archive::NextEntry {
 /// The lines of a log from where a walk stands, each with where the walk then stands (01, Log). The number of an entry
 /// has 32 bits; the highest is never reached.
 pub fn lines(walk: archive::Walk, log: &[u8]) -> Vec<(String, archive::Walk)> {
-    let (mut walk, mut other, mut lines) = (walk, to_other_game(&walk.game), Vec::new());
+    let (mut walk, mut other, mut lines) = (walk, to_other_book(&walk.book), Vec::new());
     while let (Next::Entry { kind, argument, part }, true) = (next(log, walk.at), walk.entry < u32::MAX) {
         let booking = booking(kind, argument, part);
-        let refusal = book(&mut other, &booking);
-        let ([a, b, c, d], sticks) = (other.scores, other.sticks);
+        let refusal = other.book(&booking);
+        let ([a, b, c, d], sticks) = (other.game().scores, other.game().sticks);
         let line = format!("{} {} {refusal} {a} {b} {c} {d} {sticks}\n", walk.entry, letter(&booking));
-        let game = if refusal == 0 { game(&other) } else { walk.game };
-        walk = archive::Walk { game, at: walk.at + part.len(), entry: walk.entry + 1 };
+        let book = after(&walk.book, &booking, refusal, other.game());
+        walk = archive::Walk { book, at: walk.at + part.len(), entry: walk.entry + 1 };
         lines.push((line, walk));
     }
     lines

@@ -39,7 +39,7 @@ pub fn run(report: &mut Report, rng: &mut Rng, count: usize) {
         let (letter, refusal) = (number() as u8, number() as u8);
         let (declared, over) = ([(); 4].map(|_| number() as u8), number() as u8);
         let (counter, feeders) = (number(), [(); 8].map(|_| number() as u8));
-        let game = archive::Game { scores, sticks, declared, over, counter, feeders, ..archive::fresh() };
+        let game = archive::Game { scores, sticks, declared, over, counter, feeders, ..archive::fresh().game };
         let [a, b, c, d] = scores;
         let start = format!("{entry} ").into_bytes();
         let rest = format!(" {refusal} {a} {b} {c} {d} {sticks}\n").into_bytes();

@@ -141,6 +141,7 @@ A text of bookings gives the bytes of a log; the bytes of a log, or hexadecimal 
   chombo 3
   many 234567m345p67s22s+8s seat=1 ron=3 / HAND / HAND     one to three rons on one tile, each as for a win
   feed holder=1 feeder=3 yaku=28            seat 3 feeds seat 1's three dragon triplets; 29: four wind triplets
+  correct draw 0 2                          the last result was this: win, draw, chombo or many, as above
   bytes 40 ff                               these bytes as they are
   # a comment
 
@@ -155,10 +156,10 @@ tester tally FILE|-|HEX [--words] [--bytes] [--plain]
 
 The game of a log, text or bytes as for `tester log`: a line for each entry with the deal it was made in (E1 to S4),
 its refusal (0 accepted), the scores, sticks and counter after it, and the feeders named (3 to 1 28: seat 3 feeds yaku 28
-to seat 1), if there are any. Bytes past 65,536 are not read.
+to seat 1), if there are any. The deal of a correction is that of the result which it supersedes. Bytes past 65,536 are not read.
 
-  --words    why an entry was refused, whose chombo a draw was, who fed a win and pays for it, or who takes
-             sticks and counters of several rons, below it
+  --words    why an entry was refused, which entry a correction supersedes, whose chombo a draw was, who fed a win
+             and pays for it, or who takes sticks and counters of several rons, below it
   --bytes    FILE holds the bytes of a log, even if they look like text
 
 For scripts: the lines of the program tally; with --words what it says at the end of a line.

@@ -8,7 +8,7 @@ use other_scorer::notation::text;
 use other_scorer::record::RON;
 use other_scorer::score::valued;
 use other_scorer::sound::{field_faults, situation_faults, FIELD_FAULTS, SITUATION_FAULTS};
-use other_scorer::{set, unfinished, Booking, Game, Hand};
+use other_scorer::{set, unfinished, Book, Booking, Game, Hand};
 
 use crate::names::{count, points};
 
@@ -38,6 +38,7 @@ pub fn refusal(number: u8) -> &'static str {
         17 => "the hands are no rons on one tile, or none or over three",
         18 => "the feed does not fit, or is named already",
         19 => "no such suit or size, or the buffer is shorter than the list",
+        20 => "there is no result to supersede",
         21 => "the seat has no 1,000 points for the stick",
         22 => "the claim is faulty",
         _ => "no refusal of documents 01 and 02",
@@ -130,12 +131,25 @@ fn of_set(refusal: u8, list: &[&[u8]], game: &Game) -> Vec<String> {
         Ok(_) => refusal > 5 && book(&mut { *game }, &Booking::Win(record.to_vec())) != 0,
     };
     let at = list.iter().position(refused);
-    let own = at.map_or(Vec::new(), |at| of_booking(refusal, &Booking::Win(list[at].to_vec()), game));
+    let own = at.map_or(Vec::new(), |at| in_game(refusal, &Booking::Win(list[at].to_vec()), game));
     own.iter().map(|why| format!("record {}: {why}", at.unwrap_or(0) + 1)).collect()
 }
 
+/// The conditions met by the refusal of a booking in a book; a correction's new booking is refused in the earlier game (02, S-10).
+pub fn of_booking(refusal: u8, booking: &Booking, book: &Book) -> Vec<String> {
+    match (booking, book.earlier()) {
+        (Booking::Correction(new), Some(earlier)) => in_game(refusal, new, &earlier),
+        (Booking::Correction(_), None) => vec![match book.last() {
+            None => "nothing is booked yet".into(),
+            Some(Booking::Riichi(_)) => "a riichi has been accepted since".into(),
+            Some(_) => "a feed has been accepted since".into(),
+        }],
+        _ => in_game(refusal, booking, book.game()),
+    }
+}
+
 /// The conditions met by the refusal of a booking in a game (01, The game; 02, S-6, S-8 and S-11).
-pub fn of_booking(refusal: u8, booking: &Booking, game: &Game) -> Vec<String> {
+fn in_game(refusal: u8, booking: &Booking, game: &Game) -> Vec<String> {
     match (refusal, booking) {
         (9, _) if game.hands == 200 => vec!["200 hands are finished".into()],
         (9, _) => vec!["it is over".into()],

@@ -1,7 +1,7 @@
 //! `tally`: a log's bookings one after the other, and the game after each.
 
 use other_scorer::log::LONGEST;
-use other_scorer::Game;
+use other_scorer::{Booking, Game};
 
 use crate::both::Core;
 use crate::input;
@@ -13,24 +13,24 @@ use crate::text;
 use crate::walk::{whole, Step, Walk};
 use crate::words::{Bad, Words};
 
-/// The game of a log, entry by entry; with --words also why an entry is refused, that a draw was a chombo, that a win was
-/// fed, or who takes sticks and counters of several.
+/// The game of a log, entry by entry; with --words also why an entry is refused, what a correction supersedes, that a draw was a
+/// chombo, that a win was fed, or who takes sticks and counters of several.
 pub fn run(core: &mut Core, mut words: Words) -> Result<String, Bad> {
     let (plain, raw, why) = (words.take_flag("--plain"), words.take_flag("--bytes"), words.take_flag("--words"));
     let log = input::log(core, &words, raw)?.bytes;
     let log = &log[..log.len().min(LONGEST)];
     let walk = whole(core, log);
-    let lines = core.lines(log);
+    let (lines, remarks) = (core.lines(log), remarks(&walk));
     if plain {
-        let each = walk.steps.iter().zip(lines.split_inclusive('\n'));
-        return Ok(if why { each.map(|(step, line)| worded(line, step)).collect() } else { lines });
+        let each = remarks.iter().zip(lines.split_inclusive('\n'));
+        return Ok(if why { each.map(|(remark, line)| worded(line, remark.as_deref())).collect() } else { lines });
     }
     let mut page = Page::default();
     let rows = listing(&walk);
     page.line(&rows[0]);
-    for (step, row) in walk.steps.iter().zip(&rows[1..]) {
+    for (remark, row) in remarks.iter().zip(&rows[1..]) {
         page.line(row);
-        if let Some(remark) = remark(step).filter(|_| why) {
+        if let Some(remark) = remark.as_ref().filter(|_| why) {
             page.line(format!("      {remark}"));
         }
     }
@@ -38,7 +38,7 @@ pub fn run(core: &mut Core, mut words: Words) -> Result<String, Bad> {
     if let Some(at) = walk.stopped {
         page.line(format!("stopped at byte {at}, {:02x}: {}", log[at], sentence(14, &of_entry(&log[at..]))));
     }
-    let game = walk.steps.last().map_or(Game::fresh(), |step| step.after.other);
+    let game = walk.steps.last().map_or(Game::fresh(), |step| *step.after.other.game());
     let refused = walk.steps.iter().filter(|step| step.refusal != 0).count();
     let state = if game.over { "the game is over".to_string() } else { format!("{} is on", deal(&game)) };
     let hands = count(game.hands as usize, "hand");
@@ -47,18 +47,38 @@ pub fn run(core: &mut Core, mut words: Words) -> Result<String, Bad> {
     Ok(page.finish())
 }
 
-/// Why an entry was refused, or what an accepted draw was besides one, or who pays and takes what of wins that are no plain ones.
-fn remark(step: &Step) -> Option<String> {
-    let before = &step.before.other;
-    match step.refusal {
-        0 => of_draw(&step.booking, before).or_else(|| of_wins(&step.booking, before)),
-        refusal => Some(sentence(refusal, &of_booking(refusal, &step.booking, before))),
+/// The game that a step's booking is made in: a correction's is the earlier one, if there is one (02, S-10).
+fn made_in(step: &Step) -> Game {
+    let book = &step.before.other;
+    match (&step.booking, book.earlier()) {
+        (Booking::Correction(_), Some(earlier)) => earlier,
+        _ => *book.game(),
     }
 }
 
+/// Of each step: why it was refused; or which entry a correction supersedes, the last accepted one, what an accepted draw was besides
+/// one, and who pays and takes what of wins that are no plain ones.
+fn remarks(walk: &Walk) -> Vec<Option<String>> {
+    let mut last = 0;
+    let each = (1..).zip(&walk.steps).map(|(n, step)| {
+        if step.refusal != 0 {
+            return Some(sentence(step.refusal, &of_booking(step.refusal, &step.booking, &step.before.other)));
+        }
+        let (superseded, booking) = match &step.booking {
+            Booking::Correction(new) => (Some(format!("supersedes entry {last}")), new.as_ref()),
+            plain => (None, plain),
+        };
+        last = n;
+        let game = made_in(step);
+        let said: Vec<String> = superseded.into_iter().chain(of_draw(booking, &game)).chain(of_wins(booking, &game)).collect();
+        (!said.is_empty()).then(|| said.join("; "))
+    });
+    each.collect()
+}
+
 /// A line of tally with its remark behind it.
-fn worded(line: &str, step: &Step) -> String {
-    match remark(step) {
+fn worded(line: &str, remark: Option<&str>) -> String {
+    match remark {
         None => line.into(),
         Some(remark) => format!("{} {remark}\n", line.trim_end()),
     }
@@ -78,17 +98,17 @@ fn feeders(game: &Game) -> String {
 
 /// A line for each entry, after a line of heads; a column for the feeders where one is named.
 fn listing(walk: &Walk) -> Vec<String> {
-    let fed = walk.steps.iter().any(|step| step.after.archive.feeders != [0; 8]);
+    let fed = walk.steps.iter().any(|step| step.after.archive.game.feeders != [0; 8]);
     let mut heads = vec!["entry", "deal", "refusal", "seat 0", "seat 1", "seat 2", "seat 3", "sticks", "counter"];
     heads.extend(fed.then_some("fed"));
     heads.push("booking");
     let mut rows = vec![heads.into_iter().map(String::from).collect()];
     for (n, step) in (1..).zip(&walk.steps) {
-        let game = &step.after.archive;
-        let mut row = vec![n.to_string(), deal(&step.before.other), step.refusal.to_string()];
+        let game = &step.after.archive.game;
+        let mut row = vec![n.to_string(), deal(&made_in(step)), step.refusal.to_string()];
         row.extend(game.scores.map(|score| points(score as i64)));
         row.extend([game.sticks.to_string(), game.counter.to_string()]);
-        row.extend(fed.then(|| feeders(&step.after.other)));
+        row.extend(fed.then(|| feeders(step.after.other.game())));
         row.push(text::line(&step.booking));
         rows.push(row);
     }

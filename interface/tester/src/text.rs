@@ -25,23 +25,38 @@ fn entry(core: &mut Core, mut words: Words) -> Result<Vec<u8>, Bad> {
     let first = words.texts().first().map(|word| word.to_ascii_lowercase());
     let kind = match first.as_deref() {
         None => return Ok(Vec::new()),
-        Some(kind @ ("riichi" | "win" | "draw" | "chombo" | "many" | "feed" | "bytes")) => kind,
+        Some(kind @ ("riichi" | "win" | "draw" | "chombo" | "many" | "feed" | "correct" | "bytes")) => kind,
         Some(_) => {
-            let why = "a line begins with riichi, win, draw, chombo, many, feed or bytes (--bytes if the file is no text)";
+            let why = "a line begins with riichi, win, draw, chombo, many, feed, correct or bytes (--bytes if the file is no text)";
             return Err(words.bad(0, why));
         }
     };
     words.take_first();
     let booking = match kind {
         "riichi" => Booking::Riichi(argument(&words)?),
-        "chombo" => Booking::Chombo(argument(&words)?),
-        "draw" => Booking::Draw(ready(&words)?),
-        "win" => Booking::Win(record(core, &words)?),
-        "many" => many(core, &words)?,
         "feed" => feed(words)?,
-        _ => return input::bytes(&words).unwrap_or_else(|| Err(words.bad(0, "hexadecimal digits are needed"))),
+        "correct" => {
+            let kind = words.texts().first().map_or(String::new(), |word| word.to_ascii_lowercase());
+            if !["win", "draw", "chombo", "many"].contains(&kind.as_str()) {
+                return Err(words.bad(0, "what the result was is needed: win, draw, chombo or many"));
+            }
+            words.take_first();
+            result(core, &kind, &words)?.as_correction()
+        }
+        "bytes" => return input::bytes(&words).unwrap_or_else(|| Err(words.bad(0, "hexadecimal digits are needed"))),
+        _ => result(core, kind, &words)?,
     };
     Ok(booking.bytes())
+}
+
+/// A win, a draw, a chombo or a many, whose word has been taken.
+fn result(core: &mut Core, kind: &str, words: &Words) -> Result<Booking, Bad> {
+    Ok(match kind {
+        "chombo" => Booking::Chombo(argument(words)?),
+        "draw" => Booking::Draw(ready(words)?),
+        "win" => Booking::Win(record(core, words)?),
+        _ => many(core, words)?,
+    })
 }
 
 /// The one argument of a riichi or chombo; 4 to 15 have a place in a log, and are refused by the game.
@@ -120,6 +135,7 @@ pub fn line(booking: &Booking) -> String {
             let hands: Vec<String> = set::split(*number, records).into_iter().map(hand).collect();
             format!("many {}", hands.join(" / "))
         }
+        Booking::Correction(new) => format!("correct {}", line(new)),
     }
 }
 

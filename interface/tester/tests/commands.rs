@@ -482,7 +482,7 @@ fn a_win_that_was_fed() {
     let text = "feed holder=1 feeder=3 yaku=28\nwin 234m99pPPPFFFCC+C seat=1 tsumo indicator=5s\nfeed holder=1 feeder=1 yaku=28\n\
         feed holder=1 feeder=2 yaku=29\nfeed holder=1 feeder=3 yaku=29\nbytes 51  # refusal 14, the log's entry is bad or cut: feed argument not 0\n";
     assert_eq!(answer(&format!("log {log}")), text);
-    for (log, why) in [("50", "bytes missing"), ("50 71", "a zero bit of a feed set"), ("5f 70", "feed argument not 0"), ("60", "kind over 5")] {
+    for (log, why) in [("50", "bytes missing"), ("50 71", "a zero bit of a feed set"), ("5f 70", "feed argument not 0"), ("70", "kind over 6")] {
         let out = answer(&format!("tally {log}"));
         assert!(out.contains(&format!(": refusal 14, the log's entry is bad or cut: {why}\n")), "{out}");
     }
@@ -541,6 +541,67 @@ fn refusals_of_a_set_say_which_record_meets_them() {
     let last = "3 M 0 62000 6000 62000 -10000 0 sticks and counters are seat 0's; seat 0 fed yaku 28 to seat 2 and pays half, seat 3 the other half; \
         seat 1 fed yaku 28 to seat 0 and pays half, seat 3 the other half\n";
     assert!(ran.out.ends_with(last), "{}", ran.out);
+}
+
+#[test]
+fn results_put_right() {
+    let marked = LINE_1.replacen("b8", "ba", 1);
+    let log = format!("01 24 60 10 {marked} 60 33 02 60 2f 60 02");
+    let lines = "1 R 0 30000 29000 30000 30000 1\n2 D 0 29000 32000 29000 29000 1\n3 X 0 30000 33900 30000 26100 0 supersedes entry 2\n\
+        4 X 0 33000 33000 33000 21000 0 supersedes entry 3\n5 R 0 33000 33000 32000 21000 1\n\
+        6 X 20 33000 33000 32000 21000 1 refusal 20, there is no result to supersede: a riichi has been accepted since\n";
+    assert_eq!(answer(&format!("tally {log} --plain --words")), lines);
+    let text = "riichi 1\ndraw 1\ncorrect win 234567m345p2267s+8s seat=1 ron=3 riichi indicator=N\ncorrect chombo 3\nriichi 2\ncorrect draw 0 1 2 3\n\
+        bytes 6002  # refusal 14, the log's entry is bad or cut: a correction of no win, draw, chombo or many\n";
+    assert_eq!(answer(&format!("log {log}")), text);
+    let back = run_in(Path::new("."), "log - --plain", text.replace("correct", "CORRECT").replace("T win", "T Win").as_bytes());
+    assert_eq!(back.out.trim_end(), log.replace(' ', ""), "{}", back.err);
+    let out = answer(&format!("tally {log} --words"));
+    for row in ["    3    E1        0  30,000  33,900  30,000  26,100       0        0  correct win 234567m", "\n      supersedes entry 2\n"] {
+        assert!(out.contains(row), "{row} in\n{out}");
+    }
+    // The deal of a correction is that of the result which it supersedes; so are declared seats, feeders and counters.
+    let text = "draw 0\nriichi 2\nfeed holder=1 feeder=3 yaku=28\ndraw 2\ncorrect win 234m99pPPPFFFCC+C seat=1 ron=0 indicator=5s\n\
+        riichi 9\ncorrect draw\ncorrect many 234567m345p67s22s+8s seat=1 ron=3 / 234567m345p67s22s+8s seat=0 ron=3\nfeed holder=1 feeder=3 yaku=28\ncorrect draw 1\n";
+    let ran = run_in(Path::new("."), "tally - --words", text.as_bytes());
+    for row in [
+        "    4    E1        0  32,000  28,000  31,000  28,000       1        2             draw 2\n    5    E1        0  16,700  62,300  28,000  13,000       0        0             correct win",
+        "\n      supersedes entry 4; seat 3 fed yaku 28 to seat 1 and pays half, seat 0 the other half and the counters\n",
+        "\n      supersedes entry 5; a chombo, declared and not ready: seat 2\n",
+        "\n      supersedes entry 7; sticks and counters are seat 0's\n",
+        "\n      refusal 20, there is no result to supersede: a feed has been accepted since\n",
+    ] {
+        assert!(ran.out.contains(row), "{row} in\n{}", ran.out);
+    }
+    let text = "correct draw\nriichi 1\ndraw 1\ncorrect chombo 4\ncorrect win 234567m345p67s22s+8s seat=1 ron=3\ncorrect many 456p79s234s99p+8s chi=123m seat=2 ron=3\n";
+    let ran = run_in(Path::new("."), "tally - --plain --words", text.as_bytes());
+    let words: Vec<&str> = ran.out.lines().map(|line| line.splitn(9, ' ').nth(8).unwrap_or("")).collect();
+    let wanted = [
+        "refusal 20, there is no result to supersede: nothing is booked yet",
+        "",
+        "",
+        "refusal 8, an argument is out of range: seat 4 over 3",
+        "refusal 11, the riichi field and the declaration differ: seat 1 has declared, the record has no riichi",
+        "refusal 7, readings but none with a yaku: record 1: 1 reading",
+    ];
+    assert_eq!(words, wanted, "{}", ran.out);
+    let whole = format!("{}correct chombo 0\nriichi 1\n", "draw\n".repeat(8));
+    let ran = run_in(Path::new("."), "tally - --words", whole.as_bytes());
+    assert!(ran.out.contains("10 entries, 0 refused; 8 hands finished; S4 is on\n"), "{}", ran.out);
+    for (log, why) in [
+        ("60".into(), "bytes missing"),
+        ("61 20".into(), "correction argument not 0"),
+        ("60 01".into(), "a correction of no win, draw, chombo or many"),
+        ("60 50 70".into(), "a correction of no win, draw, chombo or many"),
+        ("60 60 20".into(), "a correction of no win, draw, chombo or many"),
+        ("60 44".into(), "no records or over three"),
+        ("60 11".into(), "win argument not 0"),
+        (format!("60 10 {}", &LINE_1[..24]), "bytes missing"),
+        (format!("60 10 {}", LINE_1.replace("6402", "6782")), "m over 4"),
+    ] {
+        let out = answer(&format!("tally {log}"));
+        assert!(out.contains(&format!(": refusal 14, the log's entry is bad or cut: {why}\n")), "{out}");
+    }
 }
 
 #[test]

@@ -106,7 +106,7 @@ fn of_a_log() {
 #[test]
 fn of_a_text() {
     for (line, message) in [
-        ("richi 1", "word 1, \"richi\": a line begins with riichi, win, draw, chombo, many, feed or bytes (--bytes if the file is no text)"),
+        ("richi 1", "word 1, \"richi\": a line begins with riichi, win, draw, chombo, many, feed, correct or bytes (--bytes if the file is no text)"),
         ("riichi", "after word 1, \"riichi\": the seat is missing, 0 to 3"),
         ("riichi 1 2", "word 3, \"2\": one seat is enough"),
         ("chombo 16", "word 2, \"16\": a seat is 0, 1, 2 or 3 (up to 15 to see it refused)"),
@@ -128,6 +128,13 @@ fn of_a_text() {
         ("feed holder=0 feeder=1 yaku=30", "word 4, \"yaku=30\": 28 for three dragon triplets or 29 for four wind triplets is needed"),
         ("feed holder=0 feeder=1 yaku=28 yaku=28", "word 5, \"yaku=28\": an earlier word has said this already"),
         ("feed 0 1 28", "word 2, \"0\": one of holder=, feeder= and yaku= is needed"),
+        ("correct", "after word 1, \"correct\": what the result was is needed: win, draw, chombo or many"),
+        ("correct riichi 1", "word 2, \"riichi\": what the result was is needed: win, draw, chombo or many"),
+        ("correct correct draw", "word 2, \"correct\": what the result was is needed: win, draw, chombo or many"),
+        ("correct draw 4", "word 3, \"4\": a ready seat is 0, 1, 2 or 3"),
+        ("correct chombo", "after word 2, \"chombo\": the seat is missing, 0 to 3"),
+        ("correct win 234567m345p67s22s+8s seat=1 tsumo wind=E", "word 6, \"wind=E\": in a log the game says who deals and which wind blows"),
+        ("correct many", "after word 2, \"many\": no hand, such as 234567m345p67s22s+8s seat=1 ron=3"),
         ("bytes 4", "word 2, \"4\": two hexadecimal digits make a byte, one is left over"),
         ("bytes xy", "word 2, \"xy\": hexadecimal digits are needed"),
     ] {

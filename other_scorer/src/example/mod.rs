@@ -1,9 +1,12 @@
-//! An example log of one game: scenes that keep the deal, eight that pass it, the end, and a cut entry.
+//! An example log of one game: a correction of nothing, scenes that keep the deal, eight that pass it, the end, put right and made
+//! again, and a cut entry.
 
+mod correction;
 pub mod scene;
 pub mod script;
 pub mod survey;
 
+use crate::booking::Booking;
 use crate::game::LAST_HAND;
 use crate::rng::Rng;
 use scene::{From, Scene};
@@ -18,7 +21,8 @@ pub enum End {
     Hands,
 }
 
-/// All scenes that keep the deal, in random order; the first time by rank, then without those that are early, of feeders or sets.
+/// All scenes that keep the deal, in random order; the first time by rank, then without those that are played once, of feeders, sets
+/// or corrections.
 fn scenes(rng: &mut Rng, first: bool) -> Vec<Scene> {
     let mut all = Vec::new();
     all.extend((1..=36).filter(|&n| n != 27).map(Scene::Yaku));
@@ -40,13 +44,15 @@ fn scenes(rng: &mut Rng, first: bool) -> Vec<Scene> {
         all.extend((0..3).map(Scene::SetFed));
         all.extend((0..6).map(Scene::SetUnfit));
         all.extend([2, 3, 4, 5, 6, 7, 11].map(Scene::SetRefused));
+        all.extend(correction::PAIRS.map(|(old, new)| Scene::Corrected(old, new)));
+        all.extend([Scene::CorrectedTwice, Scene::CorrectedLate, Scene::CorrectionRefused]);
     }
     rng.shuffle(&mut all);
     if first {
         all.push(Scene::LastStick);
         all.sort_by_key(Scene::rank);
     } else {
-        all.retain(|scene| !scene.is_early());
+        all.retain(|scene| !scene.is_once());
     }
     all
 }
@@ -57,6 +63,7 @@ pub fn example(seed: u64, end: End) -> Vec<u8> {
     let mut rng = Rng::new(seed ^ 0x5EED);
     let twice = [scenes(&mut rng, true), scenes(&mut rng, false)].concat();
     let parts: Vec<&[Scene]> = twice.chunks(twice.len().div_ceil(8)).collect();
+    script.add(Booking::Draw(15).as_correction());
     for (deal, part) in parts.into_iter().enumerate() {
         part.iter().for_each(|scene| scene.play(&mut script));
         if deal < 6 || deal < 7 && end == End::Deal {
@@ -69,6 +76,7 @@ pub fn example(seed: u64, end: End) -> Vec<u8> {
         scene.play(&mut script);
     }
     scene::pass(&mut script, 7);
+    correction::at_the_end(&mut script);
     scene::after_the_end(&mut script);
     script.log
 }

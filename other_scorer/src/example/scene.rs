@@ -1,6 +1,7 @@
-//! Scenes of an example log; each starts and ends with no seat declared and no feeder named (01, The game; 02, S-6 to S-8 and
-//! S-11).
+//! Scenes of an example log; each starts and ends with no seat declared and no feeder named (01, The game; 02, S-6 to S-8, S-10
+//! and S-11).
 
+use super::correction;
 use super::script::Script;
 use crate::booking::Booking::{Chombo, Draw, Feed, Many, Riichi, Win};
 use crate::codec::{length, pack, read};
@@ -59,6 +60,15 @@ pub enum Scene {
     SetUnfit(usize),
     /// Two rons, one of which is refused with 2 to 7 or 11.
     SetRefused(u8),
+    /// A result of one kind, which passes the deal if it can, put right by one of another, which keeps it: a win, a draw, a draw with a
+    /// declared seat that is not ready (U), a chombo, a set of rons, or a win that was fed (F) (02, S-10).
+    Corrected(char, char),
+    /// A result put right three times (02, S-10).
+    CorrectedTwice,
+    /// Corrections after a riichi and after a feed (refusal 20), and one after refused bookings (02, S-10).
+    CorrectedLate,
+    /// Corrections refused with 2 to 8, 11 and 17 (02, S-10).
+    CorrectionRefused,
     /// Sticks carried over two draws, a draw with a seat that is not ready and a chombo to a win.
     Carried,
     /// Riichi and chombo with an argument over 3 (refusal 8).
@@ -91,17 +101,19 @@ impl Scene {
             Scene::LastStick => 0,
             Scene::Unready(4..) | Scene::Chombo(4.., _) => 1,
             Scene::Unready(_) | Scene::Chombo(1.., _) | Scene::Draw(_) => 2,
-            Scene::Carried => 3,
+            Scene::Carried | Scene::Corrected('U', _) | Scene::Corrected(_, 'U') => 3,
             Scene::Set(3) => 4,
             Scene::Set(2) | Scene::Lapsed('U') => 5,
             Scene::Fed(_, From::Wall | From::Feeder) | Scene::Yaku(10 | 11) => 6,
+            Scene::Corrected(..) | Scene::CorrectedLate | Scene::CorrectionRefused => 6,
             _ => 7,
         }
     }
 
-    /// Whether the scene is of no use where seats have too few points to declare.
-    pub fn is_early(&self) -> bool {
-        matches!(self, Scene::Unready(3..) | Scene::Chombo(3.., _) | Scene::Carried | Scene::Yaku(10 | 11))
+    /// Whether the scene is of no use where seats have too few points to declare, or is in many others.
+    pub fn is_once(&self) -> bool {
+        let early = matches!(self, Scene::Unready(3..) | Scene::Chombo(3.., _) | Scene::Carried | Scene::Yaku(10 | 11));
+        early || matches!(self, Scene::Melds(_) | Scene::MeldKind(_) | Scene::Han(..))
     }
 
     /// Adds the scene's entries.
@@ -147,6 +159,10 @@ impl Scene {
             Scene::SetFed(way) => set_fed(script, way),
             Scene::SetUnfit(fault) => set_unfit(script, fault),
             Scene::SetRefused(number) => set_refused(script, number),
+            Scene::Corrected(old, new) => correction::corrected(script, old, new),
+            Scene::CorrectedTwice => correction::thrice(script),
+            Scene::CorrectedLate => correction::late(script),
+            Scene::CorrectionRefused => correction::refused(script),
             Scene::Carried => carried(script),
             Scene::Seat => {
                 let over = script.rng.within(4, 15);
@@ -224,8 +240,14 @@ fn silent(script: &mut Script, refusal: u8) {
     script.draw(&[script.game.dealer, seat]);
 }
 
-/// A win refused with 2 to 7, nobody declared; refusal 1 cannot come up in a log (01, Log).
+/// A win refused with 2 to 7, nobody declared.
 fn refused(script: &mut Script, number: u8) {
+    let record = refused_record(script, number);
+    script.add(Win(record));
+}
+
+/// A record that Score refuses with 2 to 7; refusal 1 cannot come up in a log (01, Log).
+pub fn refused_record(script: &mut Script, number: u8) -> Vec<u8> {
     loop {
         let fault = script.rng.below(FAULTS);
         let record = match number {
@@ -235,8 +257,7 @@ fn refused(script: &mut Script, number: u8) {
             _ => pack(&script.find(fault as u8 % 4, |_, scored| scored.refusal == 7)),
         };
         if crate::score(&record, script.game.dealer, script.game.wind).refusal == number {
-            script.add(Win(record));
-            return;
+            return record;
         }
     }
 }
@@ -278,7 +299,7 @@ fn chombo(script: &mut Script, count: usize, own: bool) {
 }
 
 /// Names a feeder of a holder's yaku; gives it.
-fn named(script: &mut Script, holder: u8, yaku: u8) -> u8 {
+pub fn named(script: &mut Script, holder: u8, yaku: u8) -> u8 {
     let feeder = script.seats(&[holder])[1];
     script.add(Feed { holder, feeder, yaku });
     feeder
@@ -381,6 +402,12 @@ fn two(script: &mut Script) -> [Hand; 2] {
 
 /// Two sound hands that make no set in this way (refusal 17).
 fn set_unfit(script: &mut Script, fault: usize) {
+    let hands = unfit(script, fault);
+    script.set(&hands, false);
+}
+
+/// Two sound hands without riichi that make no set in this way.
+pub fn unfit(script: &mut Script, fault: usize) -> [Hand; 2] {
     loop {
         let [one, mut two] = two(script);
         let (at, kind) = (script.rng.below(13 - 3 * two.m as usize), script.rng.within(0, 33));
@@ -394,8 +421,7 @@ fn set_unfit(script: &mut Script, fault: usize) {
         }
         two.concealed[..13 - 3 * two.m as usize].sort();
         if refusal(&two) == 0 && set::faults(&[one, two])[fault] {
-            script.set(&[one, two], false);
-            return;
+            return [one, two];
         }
     }
 }
@@ -498,7 +524,7 @@ pub fn pass(script: &mut Script, deal: usize) {
     }
 }
 
-/// Entries that a game that is over refuses with 9, or 8 if that is first; then a cut win (14).
+/// Entries that a game that is over refuses with 9, or 8 if that is first, and a correction refused with 2; then a cut one (14).
 pub fn after_the_end(script: &mut Script) {
     let seat = script.rng.within(0, 3);
     let sound = pack(&script.find(seat, |hand, scored| hand.riichi == 0 && scored.refusal == 0));
@@ -516,7 +542,9 @@ pub fn after_the_end(script: &mut Script) {
     let hands = two(script);
     script.set(&hands, false);
     set_unfit(script, 1);
-    let whole = Win(pack(&script.find(seat, any))).bytes();
+    let record = refused_record(script, 2);
+    script.add(Win(record).as_correction());
+    let whole = Win(pack(&script.find(seat, any))).as_correction().bytes();
     let cut = 5 + script.rng.below(whole.len() - 5);
     script.log.extend(&whole[..cut]);
 }

@@ -1,9 +1,10 @@
 //! A log in the making, with the game it books.
 
+use crate::book::Book;
 use crate::booking::Booking;
 use crate::codec::pack;
 use crate::deal::{on_tile_of, themed};
-use crate::game::{book, Game};
+use crate::game::Game;
 use crate::record::{Hand, RON};
 use crate::rng::Rng;
 use crate::score::{score, Scored};
@@ -11,6 +12,8 @@ use crate::sound::refusal;
 
 pub struct Script {
     pub log: Vec<u8>,
+    book: Book,
+    /// The book's game as it stands.
     pub game: Game,
     pub rng: Rng,
 }
@@ -18,13 +21,20 @@ pub struct Script {
 impl Script {
     /// An empty log and a fresh game.
     pub fn new(seed: u64) -> Script {
-        Script { log: Vec::new(), game: Game::fresh(), rng: Rng::new(seed) }
+        Script { log: Vec::new(), book: Book::fresh(), game: Game::fresh(), rng: Rng::new(seed) }
     }
 
     /// Adds an entry, books it, gives its refusal (01, Log).
     pub fn add(&mut self, booking: Booking) -> u8 {
         self.log.extend(booking.bytes());
-        book(&mut self.game, &booking)
+        let number = self.book.book(&booking);
+        self.game = *self.book.game();
+        number
+    }
+
+    /// The game in which the last result was booked, none where there is none to put right (02, S-10).
+    pub fn earlier(&self) -> Option<Game> {
+        self.book.earlier()
     }
 
     /// Some seats in random order, the first ones those given.

@@ -1,10 +1,11 @@
-//! What a log covers, counted by walking it with a fresh game (01, The game; Log; 02, S-6 to S-8 and S-11).
+//! What a log covers, counted by walking it with a fresh game (01, The game; Log; 02, S-6 to S-8, S-10 and S-11).
 
+use crate::book::Book;
 use crate::booking::Booking;
 use crate::codec::{length, pack, read};
 use crate::cover::Cover;
 use crate::fed::{self, DRAGONS, WINDS};
-use crate::game::{book, is_ready, liable, Game};
+use crate::game::{is_ready, liable, Game};
 use crate::log::{bookings, letter};
 use crate::record::{Hand, RON};
 use crate::score::score;
@@ -15,10 +16,10 @@ const SEATS: [&str; 2] = ["child", "dealer"];
 /// The names of all counts and the labels that must be reached.
 fn expected() -> Cover {
     let mut cover = Cover::default();
-    cover.expect("accepted", &["R", "W", "D", "C", "M", "P"]);
-    cover.expect("refused", &["R", "W", "D", "C", "M", "P"]);
-    cover.expect("refusal", &["2", "3", "4", "5", "6", "7", "8", "9", "10", "11", "14", "17", "18", "21"]);
-    cover.expect("refused after the end", &["R 8", "R 9", "W 9", "D 9", "C 8", "C 9", "M 9", "P 9"]);
+    cover.expect("accepted", &["R", "W", "D", "C", "M", "P", "X"]);
+    cover.expect("refused", &["R", "W", "D", "C", "M", "P", "X"]);
+    cover.expect("refusal", &["2", "3", "4", "5", "6", "7", "8", "9", "10", "11", "14", "17", "18", "20", "21"]);
+    cover.expect("refused after the end", &["R 8", "R 9", "W 9", "D 9", "C 8", "C 9", "M 9", "P 9", "X 2"]);
     cover.expect("refusal 11", &["field without riichi", "riichi without field"]);
     cover.expect("riichi with", &["1,000", "more"]);
     cover.expect("refusal 10 with", &["1,000 or more", "under 1,000"]);
@@ -53,6 +54,13 @@ fn expected() -> Cover {
     cover.expect("riichi since a feed", &["yes"]);
     cover.expect("win not fed", &["no such yaku", "three winds and a pair", "the yaku of another holder", "the other yaku", "lapsed"]);
     cover.expect("feeders lapse by", &["W fed", "W", "D", "D of a chombo", "C", "M"]);
+    cover.expect("correction of", &["W", "D", "D of a chombo", "C", "M", "a correction"]);
+    cover.expect("correction by", &["W", "W fed", "D", "D of a chombo", "C", "M"]);
+    cover.expect("correction", &["at once", "after a refused booking", "after a refused correction", "of the end"]);
+    cover.expect("correction gives back", &["declared seats", "feeders", "counters", "sticks", "the deal"]);
+    cover.expect("correction refused", &["2", "3", "4", "5", "6", "7", "8", "11", "17", "20"]);
+    cover.expect("refusal 20", &["nothing booked", "since R", "since P"]);
+    cover.watch("play goes on after the end");
     cover.expect("deal repeats by", &["W", "D", "C", "M"]);
     cover.expect("deal passes by", &["W", "D", "M"]);
     cover.expect("wind turns South", &["yes"]);
@@ -125,14 +133,51 @@ fn note_set(cover: &mut Cover, before: &Game, hands: &[Hand]) {
 
 /// Counts what lets feeders lapse (02, S-8).
 fn note_lapse(cover: &mut Cover, before: &Game, after: &Game, booking: &Booking) {
-    if before.feeders == [0; 8] || after.feeders != [0; 8] {
-        return;
-    }
-    cover.add("feeders lapse by", match booking {
+    cover.add_if(before.feeders != [0; 8] && after.feeders == [0; 8], "feeders lapse by", named(before, booking));
+}
+
+/// The letter of a booking in a game, with what it is besides: a win that was fed, a draw that is a chombo (02, S-7 and S-8).
+fn named(before: &Game, booking: &Booking) -> String {
+    match booking {
         Booking::Win(record) if read(record).is_ok_and(|hand| liable(before, &hand).is_some()) => "W fed".into(),
         Booking::Draw(bits) if !before.unready(*bits).is_empty() => "D of a chombo".into(),
         _ => letter(booking).to_string(),
+    }
+}
+
+/// What has been booked since the last result: whether that was a correction, and the last refused booking (02, S-10).
+#[derive(Default)]
+struct Since {
+    corrected: bool,
+    refused: Option<char>,
+}
+
+/// Counts an accepted correction: what it supersedes, by what, and what comes back (02, S-10).
+fn note_correction(cover: &mut Cover, before: &Book, after: &Game, new: &Booking, since: &Since) {
+    let (game, earlier) = (before.game(), before.earlier().expect("an earlier game"));
+    let old = before.last().expect("a superseded booking");
+    let old = named(&earlier, old).replace("W fed", "W");
+    cover.add("correction of", if since.corrected { "a correction".into() } else { old });
+    cover.add("correction by", named(&earlier, new));
+    cover.add("correction", match since.refused {
+        None => "at once",
+        Some('X') => "after a refused correction",
+        Some(_) => "after a refused booking",
     });
+    cover.add_if(game.over, "correction", "of the end");
+    cover.add_if(game.over && !after.over, "play goes on after the end", "yes");
+    cover.add_if(earlier.declared.contains(&true), "correction gives back", "declared seats");
+    cover.add_if(earlier.feeders != [0; 8], "correction gives back", "feeders");
+    cover.add_if(earlier.counter > game.counter, "correction gives back", "counters");
+    cover.add_if(earlier.sticks > game.sticks, "correction gives back", "sticks");
+    cover.add_if((earlier.dealer, earlier.wind) != (game.dealer, game.wind), "correction gives back", "the deal");
+}
+
+/// Counts a refused correction (02, S-10).
+fn note_refused_correction(cover: &mut Cover, before: &Book, refusal: u8) {
+    cover.add("correction refused", refusal);
+    let since = before.last().map_or("nothing booked".into(), |last| format!("since {}", letter(last)));
+    cover.add_if(refusal == 20, "refusal 20", since);
 }
 
 /// Counts an accepted win.
@@ -242,47 +287,66 @@ fn note_refused(cover: &mut Cover, before: &Game, booking: &Booking, refusal: u8
     }
 }
 
+/// Counts an accepted booking that is no correction; `lapsed` are the feeders of the hand before (02, S-8).
+fn note_accepted(cover: &mut Cover, before: &Game, after: &Game, booking: &Booking, lapsed: &[(u8, u8)]) {
+    match booking {
+        Booking::Riichi(seat) => {
+            cover.add("riichi with", if before.scores[*seat as usize] == 1000 { "1,000" } else { "more" });
+            cover.add_if(before.feeders != [0; 8], "riichi since a feed", "yes");
+        }
+        Booking::Win(record) => {
+            let hand = read(record).expect("an accepted win");
+            note_win(cover, before, &hand, record);
+            note_fed(cover, before, &hand, lapsed);
+        }
+        Booking::Draw(bits) => note_draw(cover, before, *bits),
+        Booking::Chombo(seat) => note_chombo(cover, before, *seat),
+        Booking::Many { number, records } => note_set(cover, before, &set::hands(*number, records).expect("an accepted set")),
+        Booking::Feed { holder, yaku, .. } => note_feed(cover, before, *holder, *yaku),
+        Booking::Correction(_) => {}
+    }
+    note_lapse(cover, before, after, booking);
+    note_deal(cover, before, after, letter(booking));
+}
+
 /// The entries, finished hands and counts of a log.
 pub fn survey(log: &[u8]) -> (usize, u8, Cover) {
     let mut cover = expected();
-    let mut game = Game::fresh();
+    let mut book = Book::fresh();
     let (list, bad) = bookings(log);
     let mut lapsed: Vec<(u8, u8)> = Vec::new();
     let mut away: Vec<u8> = Vec::new();
+    let mut since = Since::default();
     for booking in &list {
-        let before = game;
-        let refusal = book(&mut game, booking);
+        let before = book.clone();
+        let refusal = book.book(booking);
         if refusal != 0 {
-            note_refused(&mut cover, &before, booking, refusal, &away);
-            if let (Booking::Riichi(seat), 21) = (booking, refusal) {
-                away.push(*seat);
+            note_refused(&mut cover, before.game(), booking, refusal, &away);
+            match booking {
+                Booking::Riichi(seat) if refusal == 21 => away.push(*seat),
+                Booking::Correction(_) => note_refused_correction(&mut cover, &before, refusal),
+                _ => {}
             }
+            since.refused = Some(letter(booking));
             continue;
         }
         cover.add("accepted", letter(booking));
-        match booking {
-            Booking::Riichi(seat) => {
-                cover.add("riichi with", if before.scores[*seat as usize] == 1000 { "1,000" } else { "more" });
-                cover.add_if(before.feeders != [0; 8], "riichi since a feed", "yes");
+        // The game that an accepted correction is booked in is the earlier one.
+        let (game, plain) = match booking {
+            Booking::Correction(new) => {
+                note_correction(&mut cover, &before, book.game(), new, &since);
+                (before.earlier().expect("an earlier game"), new.as_ref())
             }
-            Booking::Win(record) => {
-                let hand = read(record).expect("an accepted win");
-                note_win(&mut cover, &before, &hand, record);
-                note_fed(&mut cover, &before, &hand, &lapsed);
-            }
-            Booking::Draw(bits) => note_draw(&mut cover, &before, *bits),
-            Booking::Chombo(seat) => note_chombo(&mut cover, &before, *seat),
-            Booking::Many { number, records } => note_set(&mut cover, &before, &set::hands(*number, records).expect("an accepted set")),
-            Booking::Feed { holder, yaku, .. } => note_feed(&mut cover, &before, *holder, *yaku),
-        }
-        note_lapse(&mut cover, &before, &game, booking);
-        if game.hands > before.hands {
+            _ => (*before.game(), booking),
+        };
+        note_accepted(&mut cover, &game, book.game(), plain, &lapsed);
+        if plain.finishes() {
             away.clear();
             let named = (0..4).flat_map(|seat| [(seat, DRAGONS), (seat, WINDS)]);
-            lapsed = named.filter(|&(seat, yaku)| before.feeder(seat, yaku).is_some()).collect();
+            lapsed = named.filter(|&(seat, yaku)| game.feeder(seat, yaku).is_some()).collect();
         }
-        note_deal(&mut cover, &before, &game, letter(booking));
+        since = Since { corrected: plain != booking, refused: None };
     }
     cover.add_if(bad != 0, "refusal", bad);
-    (list.len(), game.hands, cover)
+    (list.len(), book.game().hands, cover)
 }

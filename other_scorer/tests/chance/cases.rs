@@ -1,15 +1,15 @@
-//! What of feeders, sets and sticks a booking meets, for counting: a run that leaves one out has not tested it (02, S-6, S-8 and
-//! S-11).
+//! What of feeders, sets, corrections and sticks a booking meets, for counting: a run that leaves one out has not tested it (02, S-6,
+//! S-8, S-10 and S-11).
 
 use other_scorer::codec::read;
 use other_scorer::fed::{self, DRAGONS, WINDS};
 use other_scorer::game::{book, liable};
 use other_scorer::record::{Hand, RON};
 use other_scorer::score::score;
-use other_scorer::{set, Booking, Game};
+use other_scorer::{set, Book, Booking, Game};
 
 /// All cases.
-pub const CASES: [&str; 73] = [
+pub const CASES: [&str; 117] = [
     "28 fed, tsumo",
     "28 fed, ron from the feeder",
     "28 fed, ron from another",
@@ -83,15 +83,100 @@ pub const CASES: [&str; 73] = [
     "turned away: its win with riichi marked is refused",
     "turned away: a set with its riichi marked is refused",
     "turned away: its win without riichi is paid",
+    "correction: a win",
+    "correction: a draw",
+    "correction: a draw that is a chombo",
+    "correction: a chombo",
+    "correction: a set",
+    "correction: a win that was fed",
+    "correction of a win",
+    "correction of a draw",
+    "correction of a draw that is a chombo",
+    "correction of a chombo",
+    "correction of a set",
+    "correction of a correction",
+    "correction at once",
+    "correction after a refused booking",
+    "correction after a refused correction",
+    "correction: declared seats come back",
+    "correction: feeders come back",
+    "correction: counters come back",
+    "correction: sticks come back",
+    "correction: the deal comes back",
+    "correction of the end: play goes on",
+    "correction of the end: the deal ends it again",
+    "correction of the end: the 200th hand",
+    "correction: it ends the game",
+    "correction refused: nothing is booked yet",
+    "correction refused: since a riichi",
+    "correction refused: since a feed",
+    "correction refused: 20 before the new booking's",
+    "correction refused: 1",
+    "correction refused: 2",
+    "correction refused: 3",
+    "correction refused: 4",
+    "correction refused: 5",
+    "correction refused: 6",
+    "correction refused: 7",
+    "correction refused: 8",
+    "correction refused: 11",
+    "correction refused: 17",
+    LENT[0],
+    LENT[1],
+    LENT[2],
+    LENT[3],
+    LENT[4],
+    LENT[5],
 ];
+
+/// The cases of a correction that only books lent in any state meet (02, S-10).
+pub const LENT: [&str; 6] = [
+    "correction of a result before the list",
+    "correction refused: none to supersede, the game over",
+    "correction refused: the game out of form",
+    "correction refused: the earlier game out of form",
+    "correction refused: the earlier game over",
+    "another booking refused: the earlier game out of form",
+];
+
+/// What of the bookings before a booking counts: the seats turned away in this hand, whether the last accepted one was a correction,
+/// and whether one has been refused since, a correction (true) or another.
+#[derive(Default)]
+pub struct Track {
+    away: Away,
+    corrected: bool,
+    refused: Option<bool>,
+}
+
+impl Track {
+    /// The cases that a booking in a book meets, with its refusal, which is then noted.
+    pub fn met(&mut self, before: &Book, booking: &Booking, refusal: u8) -> Vec<&'static str> {
+        let is_correction = matches!(booking, Booking::Correction(_));
+        let mut met = met(before, booking, refusal);
+        met.extend(self.away.met(booking, refusal));
+        if is_correction && refusal == 0 {
+            met.extend(self.corrected.then_some("correction of a correction"));
+            met.push(match self.refused {
+                None => "correction at once",
+                Some(false) => "correction after a refused booking",
+                Some(true) => "correction after a refused correction",
+            });
+        }
+        (self.corrected, self.refused) = match refusal {
+            0 => (is_correction, None),
+            _ => (self.corrected, Some(is_correction)),
+        };
+        met
+    }
+}
 
 /// The seats whose riichi was refused with 21 in this hand (02, S-11).
 #[derive(Default)]
-pub struct Away([bool; 4]);
+struct Away([bool; 4]);
 
 impl Away {
     /// The cases of such seats that a booking meets, with its refusal; then its own riichi, or the hand's end, is noted.
-    pub fn met(&mut self, booking: &Booking, refusal: u8) -> Option<&'static str> {
+    fn met(&mut self, booking: &Booking, refusal: u8) -> Option<&'static str> {
         let hands = match booking {
             Booking::Win(record) => read(record).map_or(vec![], |hand| vec![hand]),
             Booking::Many { number, records } => set::hands(*number, records).unwrap_or_default(),
@@ -106,7 +191,7 @@ impl Away {
         };
         match (booking, refusal) {
             (Booking::Riichi(seat), 21) => self.0[*seat as usize] = true,
-            (Booking::Win(_) | Booking::Many { .. } | Booking::Draw(_) | Booking::Chombo(_), 0) => self.0 = [false; 4],
+            (_, 0) if booking.finishes() => self.0 = [false; 4],
             _ => {}
         }
         met
@@ -211,8 +296,73 @@ fn of_refused_set(before: &Game, number: u8, records: &[u8], refusal: u8) -> Vec
     vec![case(format!("set refused: {} record {refusal}", if at == 0 { "first" } else { "later" }))]
 }
 
-/// The cases that a booking in a game meets, with its refusal.
-pub fn met(before: &Game, booking: &Booking, refusal: u8) -> Vec<&'static str> {
+/// A booking of a result in a game in words.
+fn in_words(before: &Game, result: &Booking) -> &'static str {
+    match result {
+        Booking::Win(_) => "a win",
+        Booking::Draw(bits) if before.unready(*bits).is_empty() => "a draw",
+        Booking::Draw(_) => "a draw that is a chombo",
+        Booking::Chombo(_) => "a chombo",
+        _ => "a set",
+    }
+}
+
+/// The cases of a correction that has a game to be booked in, with the refusal that it meets there, 0 if accepted (02, S-10).
+fn of_correction(before: &Book, earlier: &Game, new: &Booking, refusal: u8) -> Vec<&'static str> {
+    let game = before.game();
+    let mut met = of_plain(earlier, new, refusal);
+    if refusal != 0 {
+        met.push(if refusal == 9 { LENT[4] } else { case(format!("correction refused: {refusal}")) });
+        return met;
+    }
+    let mut after = *earlier;
+    assert_eq!(book(&mut after, new), 0);
+    let fed = met.contains(&"fed, the dealer wins") || met.contains(&"fed, a child wins");
+    let tests = [
+        (fed, "correction: a win that was fed"),
+        (earlier.declared.contains(&true), "correction: declared seats come back"),
+        (earlier.feeders != [0; 8], "correction: feeders come back"),
+        (earlier.counter > game.counter, "correction: counters come back"),
+        (earlier.sticks > game.sticks, "correction: sticks come back"),
+        ((earlier.dealer, earlier.wind) != (game.dealer, game.wind), "correction: the deal comes back"),
+        (game.over && !after.over, "correction of the end: play goes on"),
+        (game.over && after.over && after.hands < 200, "correction of the end: the deal ends it again"),
+        (game.over && game.hands == 200, "correction of the end: the 200th hand"),
+        (!game.over && after.over, "correction: it ends the game"),
+    ];
+    met.extend(tests.into_iter().filter(|(holds, _)| *holds).map(|(_, case)| case));
+    met.push(case(format!("correction: {}", in_words(earlier, new))));
+    met.push(before.last().map_or(LENT[0], |old| case(format!("correction of {}", in_words(earlier, old)))));
+    met
+}
+
+/// The cases that a booking in a book meets, with its refusal.
+fn met(before: &Book, booking: &Booking, refusal: u8) -> Vec<&'static str> {
+    let (game, earlier) = (before.game(), before.earlier());
+    let is_lost = game.is_open() && earlier.is_some_and(|earlier| !earlier.is_in_form());
+    let met = match (booking, earlier, before.last()) {
+        (Booking::Correction(_), ..) if !game.is_in_form() => vec![LENT[2]],
+        (Booking::Correction(_), ..) if !before.is_in_form() => vec![LENT[3]],
+        (Booking::Correction(new), Some(earlier), _) => of_correction(before, &earlier, new, refusal),
+        (Booking::Correction(new), None, last) => {
+            let since = match last {
+                None if game.over || game.hands == 200 => LENT[1],
+                None => "correction refused: nothing is booked yet",
+                Some(Booking::Riichi(_)) => "correction refused: since a riichi",
+                Some(_) => "correction refused: since a feed",
+            };
+            let own = book(&mut { *game }, new) != 0;
+            [since].into_iter().chain(own.then_some("correction refused: 20 before the new booking's")).collect()
+        }
+        _ if is_lost && refusal == 9 => vec![LENT[5]],
+        _ => of_plain(game, booking, refusal),
+    };
+    assert!(met.iter().all(|case| CASES.contains(case)), "{met:?}");
+    met
+}
+
+/// The cases that a booking that is no correction meets in a game, with its refusal.
+fn of_plain(before: &Game, booking: &Booking, refusal: u8) -> Vec<&'static str> {
     let mut met = match (booking, refusal) {
         (Booking::Win(record), 0) => of_win(before, record),
         (Booking::Many { number, records }, 0) => of_set(before, &set::hands(*number, records).expect("an accepted set")),
@@ -232,9 +382,8 @@ pub fn met(before: &Game, booking: &Booking, refusal: u8) -> Vec<&'static str> {
             Booking::Draw(_) => Some("lapse by a draw that is a chombo"),
             Booking::Chombo(_) => Some("lapse by a chombo"),
             Booking::Many { .. } => Some("lapse by a set"),
-            Booking::Riichi(_) | Booking::Feed { .. } => None,
+            Booking::Riichi(_) | Booking::Feed { .. } | Booking::Correction(_) => None,
         });
     }
-    assert!(met.iter().all(|case| CASES.contains(case)), "{met:?}");
     met
 }

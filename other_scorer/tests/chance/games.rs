@@ -1,8 +1,8 @@
-//! Random games for the tests.
+//! Random games and books for the tests.
 
 use other_scorer::game::FLOOR;
 use other_scorer::rng::Rng;
-use other_scorer::Game;
+use other_scorer::{Book, Game};
 
 /// A score from the floor up, often at one of a few values.
 fn score(rng: &mut Rng) -> i64 {
@@ -70,4 +70,16 @@ pub fn disturbed(rng: &mut Rng) -> Game {
         }
     }
     game
+}
+
+/// A game in form mostly, else disturbed.
+pub fn any(rng: &mut Rng) -> Game {
+    if rng.percent(80) { in_form(rng) } else { disturbed(rng) }
+}
+
+/// A book with a game of any state; half of them with an earlier game of any state, now and then out of form or over (02, S-10).
+#[allow(dead_code)]
+pub fn book(rng: &mut Rng) -> Book {
+    let earlier = rng.percent(50).then(|| any(rng));
+    Book::lent(any(rng), earlier)
 }

@@ -9,7 +9,7 @@ use other_scorer::record::{Hand, LAST_TILE, ORDINARY, RON, TSUMO};
 use other_scorer::rng::Rng;
 use other_scorer::sound::refusal;
 use other_scorer::themes::yakuman::{big_dragons, big_winds, little_winds};
-use other_scorer::{Booking, Game};
+use other_scorer::{Book, Booking, Game};
 
 /// The riichi field that fits a seat's declaration; with under 1,000 at times one though riichi is refused (02, S-11).
 fn riichi_field(rng: &mut Rng, game: &Game, seat: u8) -> u8 {
@@ -209,11 +209,26 @@ fn win(rng: &mut Rng, game: &Game, winner: u8, keep: bool) -> Booking {
     Booking::Win(fed_record(rng, game, winner, yaku))
 }
 
-/// A random booking; with `keep` mostly one that keeps the deal.
-pub fn booking(rng: &mut Rng, game: &Game, keep: bool) -> Booking {
-    let dealer = game.dealer % 4;
+/// A draw, mostly with the declared seats ready; with `keep` mostly the dealer too.
+fn draw(rng: &mut Rng, game: &Game, keep: bool) -> Booking {
     let declared = (0..4).filter(|&seat| game.declared[seat]).fold(0, |bits, seat| bits | 8 >> seat);
-    let often = if keep { dealer } else { rng.within(0, 3) };
+    let bits = match rng.below(10) {
+        0 => rng.next() as u8,
+        1..=2 => rng.within(0, 15),
+        3 => return Booking::Draw(rng.within(0, 15) & !declared),
+        _ => rng.within(0, 15) | declared,
+    };
+    Booking::Draw(if keep { bits | 8 >> (game.dealer % 4) } else { bits })
+}
+
+/// The seat that mostly wins: with `keep` the dealer.
+fn often(rng: &mut Rng, game: &Game, keep: bool) -> u8 {
+    if keep { game.dealer % 4 } else { rng.within(0, 3) }
+}
+
+/// A random booking that is no correction; with `keep` mostly one that keeps the deal.
+fn plain(rng: &mut Rng, game: &Game, keep: bool) -> Booking {
+    let often = often(rng, game, keep);
     if let Some(booking) = follow(game).filter(|_| rng.percent(25)) {
         return booking;
     }
@@ -221,16 +236,30 @@ pub fn booking(rng: &mut Rng, game: &Game, keep: bool) -> Booking {
         0..=2 => riichi(rng, game),
         3..=5 => win(rng, game, often, keep),
         6 | 12..=13 => many(rng, game, often, keep),
-        7..=8 => {
-            let bits = match rng.below(10) {
-                0 => rng.next() as u8,
-                1..=2 => rng.within(0, 15),
-                3 => return Booking::Draw(rng.within(0, 15) & !declared),
-                _ => rng.within(0, 15) | declared,
-            };
-            Booking::Draw(if keep { bits | 8 >> dealer } else { bits })
-        }
+        7..=8 => draw(rng, game, keep),
         9 => Booking::Chombo(seat(rng)),
         _ => feed(rng, often),
+    }
+}
+
+/// A correction that carries a random booking for a game (02, S-10).
+fn correction(rng: &mut Rng, game: &Game, keep: bool) -> Booking {
+    let often = often(rng, game, keep);
+    let new = match rng.below(10) {
+        0..=3 => win(rng, game, often, keep),
+        4..=5 => many(rng, game, often, keep),
+        6..=8 => draw(rng, game, keep),
+        _ => Booking::Chombo(seat(rng)),
+    };
+    new.as_correction()
+}
+
+/// A random booking; with `keep` mostly one that keeps the deal. Where there is a result to put right often a correction, most often
+/// of one that has ended the game, and now and then one where there is none (02, S-10).
+pub fn booking(rng: &mut Rng, book: &Book, keep: bool) -> Booking {
+    match book.earlier() {
+        Some(earlier) if rng.percent(if book.game().over { 40 } else { 20 }) => correction(rng, &earlier, keep),
+        None if rng.percent(if book.last().is_none() { 10 } else { 4 }) => correction(rng, book.game(), keep),
+        _ => plain(rng, book.game(), keep),
     }
 }

@@ -1,31 +1,14 @@
 -- `handset::hb_book` meets its contract: it is the function of `proofs/Lent.antt` with bytes, over `play::book_part`.
-use Prim.Native.Nat.{ℕ}
-use mathlib.Core.List.{List, [], _∷_}
-use contract.Running.{givenOf, tables, tablesOf}
-use denote.Triple.Spec.{tripleOf}
-use denote.Triple.Table.{entered, cited}
-use Rattle.ledger.specs.declared.Game.{Game}
+use mathlib.Core.List.{[], _∷_}
 use Rattle.play.specs.Play.{BookedPart}
-use Rattle.play.proofs.book_part.Symbol as callee-def
 use Rattle.play.proofs.book_part.Symbol.{name as #callee}
-use Rattle.play.proofs.book_part.Met as callee-thm
-use Rattle.handset.proofs.Lent.{game, Callee, lent-meets}
-use Rattle.handset.proofs.Params.{Param, bytes}
+use Rattle.play.proofs.book_part.Met.{met}
+use Rattle.handset.proofs.Lent.{book, lent-meets}
+use Rattle.handset.proofs.Params.{bytes}
 use Rattle.handset.proofs.hb_book.Key.{name as #self}
-use Rattle.handset.proofs.hb_book as f
-use Rattle.handset.proofs.hb_book.Statement as stated
-use Rattle.handset.proofs.hb_book.Code as code
+use Rattle.handset.proofs.hb_book.Statement.{statement}
+use Rattle.handset.proofs.hb_book.Code.{env, routine, unfolded}
 
-abbrev params : List (Param 1)
-params = bytes ∷ []
-
-abbrev Promise : Game → List ℕ → ℕ → Game → Type 0
-Promise g a n k = BookedPart g a n k
-
-pub hb-book-spec : {M : Type 1} → stated.statement M
-unfolding code.routine tablesOf
-hb-book-spec 𝓤 H 𝓜 𝓖 𝓡 =
-    entered 𝓤 H (tripleOf 𝓤 H (𝓖 .A) f.signature (f.spec 𝓤 H (𝓖 .A) (𝓜 .mem) (𝓡 .run)))
-    (tables 𝓤 H 𝓜 𝓡 code.env .C) (tables 𝓤 H 𝓜 𝓡 code.env .Λ) #self code.function (code.unfolded 𝓤 H 𝓜 𝓡)
-    (lent-meets game params #callee Promise 𝓤 H (𝓖 .A) (givenOf 𝓤 H 𝓜 𝓖) (tablesOf 𝓤 H 𝓜 (tables 𝓤 H 𝓜 𝓡 code.env))
-    (cited 𝓤 H (Callee game params #callee Promise 𝓤 H (𝓖 .A)) 𝓜 𝓡 code.env #callee callee-def.routine code.calls-play·book-part (callee-thm.met 𝓤 H 𝓜 𝓖 𝓡)))
+pub hb-book-spec : {M : Type 1} → statement M
+unfolding routine
+hb-book-spec = lent-meets book (bytes ∷ []) #callee BookedPart #self env unfolded met

@@ -1,32 +1,16 @@
--- `handset::hb_win` meets its contract: it is the function of `proofs/Lent.antt` with bytes, over `wins::win`.
-use Prim.Native.Nat.{ℕ}
-use mathlib.Core.List.{List, [], _∷_}
-use contract.Running.{givenOf, tables, tablesOf}
-use denote.Triple.Spec.{tripleOf}
-use denote.Triple.Table.{entered, cited}
-use Rattle.ledger.specs.declared.Game.{Game}
+-- `handset::hb_win` meets its contract: it is the function of `proofs/Lent.antt` with bytes, over `bookings::win`.
+use mathlib.Core.List.{[], _∷_}
 use Rattle.ledger.specs.Booking.{win}
-use Rattle.ledger.specs.Runs.{Booked}
-use Rattle.wins.proofs.win.Symbol as callee-def
-use Rattle.wins.proofs.win.Symbol.{name as #callee}
-use Rattle.wins.proofs.win.Met as callee-thm
-use Rattle.handset.proofs.Lent.{game, Callee, lent-meets}
-use Rattle.handset.proofs.Params.{Param, bytes}
+use Rattle.book.specs.Book.{plain}
+use Rattle.book.specs.Runs.{Booked}
+use Rattle.bookings.proofs.win.Symbol.{name as #callee}
+use Rattle.bookings.proofs.win.Met.{met}
+use Rattle.handset.proofs.Lent.{book, lent-meets}
+use Rattle.handset.proofs.Params.{bytes}
 use Rattle.handset.proofs.hb_win.Key.{name as #self}
-use Rattle.handset.proofs.hb_win as f
-use Rattle.handset.proofs.hb_win.Statement as stated
-use Rattle.handset.proofs.hb_win.Code as code
+use Rattle.handset.proofs.hb_win.Statement.{statement}
+use Rattle.handset.proofs.hb_win.Code.{env, routine, unfolded}
 
-abbrev params : List (Param 1)
-params = bytes ∷ []
-
-abbrev Promise : Game → List ℕ → ℕ → Game → Type 0
-Promise g a n k = Booked g (win a) n k
-
-pub hb-win-spec : {M : Type 1} → stated.statement M
-unfolding code.routine tablesOf
-hb-win-spec 𝓤 H 𝓜 𝓖 𝓡 =
-    entered 𝓤 H (tripleOf 𝓤 H (𝓖 .A) f.signature (f.spec 𝓤 H (𝓖 .A) (𝓜 .mem) (𝓡 .run)))
-    (tables 𝓤 H 𝓜 𝓡 code.env .C) (tables 𝓤 H 𝓜 𝓡 code.env .Λ) #self code.function (code.unfolded 𝓤 H 𝓜 𝓡)
-    (lent-meets game params #callee Promise 𝓤 H (𝓖 .A) (givenOf 𝓤 H 𝓜 𝓖) (tablesOf 𝓤 H 𝓜 (tables 𝓤 H 𝓜 𝓡 code.env))
-    (cited 𝓤 H (Callee game params #callee Promise 𝓤 H (𝓖 .A)) 𝓜 𝓡 code.env #callee callee-def.routine code.calls-wins·win (callee-thm.met 𝓤 H 𝓜 𝓖 𝓡)))
+pub hb-win-spec : {M : Type 1} → statement M
+unfolding routine
+hb-win-spec = lent-meets book (bytes ∷ []) #callee (λ k s. Booked k (plain (win s))) #self env unfolded met

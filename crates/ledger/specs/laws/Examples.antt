@@ -4,14 +4,9 @@ use mathlib.Core.List.{List, [], _∷_}
 use lib.IntN.{pos}
 use Rattle.ledger.specs.Booking.{Booking, riichi, draw}
 use Rattle.ledger.specs.Ledger.{fresh, totalOf, notOpen, outOfForm, refusalFor, riichiGives, drawGives, effectOf, applied, after, ledgerFrom, ledger}
-use Rattle.ledger.specs.Runs.{refusalsFrom}
 
 unfoldable pub example : List Booking
 example = riichi 1 ∷ draw 4 ∷ []
-
-pub example-refusals : refusalsFrom fresh example ≡ 0 ∷ 0 ∷ []
-unfolding example refusalsFrom fresh refusalFor notOpen outOfForm totalOf after applied effectOf riichiGives drawGives
-example-refusals = refl
 
 pub example-scores : ledger example .scores ≡ pos 29000 ∷ pos 32000 ∷ pos 29000 ∷ pos 29000 ∷ []
 unfolding example ledger ledgerFrom fresh refusalFor notOpen outOfForm totalOf after applied effectOf riichiGives drawGives

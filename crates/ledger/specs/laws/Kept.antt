@@ -8,12 +8,13 @@ use native.Mathlib.Omega.{arith}
 use borrow.Author.Tests.{ltb-false}
 use lib.Dec.{ltb}
 use lib.IntN.{ℤ}
+use lib.Signed.{ltZ}
 use Rattle.score.specs.laws.Z.{up, dn, part-law}
 use Rattle.ledger.specs.declared.Game.{Game}
 use Rattle.ledger.specs.Booking.{Booking}
-use Rattle.ledger.specs.Ledger.{startingScore, lastHand, mark, fresh, scoreAt, isDeclared, totalOf, refusalFor, effectOf, applied, after, ledgerFrom}
+use Rattle.ledger.specs.Ledger.{startingScore, lastHand, floor, mark, fresh, scoreAt, isDeclared, totalOf, outOfForm, refusalFor, effectOf, applied, after, ledgerFrom, ledger}
 use Rattle.ledger.specs.laws.Bounds.{depth, worst, worst-low}
-use Rattle.ledger.specs.laws.Form.{InForm}
+use Rattle.ledger.specs.laws.Form.{InForm, of-form, low-not}
 use Rattle.ledger.specs.laws.Effect.{mark-le, none-named, Above, Kept, applied-kept}
 use Rattle.ledger.specs.laws.Each.{effect-fair}
 
@@ -57,3 +58,15 @@ pub ledger-kept : (bs : List Booking) (l : Game) → Kept l → Kept (ledgerFrom
 unfolding ledgerFrom
 ledger-kept [] l k = k
 ledger-kept (b ∷ bs) l k = ledger-kept bs (after l b) (after-kept l b k)
+
+-- ---- from a fresh game
+
+pub never-below-floor : (bs : List Booking) → (outOfForm (ledger bs) ≡ false) × ((i : ℕ) → i < 4 → ltZ (scoreAt (ledger bs) i) floor ≡ false)
+unfolding ledger
+never-below-floor bs =
+    let f = kept-form (ledgerFrom fresh bs) (ledger-kept bs fresh fresh-kept) in
+    (of-form (ledgerFrom fresh bs) f, λ i l. low-not (scoreAt (ledgerFrom fresh bs) i) (f .low i l))
+
+pub counter-within-hands : (bs : List Booking) → ledger bs .counter ≤ ledger bs .hands
+unfolding ledger
+counter-within-hands bs = ledger-kept bs fresh fresh-kept .counter

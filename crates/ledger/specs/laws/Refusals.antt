@@ -1,6 +1,7 @@
 -- The refusal of each booking, test by test, as the code comes to it; and what is booked then.
 use mathlib.Core.Path.{_≡_, refl}
 use mathlib.Core.Bool.{Bool, true, false, _||_, cond}
+use mathlib.Core.Logic.{_⊎_, inl, inr}
 use mathlib.Core.List.{List}
 use Prim.Native.Nat.{ℕ, _≤_, _<_}
 use native.Mathlib.Omega.{arith}
@@ -9,19 +10,18 @@ use lib.Dec.{ltb, eqb}
 use Rattle.records.specs.Records.{recordsOf, firstUnread, noSet}
 use Rattle.ledger.specs.declared.Game.{Game}
 use Rattle.ledger.specs.Booking.{Booking, riichi, win, draw, chombo, feed, many}
-use Rattle.ledger.specs.Ledger.{isDeclared, notOpen, lacksStick, winRefusal, firstRefused, wrongFeed, refusalFor, effectOf, applied, after}
-use Rattle.ledger.specs.Runs.{Booked}
+use Rattle.ledger.specs.Ledger.{isDeclared, isOver, outOfForm, notOpen, lacksStick, winRefusal, firstRefused, wrongFeed, refusalFor, effectOf, applied, after, BookedIn}
 
 -- ---- any booking, by its refusal
 
 module _ (g : Game) (b : Booking) where
-  pub refused-booked : (n : ℕ) → refusalFor g b ≡ n → 0 < n → Booked g b n g
+  pub refused-booked : (n : ℕ) → refusalFor g b ≡ n → 0 < n → BookedIn g b n g
   unfolding after
   refused-booked n q l =
       let t : ltb 0 (refusalFor g b) ≡ true = lt-ltb 0 (refusalFor g b) (omega arith) in
       rw q (refl, rw (rw q at t))
 
-  pub accepted-booked : (h : Game) → refusalFor g b ≡ 0 → h ≡ applied g (effectOf g b) → Booked g b 0 h
+  pub accepted-booked : (h : Game) → refusalFor g b ≡ 0 → h ≡ applied g (effectOf g b) → BookedIn g b 0 h
   unfolding after
   accepted-booked h q e = rw q (refl, e)
 
@@ -107,3 +107,28 @@ module _ (g : Game) (number : ℕ) (s : List ℕ) where
       pub many-by : firstUnread rs ≡ 0 → (b : Bool) → noSet rs ≡ b → refusalFor g (many number s) ≡ cond b 17 (firstRefused g rs)
       unfolding refusalFor
       many-by e b q = rw (o, h, e, q)
+
+-- ---- in a game out of form
+
+module _ (g : Game) (o : outOfForm g ≡ true) where
+  out-not-open : notOpen g ≡ true
+  unfolding notOpen
+  out-not-open = go (isOver g)
+    where
+      go : (t : Bool) → t || outOfForm g ≡ true
+      go true = refl
+      go false = o
+
+  eight-or-nine : (b : Bool) (n : ℕ) → (cond b 8 (cond (notOpen g) 9 n) ≡ 8) ⊎ (cond b 8 (cond (notOpen g) 9 n) ≡ 9)
+  eight-or-nine true n = inl refl
+  eight-or-nine false n = inr (rw out-not-open)
+
+  -- every booking is refused, with 9 or with the 8 before it
+  pub out-refused : (b : Booking) → (refusalFor g b ≡ 8) ⊎ (refusalFor g b ≡ 9)
+  unfolding refusalFor
+  out-refused (riichi seat) = eight-or-nine (ltb 3 seat) _
+  out-refused (win s) = inr (rw out-not-open)
+  out-refused (draw bits) = eight-or-nine (ltb 15 bits) _
+  out-refused (chombo seat) = eight-or-nine (ltb 3 seat) _
+  out-refused (feed holder feeder yaku) = eight-or-nine (ltb 3 holder || ltb 3 feeder) _
+  out-refused (many number s) = inr (rw out-not-open)

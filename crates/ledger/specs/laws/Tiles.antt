@@ -26,8 +26,8 @@ use Rattle.score.specs.laws.Named.{accepted, best, most, refused-6, refused-7, 
 use Rattle.ledger.specs.declared.Game.{Game}
 use Rattle.ledger.specs.Booking.{win, many}
 use Rattle.records.specs.Records.{recordsOf, firstUnread, firstWinner}
-use Rattle.ledger.specs.Ledger.{scoreAt, notOpen, handFor, scoredFor, riichiMismatch, winRefusal, firstRefused, refusalFor, isSet, settles, wholeOf, fedPays, isDealersWin, wonBy, addedBy, fedIn, holdsFourWinds, fedFor, winGives, setGives, effectOf, after}
-use Rattle.ledger.specs.Demand3.{gainBy, changeBy, sticksTo, fedBy, paidIn, PaidBy, IsBest, EachWins, SetAcceptedWhen, EachBest, givenIn, SetPaid, AcceptedWhen, PaidByBest, BestWithCounters, TilesRefused, SixOrSeven}
+use Rattle.ledger.specs.Ledger.{scoreAt, notOpen, handFor, scoredFor, riichiMismatch, winRefusal, firstRefused, refusalFor, isSet, wholeOf, isDealersWin, wonBy, addedBy, fedIn, holdsFourWinds, fedFor, winGives, setGives, effectOf, after}
+use Rattle.ledger.specs.Wins.{gainBy, changeBy, sticksTo, fedBy, paidIn, PaidBy, IsBest, EachWins, SetAcceptedWhen, EachBest, givenIn, SetPaid, AcceptedWhen, PaidByBest, BestWithCounters, TilesRefused, SixOrSeven}
 use Rattle.ledger.specs.laws.Form.{InForm, le-leZ, open-of}
 use Rattle.ledger.specs.laws.Accepted.{win-accepted}
 use Rattle.ledger.specs.laws.Refusals.{win-by, many-by}

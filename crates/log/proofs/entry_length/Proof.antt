@@ -2,16 +2,25 @@
 use mathlib.Core.Path.{sym}
 use native.Mathlib.Omega.{arith}
 use borrow.Author.Needs.{needs}
-use Rattle.log.specs.laws.Next.{none-empty, length-by-header}
+use Rattle.log.specs.laws.Next.{none-empty, length-by-header, correction-by-header}
 use Rattle.log.proofs.entry_length.Statement.{statement}
 use Rattle.log.proofs.entry_length.Tie as tie
 
 returns-2 : tie.Need-returns-2
 returns-2 c =
     let a = c .before .before in
-    let k = a .before in
+    let t = a .before in
+    let k = t .before in
     let e = k .before .before in
-    length-by-header (e .before .before .args .s .now) (omega (arith, e .if1 .left)) _ _ _ (k .kind .ensures) (a .argument .ensures) (c .length-by .ensures)
+    correction-by-header (e .before .before .args .s .now) (omega (arith, e .if1 .left)) _ _ _ (k .kind .ensures) (a .argument .ensures) (t .if2 .taken) (c .correction-length .ensures)
+
+returns-3 : tie.Need-returns-3
+returns-3 c =
+    let a = c .before .before in
+    let t = a .before in
+    let k = t .before in
+    let e = k .before .before in
+    length-by-header (e .before .before .args .s .now) (omega (arith, e .if1 .left)) _ _ _ (k .kind .ensures) (a .argument2 .ensures) (t .if2 .left) (c .length-by .ensures)
 
 pub entry-length-spec : {M : Type 1} → statement M
 entry-length-spec =
@@ -25,4 +34,10 @@ entry-length-spec =
     (λ c. search needs)
     (λ c. search needs)
     (λ c κs. search needs)
-    returns-2)
+    returns-2
+    (λ c κs. search needs)
+    (λ c. search needs)
+    (λ c. search needs)
+    (λ c. search needs)
+    (λ c κs. search needs)
+    returns-3)

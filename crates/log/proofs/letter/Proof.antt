@@ -16,6 +16,10 @@ letter-spec =
     let b = d .before .before in
     rw (ne-eqb _ 0 (b .before .if1 .left), ne-eqb _ 1 (b .if2 .left), ne-eqb _ 2 (d .before .if3 .left), ne-eqb _ 4 (d .if4 .left), eq-eqb _ 5 (c .if5 .taken)))
     (λ c.
-    let d = c .before in
+    let d = c .before .before in
     let b = d .before .before in
-    rw (ne-eqb _ 0 (b .before .if1 .left), ne-eqb _ 1 (b .if2 .left), ne-eqb _ 2 (d .before .if3 .left), ne-eqb _ 4 (d .if4 .left), ne-eqb _ 5 (c .if5 .left))))
+    rw (ne-eqb _ 0 (b .before .if1 .left), ne-eqb _ 1 (b .if2 .left), ne-eqb _ 2 (d .before .if3 .left), ne-eqb _ 4 (d .if4 .left), ne-eqb _ 5 (c .before .if5 .left), eq-eqb _ 6 (c .if6 .taken)))
+    (λ c.
+    let d = c .before .before in
+    let b = d .before .before in
+    rw (ne-eqb _ 0 (b .before .if1 .left), ne-eqb _ 1 (b .if2 .left), ne-eqb _ 2 (d .before .if3 .left), ne-eqb _ 4 (d .if4 .left), ne-eqb _ 5 (c .before .if5 .left), ne-eqb _ 6 (c .if6 .left))))

@@ -3,7 +3,8 @@ use mathlib.Core.Path.{_≡_, sym, ap, _∙_}
 use lib.ListN.{drop}
 use borrow.Author.Needs.{needs}
 use Rattle.log.specs.Kinds.{entryLength}
-use Rattle.log.specs.laws.Next.{from-on, refusal-end, refusal-bad, refusal-entry}
+use Rattle.log.specs.laws.Refusals.{refusal-end, refusal-bad, refusal-entry}
+use Rattle.log.specs.laws.Next.{from-on}
 use Rattle.log.proofs.refusal_at.Statement.{statement}
 use Rattle.log.proofs.refusal_at.Tie as tie
 

@@ -1,4 +1,4 @@
--- Document 01's log, a win, two rons, a feed, and each refusal, computed.
+-- Document 01's log, a win, two rons, a feed, a correction, and each refusal, computed.
 use mathlib.Core.Path.{_≡_, refl}
 use mathlib.Core.List.{[], _∷_, _++_}
 use lib.ListN.{take, drop}
@@ -13,12 +13,12 @@ pub example : partsOf (1 ∷ 36 ∷ []) ≡ (1 ∷ []) ∷ (36 ∷ []) ∷ []
 unfolding recordLength lengthBy entryLength partsFew partsOf
 example = refl
 
--- a win of 13 bytes, and the same with a byte missing, an argument, m 5; and kind 6
+-- a win of 13 bytes, and the same with a byte missing, an argument, m 5; and kind 7
 pub win-whole : entryLength (16 ∷ line1 .bytes) ≡ 14
 unfolding headOf recordLength lengthBy entryLength
 win-whole = refl
 
-pub refusals : (refusalAt (16 ∷ take 12 (line1 .bytes)) 0 ≡ 14) × (refusalAt (17 ∷ line1 .bytes) 0 ≡ 14) × (refusalAt (16 ∷ 0 ∷ 0 ∷ 2 ∷ 128 ∷ drop 4 (line1 .bytes)) 0 ≡ 14) × (refusalAt (96 ∷ []) 0 ≡ 14)
+pub refusals : (refusalAt (16 ∷ take 12 (line1 .bytes)) 0 ≡ 14) × (refusalAt (17 ∷ line1 .bytes) 0 ≡ 14) × (refusalAt (16 ∷ 0 ∷ 0 ∷ 2 ∷ 128 ∷ drop 4 (line1 .bytes)) 0 ≡ 14) × (refusalAt (112 ∷ []) 0 ≡ 14)
 unfolding headOf recordLength lengthBy entryLength refusalAt
 refusals = (refl, refl, refl, refl)
 
@@ -42,3 +42,12 @@ example-fields = (refl, refl, refl)
 pub feed-refusals : (refusalAt (80 ∷ []) 0 ≡ 14) × (refusalAt (81 ∷ 152 ∷ []) 0 ≡ 14) × (refusalAt (80 ∷ 153 ∷ []) 0 ≡ 14) × (refusalAt (80 ∷ 154 ∷ []) 0 ≡ 14) × (refusalAt (80 ∷ 156 ∷ []) 0 ≡ 14)
 unfolding recordLength lengthBy entryLength refusalAt
 feed-refusals = (refl, refl, refl, refl, refl)
+
+-- S-10: a chombo by seat 2 and a win that replace; then no entry inside, an argument, a riichi inside, a feed, a correction, and a win with a byte missing
+pub example-corrections : (entryLength (96 ∷ 50 ∷ 1 ∷ []) ≡ 2) × (entryLength (96 ∷ 16 ∷ line1 .bytes) ≡ 15)
+unfolding headOf recordLength lengthBy entryLength
+example-corrections = (refl, refl)
+
+pub correction-refusals : (refusalAt (96 ∷ []) 0 ≡ 14) × (refusalAt (97 ∷ 48 ∷ []) 0 ≡ 14) × (refusalAt (96 ∷ 2 ∷ []) 0 ≡ 14) × (refusalAt (96 ∷ 80 ∷ 152 ∷ []) 0 ≡ 14) × (refusalAt (96 ∷ 96 ∷ 48 ∷ []) 0 ≡ 14) × (refusalAt (96 ∷ 16 ∷ take 12 (line1 .bytes)) 0 ≡ 14)
+unfolding headOf recordLength lengthBy entryLength refusalAt
+correction-refusals = (refl, refl, refl, refl, refl, refl)

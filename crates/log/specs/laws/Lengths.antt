@@ -1,19 +1,21 @@
--- How long an entry of each kind is, case by case, and what n bytes of an entry tell.
+-- How long an entry of each kind is, case by case; what n bytes of an entry tell; and that a bad one has none.
 use mathlib.Core.Path.{_≡_, refl, ap, _∙_}
-use mathlib.Core.Bool.{Bool, true, false, _||_, cond}
-use mathlib.Core.Logic.{_⊎_, inl, inr}
-use mathlib.Core.List.{List}
+use mathlib.Core.Bool.{Bool, true, false, _&&_, _||_, and-false, cond}
+use mathlib.Core.Logic.{_⊎_, inl, inr, ⊎-elim}
+use mathlib.Core.List.{List, [], _∷_}
 use Prim.Native.Nat.{ℕ, zero, suc, _+_, _%_, _≤_, _<_}
 use native.Mathlib.Omega.{arith}
-use borrow.Author.Tests.{ltb-true, ltb-false, lt-ltb, le-ltb, eq-eqb, ne-eqb, eqb-true, eqb-false}
-use lib.Dec.{ltb, eqb}
-use lib.ListN.{length, getD}
-use Rattle.tiles.specs.laws.Below.{or-both}
+use borrow.Author.Tests.{ltb-true, ltb-false, leb-true, leb-false, lt-ltb, le-ltb, le-leb, lt-leb, eq-eqb, ne-eqb, eqb-true, eqb-false}
+use lib.Dec.{ltb, leb, eqb}
+use lib.ListN.{length, getD, take, drop}
+use Rattle.tiles.specs.laws.Below.{or-both, and-true}
 use Rattle.hand_record.specs.Record.{countIn, lengthOf}
 use Rattle.record_lengths.specs.Lengths.{isBroken, recordLength}
 use Rattle.record_lengths.specs.laws.Lengths.{unbroken, broken-or-whole}
-use Rattle.log.specs.Kinds.{hasBroken, spanOf, recordsLength, isOtherForm, withHeader, winLength, manyLength, feedLength, lengthBy}
-use Rattle.log.specs.laws.Records.{all-unbroken}
+use Rattle.log.specs.Kinds.{kindIn, argumentIn, hasBroken, spanOf, recordsLength, isOtherForm, withHeader, winLength, manyLength, feedLength, lengthBy, correctionLength, entryLength}
+use Rattle.log.specs.Log.{refusalAt}
+use Rattle.log.specs.laws.Records.{all-unbroken, record-again, records-again}
+use Rattle.log.specs.laws.Refusals.{bad-length}
 
 -- the byte of a feed
 pub feed-form : (s : List ℕ) → isOtherForm s ≡ false → (1 ≤ length s) × (getD s 0 0 % 8 ≤ 0)
@@ -27,6 +29,11 @@ with-header-none n e = simp (eq-eqb n 0 e)
 pub with-header-some : (n : ℕ) → (n ≡ 0 → ⊥) → withHeader n ≡ n + 1
 with-header-some n h = simp (ne-eqb n 0 h)
 
+-- 0 whatever a test says
+no-length : (t : Bool) → _≡_ {A = ℕ} (cond t 0 0) 0
+no-length true = refl
+no-length false = refl
+
 module _ (a : ℕ) (rest : List ℕ) where
   -- a win
   pub win-argument : (a ≡ 0 → ⊥) → winLength a rest ≡ 0
@@ -34,6 +41,14 @@ module _ (a : ℕ) (rest : List ℕ) where
 
   pub win-record : a ≡ 0 → winLength a rest ≡ withHeader (recordLength rest)
   win-record e = rw (eq-eqb a 0 e)
+
+  -- and where the record is broken, or stands alone
+  win-broken : isBroken rest ≡ true → winLength a rest ≡ 0
+  unfolding recordLength
+  win-broken e = rw e (no-length (eqb a 0))
+
+  pub win-again : a ≡ 0 → isBroken rest ≡ false → let n = lengthOf (countIn rest) in winLength a (take n rest) ≡ n + 1
+  win-again z e = let n = lengthOf (countIn rest) in rw (eq-eqb a 0 z, record-again rest n e (omega arith)) (with-header-some n (λ z. omega (arith, z, unbroken rest e)))
 
   -- two or three rons
   pub many-none : a ≡ 0 → manyLength a rest ≡ 0
@@ -45,9 +60,22 @@ module _ (a : ℕ) (rest : List ℕ) where
   pub many-records : (a ≡ 0 → ⊥) → a ≤ 3 → manyLength a rest ≡ withHeader (recordsLength a rest)
   many-records h l = simp (ne-eqb a 0 h, le-ltb 3 a l)
 
+  -- and where one is broken, or they stand alone
+  many-broken : hasBroken a rest ≡ true → manyLength a rest ≡ 0
+  unfolding recordsLength
+  many-broken e = rw e (no-length (eqb a 0 || ltb 3 a))
+
+  pub many-again : 0 < a → a ≤ 3 → hasBroken a rest ≡ false → let n = spanOf a rest in manyLength a (take n rest) ≡ n + 1
+  many-again p o e =
+      let n = spanOf a rest in
+      rw (ne-eqb a 0 (λ z. omega (arith, p, z)), le-ltb 3 a o, records-again a rest e) (with-header-some n (λ z. omega (arith, p, z, all-unbroken a rest e)))
+
   -- a feed
   pub feed-argument : (a ≡ 0 → ⊥) → feedLength a rest ≡ 0
   feed-argument h = rw (ne-eqb a 0 h)
+
+  feed-other : isOtherForm rest ≡ true → feedLength a rest ≡ 0
+  feed-other e = rw e (no-length (eqb a 0))
 
   pub feed-missing : a ≡ 0 → length rest < 1 → feedLength a rest ≡ 0
   feed-missing e h = simp (eq-eqb a 0 e, lt-ltb (length rest) 1 h)
@@ -85,21 +113,72 @@ module _ (a : ℕ) (rest : List ℕ) where
   length-plain (suc (suc (suc zero))) h l = refl
   length-plain (suc (suc (suc (suc k)))) h l = absurd (omega arith)
 
+-- ---- the entry that bytes start with
+
+pub length-is : (s : List ℕ) → 0 < length s → (kindIn s ≡ 6 → ⊥) → entryLength s ≡ lengthBy (kindIn s) (argumentIn s) (drop 1 s)
+unfolding entryLength
+length-is [] h n = absurd (omega arith)
+length-is (x ∷ l) h n = simp (ne-eqb (kindIn (x ∷ l)) 6 n)
+
+pub length-correction : (s : List ℕ) → 0 < length s → kindIn s ≡ 6 → entryLength s ≡ correctionLength (argumentIn s) (drop 1 s)
+unfolding entryLength
+length-correction [] h e = absurd (omega arith)
+length-correction (x ∷ l) h e = simp (eq-eqb (kindIn (x ∷ l)) 6 e)
+
+-- where there are no bytes, the kind is 0; so there are some where it is not
+pub kind-none : (s : List ℕ) → length s ≡ 0 → kindIn s < 1
+kind-none [] e = omega arith
+kind-none (x ∷ l) e = absurd (omega (arith, e))
+
+kind-some : (s : List ℕ) → 1 ≤ kindIn s → 0 < length s
+kind-some [] h = absurd (omega arith)
+kind-some (x ∷ l) h = omega arith
+
+-- a correction, by its argument and the bytes after its header
+module _ (a : ℕ) (rest : List ℕ) where
+  pub correction-argument : (a ≡ 0 → ⊥) → correctionLength a rest ≡ 0
+  correction-argument h = simp (ne-eqb a 0 h)
+
+  pub correction-under : kindIn rest < 1 → correctionLength a rest ≡ 0
+  correction-under h = simp (lt-leb 1 (kindIn rest) h, and-false (eqb a 0))
+
+  pub correction-over : 4 < kindIn rest → correctionLength a rest ≡ 0
+  correction-over h = simp (lt-leb (kindIn rest) 4 h, and-false (leb 1 (kindIn rest)), and-false (eqb a 0))
+
+  pub correction-inside : a ≡ 0 → 1 ≤ kindIn rest → kindIn rest ≤ 4 → correctionLength a rest ≡ withHeader (entryLength rest)
+  correction-inside e l h = simp (length-is rest (kind-some rest l) (λ k. omega (arith, h, k)), eq-eqb a 0 e, le-leb 1 (kindIn rest) l, le-leb (kindIn rest) 4 h)
+
+  correction-bad : entryLength rest ≡ 0 → correctionLength a rest ≡ 0
+  correction-bad z = go (eqb a 0 && (leb 1 (kindIn rest) && leb (kindIn rest) 4)) refl
+    where
+      go : (t : Bool) → eqb a 0 && (leb 1 (kindIn rest) && leb (kindIn rest) 4) ≡ t → correctionLength a rest ≡ 0
+      go false e = rw e
+      go true e =
+          let p = and-true (eqb a 0) (leb 1 (kindIn rest) && leb (kindIn rest) 4) e in
+          let q = and-true (leb 1 (kindIn rest)) (leb (kindIn rest) 4) (p .1) in
+          correction-inside (eqb-true a 0 (p .0)) (leb-true 1 (kindIn rest) (q .0)) (leb-true (kindIn rest) 4 (q .1)) ∙ with-header-none (entryLength rest) z
+
 -- ---- what n bytes of an entry tell
 
 -- "kind over 3, win argument not 0, m over 4, or bytes missing", of a kind, an argument and the bytes after the header;
--- S-6: of kind 4 "an argument of 0 or over 3, a record with m over 4, or missing bytes"; S-8: kind 5 in "any other form"
+-- S-6: of kind 4 "an argument of 0 or over 3, a record with m over 4, or missing bytes"; S-8: kind 5 in "any other form";
+-- S-10: of kind 6 "another argument or another kind of entry inside", or what is 14 of that
 abbrev pub IsBad : ℕ → ℕ → List ℕ → Type 0
 IsBad k a rest =
-    (5 < k) ⊎ ((k ≡ 1) × ((a ≡ 0 → ⊥) ⊎ (isBroken rest ≡ true))) ⊎ ((k ≡ 4) × ((a ≡ 0) ⊎ (3 < a) ⊎ (hasBroken a rest ≡ true))) ⊎ ((k ≡ 5) × ((a ≡ 0 → ⊥) ⊎ (isOtherForm rest ≡ true)))
+    (6 < k)
+    ⊎ ((k ≡ 1) × ((a ≡ 0 → ⊥) ⊎ (isBroken rest ≡ true)))
+    ⊎ ((k ≡ 4) × ((a ≡ 0) ⊎ (3 < a) ⊎ (hasBroken a rest ≡ true)))
+    ⊎ ((k ≡ 5) × ((a ≡ 0 → ⊥) ⊎ (isOtherForm rest ≡ true)))
+    ⊎ ((k ≡ 6) × ((a ≡ 0 → ⊥) ⊎ (kindIn rest < 1) ⊎ (4 < kindIn rest) ⊎ (refusalAt rest 0 ≡ 14)))
 
--- n bytes of an entry: none, a win's, those of two or three rons, a feed's, or a header
+-- n bytes of an entry: none, a win's, those of two or three rons, a feed's, a header, or one and the entry that a correction carries
 pub data Told (k a : ℕ) (rest : List ℕ) (n : ℕ) : Type 0 where
   bad : IsBad k a rest → n ≡ 0 → Told k a rest n
   won : k ≡ 1 → a ≡ 0 → isBroken rest ≡ false → n ≡ lengthOf (countIn rest) + 1 → Told k a rest n
   many : k ≡ 4 → 0 < a → a ≤ 3 → hasBroken a rest ≡ false → n ≡ spanOf a rest + 1 → Told k a rest n
   fed : k ≡ 5 → a ≡ 0 → isOtherForm rest ≡ false → n ≡ 2 → Told k a rest n
   plain : (k ≡ 1 → ⊥) → k ≤ 3 → n ≡ 1 → Told k a rest n
+  corrected : k ≡ 6 → a ≡ 0 → 1 ≤ kindIn rest → kindIn rest ≤ 4 → 0 < entryLength rest → n ≡ entryLength rest + 1 → Told k a rest n
 
 told-win : (a : ℕ) (rest : List ℕ) → Told 1 a rest (winLength a rest)
 told-win a rest = go (eqb a 0) refl
@@ -129,15 +208,93 @@ told-feed : (a : ℕ) (rest : List ℕ) → Told 5 a rest (feedLength a rest)
 told-feed a rest = go (eqb a 0) refl (isOtherForm rest) refl
   where
     go : (t : Bool) → eqb a 0 ≡ t → (o : Bool) → isOtherForm rest ≡ o → Told 5 a rest (cond t (cond o 0 2) 0)
-    go true e true f = bad (inr (inr (inr (refl, inr f)))) refl
+    go true e true f = bad (inr (inr (inr (inl (refl, inr f))))) refl
     go true e false f = fed refl (eqb-true a 0 e) f refl
-    go false e o f = bad (inr (inr (inr (refl, inl (eqb-false a 0 e))))) refl
+    go false e o f = bad (inr (inr (inr (inl (refl, inl (eqb-false a 0 e)))))) refl
 
-pub told-by : (k a : ℕ) (rest : List ℕ) → Told k a rest (lengthBy k a rest)
-told-by zero a rest = plain (λ e. omega (arith, e)) (omega arith) (length-plain a rest 0 (λ e. omega (arith, e)) (omega arith))
-told-by (suc zero) a rest = rw (length-win a rest 1 refl) (told-win a rest)
-told-by (suc (suc zero)) a rest = plain (λ e. omega (arith, e)) (omega arith) (length-plain a rest 2 (λ e. omega (arith, e)) (omega arith))
-told-by (suc (suc (suc zero))) a rest = plain (λ e. omega (arith, e)) (omega arith) (length-plain a rest 3 (λ e. omega (arith, e)) (omega arith))
-told-by (suc (suc (suc (suc zero)))) a rest = rw (length-many a rest 4 refl) (told-many a rest)
-told-by (suc (suc (suc (suc (suc zero))))) a rest = rw (length-feed a rest 5 refl) (told-feed a rest)
-told-by (suc (suc (suc (suc (suc (suc k)))))) a rest = let h : 5 < suc (suc (suc (suc (suc (suc k))))) = omega arith in bad (inl h) (length-over a rest _ h)
+told-correction : (a : ℕ) (rest : List ℕ) → Told 6 a rest (correctionLength a rest)
+told-correction a rest = go (eqb a 0) refl (leb 1 (kindIn rest)) refl (leb (kindIn rest) 4) refl (eqb (entryLength rest) 0) refl
+  where
+    go : (z : Bool) → eqb a 0 ≡ z → (l : Bool) → leb 1 (kindIn rest) ≡ l → (h : Bool) → leb (kindIn rest) 4 ≡ h → (n : Bool) → eqb (entryLength rest) 0 ≡ n → Told 6 a rest (correctionLength a rest)
+    go false e l f h g n i = let z = eqb-false a 0 e in bad (inr (inr (inr (inr (refl, inl z))))) (correction-argument a rest z)
+    go true e false f h g n i = let k = leb-false 1 (kindIn rest) f in bad (inr (inr (inr (inr (refl, inr (inl k)))))) (correction-under a rest k)
+    go true e true f false g n i = let k = leb-false (kindIn rest) 4 g in bad (inr (inr (inr (inr (refl, inr (inr (inl k))))))) (correction-over a rest k)
+    go true e true f true g true i =
+        let l = leb-true 1 (kindIn rest) f in
+        let n = eqb-true (entryLength rest) 0 i in
+        bad (inr (inr (inr (inr (refl, inr (inr (inr (bad-length rest 0 .1 (kind-some rest l, n))))))))) (correction-bad a rest n)
+    go true e true f true g false i =
+        let l = leb-true 1 (kindIn rest) f in
+        let h = leb-true (kindIn rest) 4 g in
+        let n = eqb-false (entryLength rest) 0 i in
+        corrected refl (eqb-true a 0 e) l h (omega (arith, n)) (correction-inside a rest (eqb-true a 0 e) l h ∙ with-header-some (entryLength rest) n)
+
+-- a kind that carries no other entry
+pub told-by : (k a : ℕ) (rest : List ℕ) → (k ≡ 6 → ⊥) → Told k a rest (lengthBy k a rest)
+told-by zero a rest n = plain (λ e. omega (arith, e)) (omega arith) (length-plain a rest 0 (λ e. omega (arith, e)) (omega arith))
+told-by (suc zero) a rest n = rw (length-win a rest 1 refl) (told-win a rest)
+told-by (suc (suc zero)) a rest n = plain (λ e. omega (arith, e)) (omega arith) (length-plain a rest 2 (λ e. omega (arith, e)) (omega arith))
+told-by (suc (suc (suc zero))) a rest n = plain (λ e. omega (arith, e)) (omega arith) (length-plain a rest 3 (λ e. omega (arith, e)) (omega arith))
+told-by (suc (suc (suc (suc zero)))) a rest n = rw (length-many a rest 4 refl) (told-many a rest)
+told-by (suc (suc (suc (suc (suc zero))))) a rest n = rw (length-feed a rest 5 refl) (told-feed a rest)
+told-by (suc (suc (suc (suc (suc (suc zero)))))) a rest n = absurd (n refl)
+told-by (suc (suc (suc (suc (suc (suc (suc k))))))) a rest n =
+    let h : 6 < suc (suc (suc (suc (suc (suc (suc k)))))) = omega arith in
+    bad (inl h) (length-over a rest _ (omega arith))
+
+-- it is 40 bytes at most
+pub by-most : (k a : ℕ) (rest : List ℕ) → (k ≡ 6 → ⊥) → lengthBy k a rest ≤ 40
+by-most k a rest n = go (told-by k a rest n)
+  where
+    go : Told k a rest (lengthBy k a rest) → lengthBy k a rest ≤ 40
+    go (bad b e) = omega (arith, e)
+    go (won w z u e) = omega (arith, e, unbroken rest u)
+    go (many w p o u e) = omega (arith, e, o, all-unbroken a rest u)
+    go (fed w z u e) = omega (arith, e)
+    go (plain w l e) = omega (arith, e)
+    go (corrected w z l h p e) = absurd (n w)
+
+-- ---- any entry
+
+module _ (s : List ℕ) (some : 0 < length s) where
+  abbrev kind : ℕ
+  kind = kindIn s
+
+  abbrev argument : ℕ
+  argument = argumentIn s
+
+  abbrev rest : List ℕ
+  rest = drop 1 s
+
+  pub told : Told kind argument rest (entryLength s)
+  told = go (eqb kind 6) refl
+    where
+      go : (b : Bool) → eqb kind 6 ≡ b → Told kind argument rest (entryLength s)
+      go true e = let k = eqb-true kind 6 e in rw (length-correction s some k, k) (told-correction argument rest)
+      go false e = let k = eqb-false kind 6 e in rw (length-is s some k) (told-by kind argument rest k)
+
+  -- it has no bytes where it is bad, and nowhere else
+  pub zero-bad : entryLength s ≡ 0 → IsBad kind argument rest
+  zero-bad z = go told
+    where
+      go : Told kind argument rest (entryLength s) → IsBad kind argument rest
+      go (bad b e) = b
+      go (won k a u e) = absurd (omega (arith, e, z))
+      go (many k p o u e) = absurd (omega (arith, e, z))
+      go (fed k a u e) = absurd (omega (arith, e, z))
+      go (plain k h e) = absurd (omega (arith, e, z))
+      go (corrected k a l h p e) = absurd (omega (arith, e, z))
+
+  -- of kind 5 at most, by that kind's law
+  by-kind : {n : ℕ} (k : ℕ) → kind ≡ k → k ≤ 5 → lengthBy kind argument rest ≡ n → entryLength s ≡ n
+  by-kind k e l h = length-is s some (λ x. omega (arith, x, e, l)) ∙ h
+
+  pub bad-zero : IsBad kind argument rest → entryLength s ≡ 0
+  bad-zero (inl o) = length-is s some (λ k. omega (arith, o, k)) ∙ length-over argument rest kind (omega (arith, o))
+  bad-zero (inr (inl (k, b))) = by-kind 1 k (omega arith) (length-win argument rest kind k ∙ ⊎-elim (win-argument argument rest) (win-broken argument rest) b)
+  bad-zero (inr (inr (inl (k, b)))) =
+      by-kind 4 k (omega arith) (length-many argument rest kind k ∙ ⊎-elim (many-none argument rest) (⊎-elim (many-over argument rest) (many-broken argument rest)) b)
+  bad-zero (inr (inr (inr (inl (k, b))))) = by-kind 5 k (omega arith) (length-feed argument rest kind k ∙ ⊎-elim (feed-argument argument rest) (feed-other argument rest) b)
+  bad-zero (inr (inr (inr (inr (k, b))))) =
+      length-correction s some k
+      ∙ ⊎-elim (correction-argument argument rest) (⊎-elim (correction-under argument rest) (⊎-elim (correction-over argument rest) (λ r. correction-bad argument rest (bad-length rest 0 .0 r .1)))) b

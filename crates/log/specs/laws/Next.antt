@@ -1,21 +1,19 @@
 -- How long the entry is that bytes start with; that its part lies inside the log; and what the part of a kind is.
-use mathlib.Core.Path.{_≡_, refl, ap, _∙_}
-use mathlib.Core.Bool.{Bool, true, false}
+use mathlib.Core.Path.{_≡_, refl, sym, ap, _∙_}
+use mathlib.Core.Bool.{false}
 use mathlib.Core.List.{List, [], _∷_}
 use Prim.Native.Nat.{ℕ, zero, suc, _+_, _*_, _-_, _%_, _≤_, _<_}
 use native.Mathlib.Omega.{arith}
 use native.Mathlib.Numerals.{add-one}
-use borrow.Author.Tests.{ltb-true, ltb-false, leb-true, leb-false, le-leb, lt-leb, eq-eqb, ne-eqb, eqb-true, eqb-false}
-use lib.Dec.{ltb, leb, eqb}
 use lib.ListN.{length, getD, take, drop, length-drop}
-use lib.Seq.{length-take-le, take-all}
+use lib.Seq.{length-take-le, take-all, take-take}
 use Rattle.hand_record.specs.Record.{countIn, lengthOf, wrongLength}
 use Rattle.record_lengths.specs.laws.Lengths.{unbroken, record-length}
 use Rattle.records.specs.Records.{recordsOf}
-use Rattle.log.specs.Kinds.{kindIn, argumentIn, spanOf, holderIn, feederIn, yakuIn, lengthBy, entryLength}
-use Rattle.log.specs.Log.{firstPart, partAt, refusalAt, laid}
+use Rattle.log.specs.Kinds.{kindIn, argumentIn, spanOf, holderIn, feederIn, yakuIn, lengthBy, correctionLength, entryLength}
+use Rattle.log.specs.Log.{partAt, laid}
 use Rattle.log.specs.laws.Records.{all-unbroken, records-right}
-use Rattle.log.specs.laws.Lengths.{Told, bad, won, many, fed, plain, told-by, feed-form}
+use Rattle.log.specs.laws.Lengths.{length-is, length-correction, length-win, length-many, length-plain, win-again, many-again, Told, bad, won, many, fed, plain, corrected, told, feed-form}
 
 -- a stretch from a place on to the end
 pub from-on : (n : ℕ) (s : List ℕ) → take (length s - n) (drop n s) ≡ drop n s
@@ -23,57 +21,38 @@ from-on n s = take-all (length s - n) (drop n s) (omega (arith, length-drop n s)
 
 -- ---- the entry that bytes start with
 
+-- its bytes, header included; none where there is no entry
+abbrev pub firstPart : List ℕ → List ℕ
+firstPart s = take (entryLength s) s
+
 pub none-empty : (s : List ℕ) → length s ≡ 0 → entryLength s ≡ 0
 unfolding entryLength
 none-empty [] h = refl
 none-empty (x ∷ s) h = absurd (omega arith)
 
-module _ (s : List ℕ) where
-  abbrev kind : ℕ
-  kind = kindIn s
+-- as the code has it: the bytes after the header are a stretch
+module _ (s : List ℕ) (some : 0 < length s) (k a n : ℕ) (ek : k ≡ kindIn s) (ea : a ≡ argumentIn s) where
+  pub length-by-header : (k ≡ 6 → ⊥) → n ≡ lengthBy k a (take (length s - 1) (drop 1 s)) → n ≡ entryLength s
+  length-by-header h e = e ∙ rw (from-on 1 s, ek, ea, length-is s some (λ z. h (ek ∙ z)))
 
-  abbrev argument : ℕ
-  argument = argumentIn s
+  pub correction-by-header : k ≡ 6 → n ≡ correctionLength a (take (length s - 1) (drop 1 s)) → n ≡ entryLength s
+  correction-by-header h e = e ∙ rw (from-on 1 s, ea, length-correction s some (sym ek ∙ h))
 
-  abbrev rest : List ℕ
-  rest = drop 1 s
+-- it lies inside its bytes
+pub length-inside : (s : List ℕ) → entryLength s ≤ length s
+length-inside [] = omega (arith, none-empty [] refl)
+length-inside (x ∷ l) = go (length-inside l) (told (x ∷ l) (omega arith))
+  where
+    go : entryLength l ≤ length l → Told (kindIn (x ∷ l)) (argumentIn (x ∷ l)) l (entryLength (x ∷ l)) → entryLength (x ∷ l) ≤ length (x ∷ l)
+    go i (bad b e) = omega (arith, e)
+    go i (won k a u e) = omega (arith, e, unbroken l u)
+    go i (many k p o u e) = omega (arith, e, all-unbroken (argumentIn (x ∷ l)) l u)
+    go i (fed k a u e) = omega (arith, e, feed-form l u)
+    go i (plain k h e) = omega (arith, e)
+    go i (corrected k a o h p e) = omega (arith, e, i)
 
-  module _ (some : 0 < length s) where
-    pub length-is : entryLength s ≡ lengthBy kind argument rest
-    unfolding entryLength
-    length-is = go s some
-      where
-        go : (l : List ℕ) → 0 < length l → entryLength l ≡ lengthBy (kindIn l) (argumentIn l) (drop 1 l)
-        go [] h = absurd (omega arith)
-        go (x ∷ l) h = refl
-
-    -- as the code has it: the bytes after the header are a stretch
-    pub length-by-header : (k a n : ℕ) → k ≡ kind → a ≡ argument → n ≡ lengthBy k a (take (length s - 1) rest) → n ≡ entryLength s
-    length-by-header k a n ek ea e = e ∙ rw (from-on 1 s, ek, ea, length-is)
-
-    pub told : Told kind argument rest (entryLength s)
-    told = rw length-is (told-by kind argument rest)
-
-    -- it lies inside its bytes
-    inside-some : entryLength s ≤ length s
-    inside-some = go told
-      where
-        go : Told kind argument rest (entryLength s) → entryLength s ≤ length s
-        go (bad b e) = omega (arith, e)
-        go (won k a u e) = omega (arith, e, unbroken rest u, length-drop 1 s)
-        go (many k p o u e) = omega (arith, e, all-unbroken argument rest u, length-drop 1 s)
-        go (fed k a u e) = omega (arith, e, feed-form rest u, length-drop 1 s)
-        go (plain k l e) = omega (arith, e)
-
-  pub length-inside : entryLength s ≤ length s
-  length-inside = go (ltb 0 (length s)) refl
-    where
-      go : (b : Bool) → ltb 0 (length s) ≡ b → entryLength s ≤ length s
-      go true e = inside-some (ltb-true 0 (length s) e)
-      go false e = let z : length s ≡ 0 = omega (arith, ltb-false 0 (length s) e) in omega (arith, none-empty s z)
-
-  pub part-length : length (firstPart s) ≡ entryLength s
-  part-length = length-take-le (entryLength s) s length-inside
+pub part-length : (s : List ℕ) → length (firstPart s) ≡ entryLength s
+part-length s = length-take-le (entryLength s) s (length-inside s)
 
 -- ---- Next entry
 
@@ -105,28 +84,6 @@ module _ (log : List ℕ) (at : ℕ) where
       let m : at + n - at ≡ entryLength left = omega arith in
       rw m
 
-  -- the refusal, case by case
-  pub refusal-end : length log ≤ at → refusalAt log at ≡ 0
-  unfolding refusalAt
-  refusal-end h = simp (le-leb (length log) at h)
-
-  pub refusal-bad : at < length log → entryLength left ≡ 0 → refusalAt log at ≡ 14
-  unfolding refusalAt
-  refusal-bad h e = simp (lt-leb (length log) at h, eq-eqb (entryLength left) 0 e)
-
-  pub refusal-entry : at < length log → (entryLength left ≡ 0 → ⊥) → refusalAt log at ≡ 0
-  unfolding refusalAt
-  refusal-entry h e = simp (lt-leb (length log) at h, ne-eqb (entryLength left) 0 e)
-
-  -- the three apart
-  pub by-place : {P : Type 0} → (length log ≤ at → P) → (at < length log → entryLength left ≡ 0 → P) → (at < length log → (entryLength left ≡ 0 → ⊥) → P) → P
-  by-place {P} end fails entry = go (leb (length log) at) refl (eqb (entryLength left) 0) refl
-    where
-      go : (b : Bool) → leb (length log) at ≡ b → (d : Bool) → eqb (entryLength left) 0 ≡ d → P
-      go true e d f = end (leb-true (length log) at e)
-      go false e true f = fails (leb-false (length log) at e) (eqb-true (entryLength left) 0 f)
-      go false e false f = entry (leb-false (length log) at e) (eqb-false (entryLength left) 0 f)
-
 -- ---- the part of a kind
 
 -- the bytes of a part after its header
@@ -156,15 +113,16 @@ module _ (s : List ℕ) (some : 0 < length (firstPart s)) where
   same-header : getD (firstPart s) 0 0 ≡ getD s 0 0
   same-header = take-first s (entryLength s) (omega (arith, some, part-length s))
 
-  pub part-kind : kindIn (firstPart s) ≤ 5
+  pub part-kind : kindIn (firstPart s) ≤ 6
   part-kind = rw same-header (go (told s bytes))
     where
-      go : Told (kindIn s) (argumentIn s) (drop 1 s) (entryLength s) → kindIn s ≤ 5
+      go : Told (kindIn s) (argumentIn s) (drop 1 s) (entryLength s) → kindIn s ≤ 6
       go (bad b e) = absurd (omega (arith, e, some, part-length s))
       go (won k a u e) = omega (arith, k)
       go (many k p o u e) = omega (arith, k)
       go (fed k a u e) = omega (arith, k)
       go (plain k l e) = omega (arith, l)
+      go (corrected k a l h p e) = omega (arith, k)
 
   pub part-win : kindIn (firstPart s) ≡ 1 → (argumentIn (firstPart s) ≡ 0) × (wrongLength (length (drop 1 (firstPart s))) (countIn (drop 1 (firstPart s))) ≡ false)
   part-win w = rw same-header (go (told s bytes))
@@ -175,6 +133,7 @@ module _ (s : List ℕ) (some : 0 < length (firstPart s)) where
       go (many k p o u e) = absurd (omega (arith, k, rw same-header at w))
       go (fed k a u e) = absurd (omega (arith, k, rw same-header at w))
       go (plain k l e) = absurd (k (rw same-header at w))
+      go (corrected k a l h p e) = absurd (omega (arith, k, rw same-header at w))
 
   pub part-many : kindIn (firstPart s) ≡ 4 → let a = argumentIn (firstPart s) in let t = drop 1 (firstPart s) in let rs = recordsOf a t in (0 < a) × (a ≤ 3) × (length rs ≡ a) × (laid rs ≡ t) × ((k : ℕ) → k < a → wrongLength (length (getD rs k [])) (countIn (getD rs k [])) ≡ false)
   part-many w = rw same-header (go (told s bytes))
@@ -188,6 +147,7 @@ module _ (s : List ℕ) (some : 0 < length (firstPart s)) where
           (p, o, rw d (r .0), rw d (r .1), rw d (r .2))
       go (fed k a u e) = absurd (omega (arith, k, rw same-header at w))
       go (plain k l e) = absurd (omega (arith, l, rw same-header at w))
+      go (corrected k a l h p e) = absurd (omega (arith, k, rw same-header at w))
 
   pub part-feed : kindIn (firstPart s) ≡ 5 → let t = drop 1 (firstPart s) in (argumentIn (firstPart s) ≡ 0) × (length t ≡ 1) × (getD t 0 0 ≡ 64 * holderIn t + 16 * feederIn t + 8 * (yakuIn t - 28))
   part-feed w = rw same-header (go (told s bytes))
@@ -204,3 +164,39 @@ module _ (s : List ℕ) (some : 0 < length (firstPart s)) where
             feed-fields (drop 1 (firstPart s)) (rw (d, take-first (drop 1 s) 1 (omega arith)) (f .1)),
           )
       go (plain k l e) = absurd (omega (arith, l, rw same-header at w))
+      go (corrected k a l h p e) = absurd (omega (arith, k, rw same-header at w))
+
+  -- an entry of kind 1 to 4 is one by its own bytes alone
+  pub part-again : 1 ≤ kindIn s → kindIn s ≤ 4 → firstPart (firstPart s) ≡ firstPart s
+  part-again l h =
+      let n : lengthBy (kindIn (firstPart s)) (argumentIn (firstPart s)) (drop 1 (firstPart s)) ≡ entryLength s = rw same-header (go (told s bytes)) in
+      ap (λ (k : ℕ). take k (firstPart s)) (length-is (firstPart s) some (λ k. omega (arith, h, k, same-header)) ∙ n)
+      ∙ take-take (entryLength s) (entryLength s) s (omega arith)
+    where
+      go : Told (kindIn s) (argumentIn s) (drop 1 s) (entryLength s) → lengthBy (kindIn s) (argumentIn s) (drop 1 (firstPart s)) ≡ entryLength s
+      go (bad b e) = absurd (omega (arith, e, some, part-length s))
+      go (won k a u e) =
+          rw (e, after-header s (lengthOf (countIn (drop 1 s))) bytes, length-win (argumentIn s) (take (lengthOf (countIn (drop 1 s))) (drop 1 s)) (kindIn s) k)
+          (win-again (argumentIn s) (drop 1 s) a u)
+      go (many k p o u e) =
+          rw (e, after-header s (spanOf (argumentIn s) (drop 1 s)) bytes, length-many (argumentIn s) (take (spanOf (argumentIn s) (drop 1 s)) (drop 1 s)) (kindIn s) k)
+          (many-again (argumentIn s) (drop 1 s) p o u)
+      go (fed k a u e) = absurd (omega (arith, k, h))
+      go (plain k o e) = length-plain (argumentIn s) (drop 1 (firstPart s)) (kindIn s) k o ∙ sym e
+      go (corrected k a o g p e) = absurd (omega (arith, k, h))
+
+-- of a correction the bytes after its header are the entry that it carries
+module _ (s : List ℕ) (some : 0 < length (firstPart s)) where
+  pub part-correction : kindIn (firstPart s) ≡ 6 → let t = drop 1 (firstPart s) in (argumentIn (firstPart s) ≡ 0) × (1 ≤ kindIn t) × (kindIn t ≤ 4) × (0 < length t) × (firstPart t ≡ t)
+  part-correction w = rw (same-header s some) (go (told s (bytes s some)))
+    where
+      go : Told (kindIn s) (argumentIn s) (drop 1 s) (entryLength s) → let t = drop 1 (firstPart s) in (argumentIn s ≡ 0) × (1 ≤ kindIn t) × (kindIn t ≤ 4) × (0 < length t) × (firstPart t ≡ t)
+      go (bad b e) = absurd (omega (arith, e, some, part-length s))
+      go (won k a u e) = absurd (omega (arith, k, rw (same-header s some) at w))
+      go (many k p o u e) = absurd (omega (arith, k, rw (same-header s some) at w))
+      go (fed k a u e) = absurd (omega (arith, k, rw (same-header s some) at w))
+      go (plain k l e) = absurd (omega (arith, l, rw (same-header s some) at w))
+      go (corrected k a l h p e) =
+          let d = ap (λ (n : ℕ). drop 1 (take n s)) e ∙ after-header s (entryLength (drop 1 s)) (bytes s some) in
+          let i : 0 < length (firstPart (drop 1 s)) = omega (arith, p, part-length (drop 1 s)) in
+          rw (d, same-header (drop 1 s) i) (a, l, h, i, part-again (drop 1 s) i l h)

@@ -5,12 +5,12 @@ use mathlib.Core.List.{List, [], _∷_, _++_}
 use Prim.Native.Nat.{ℕ, zero, suc, _+_, _*_, _-_, _≤_, _<_}
 use native.Mathlib.Nat.{add-zero}
 use native.Mathlib.Omega.{arith}
-use lib.ListN.{length, getD, take, drop, length-drop}
+use lib.ListN.{length, getD, take, drop, length-take, length-drop}
 use lib.Seq.{length-take-le, take-take, take-add, drop-at, drop-drop}
 use Rattle.tiles.specs.laws.Below.{or-both}
 use Rattle.hand_record.specs.Record.{countIn, lengthOf, wrongLength}
 use Rattle.record_lengths.specs.Lengths.{isBroken, recordLength}
-use Rattle.record_lengths.specs.laws.Lengths.{unbroken, length-zero, length-some, count-take, record-length}
+use Rattle.record_lengths.specs.laws.Lengths.{unbroken, record-whole, length-zero, length-some, count-take, record-length}
 use Rattle.records.specs.Records.{recordsOf}
 use Rattle.log.specs.Kinds.{hasBroken, spanOf, recordsLength}
 use Rattle.log.specs.Log.{laid}
@@ -86,6 +86,29 @@ module _ (n : ℕ) (s : List ℕ) (e : isBroken s ≡ false) where
 
   the-rest : drop L (take (L + m) s) ≡ take m (drop L s)
   the-rest = ap (drop L) (take-add L m s) ∙ drop-at (take L s) (take m (drop L s)) L (length-take-le L s (unbroken s e .3))
+
+-- where nothing stands after them they are as long
+pub record-again : (s : List ℕ) (n : ℕ) → isBroken s ≡ false → lengthOf (countIn s) ≤ n → recordLength (take n s) ≡ lengthOf (countIn s)
+record-again s n e h =
+    let u = unbroken s e in
+    let l = length-take n s in
+    let c = count-take s n (omega arith) (omega arith) in
+    let b = ap lengthOf c in
+    record-whole (take n s) (omega arith) (omega arith) (omega arith) ∙ b
+
+records-kept : (n : ℕ) (s : List ℕ) → hasBroken n s ≡ false → (hasBroken n (take (spanOf n s) s) ≡ false) × (spanOf n (take (spanOf n s) s) ≡ spanOf n s)
+unfolding hasBroken spanOf
+records-kept zero s e = (refl, refl)
+records-kept (suc n) s e =
+    let p = or-both (isBroken s) (hasBroken n (drop (lengthOf (countIn s)) s)) e in
+    let r = records-kept n (drop (lengthOf (countIn s)) s) (p .1) in
+    let a = record-again s (L n s (p .0) + m n s (p .0)) (p .0) (omega arith) in
+    let b = length-some (take (L n s (p .0) + m n s (p .0)) s) (λ z. omega (arith, a, z, unbroken s (p .0))) .0 in
+    (rw (b, same-count n s (p .0), the-rest n s (p .0)) (r .0), rw (same-count n s (p .0), the-rest n s (p .0), r .1))
+
+pub records-again : (n : ℕ) (s : List ℕ) → hasBroken n s ≡ false → recordsLength n (take (spanOf n s) s) ≡ spanOf n s
+unfolding recordsLength
+records-again n s e = let k = records-kept n s e in rw (k .0) (k .1)
 
 first-and-rest : (n : ℕ) (s : List ℕ) (e : isBroken s ≡ false) → recordsOf (suc n) (take (L n s e + m n s e) s) ≡ take (L n s e) s ∷ recordsOf n (take (m n s e) (drop (L n s e) s))
 unfolding recordsOf spanOf

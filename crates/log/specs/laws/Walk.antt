@@ -1,16 +1,16 @@
 -- The walk a part at a time, and what holds all along it.
 use mathlib.Core.Path.{_≡_, refl, ap, sym, _∙_}
 use mathlib.Core.Logic.{_⊎_, inl, inr, ⊎-elim, _↔_}
-use mathlib.Core.Bool.{false≢true}
 use mathlib.Core.List.{List, [], _∷_, _++_, append-assoc}
 use Prim.Native.Nat.{ℕ, zero, suc, _+_, _≤_, _<_}
 use native.Mathlib.Omega.{arith}
 use lib.ListN.{length, take, drop, length-append, length-drop, take-append-drop}
 use lib.Seq.{drop-drop, take-append-seam, take-all}
 use Rattle.log.specs.Kinds.{kindIn, argumentIn, entryLength}
-use Rattle.log.specs.Log.{firstPart, partAt, refusalAt, partsBy, partsFew, partsOf, laid, stopOf}
-use Rattle.log.specs.laws.Lengths.{IsBad, Told, bad, won, many, fed, plain}
-use Rattle.log.specs.laws.Next.{told, none-empty, length-inside, part-length, length-part, part-past, some-left, refusal-end, refusal-bad, refusal-entry, by-place}
+use Rattle.log.specs.Log.{partAt, refusalAt, partsBy, partsFew, partsOf, laid, stopOf}
+use Rattle.log.specs.laws.Refusals.{refusal-end, refusal-bad, by-place, bad-length}
+use Rattle.log.specs.laws.Lengths.{IsBad, zero-bad, bad-zero}
+use Rattle.log.specs.laws.Next.{firstPart, none-empty, length-inside, part-length, length-part, part-past, some-left}
 
 -- what holds where no entry stands, and at an entry whenever after it, holds of all bytes
 module _ (P : List ℕ → Type 0) (none : (s : List ℕ) → entryLength s ≡ 0 → P s) (entry : (s : List ℕ) → 0 < entryLength s → P (drop (entryLength s) s) → P s) where
@@ -127,54 +127,15 @@ module _ (log : List ℕ) (at : ℕ) where
     λ g. (ap length (part-past log at g), refusal-end log at g),
   )
 
-  pub bad-length : (refusalAt log at ≡ 14) ↔ ((at < length log) × (entryLength (drop at log) ≡ 0))
-  bad-length = (
-    λ h. by-place log at (λ g. absurd (omega (arith, h, refusal-end log at g))) (λ l e. (l, e)) (λ l e. absurd (omega (arith, h, refusal-entry log at l e))),
-    λ h. refusal-bad log at (h .0) (h .1),
-  )
-
   pub bad-part : refusalAt log at ≡ 14 → length (partAt log at) ≡ 0
-  bad-part h = length-part log at ∙ bad-length .0 h .1
+  bad-part h = length-part log at ∙ bad-length log at .0 h .1
 
   -- in the paper's words
-  zero-bad : at < length log → entryLength (drop at log) ≡ 0 → IsBad (kindIn (drop at log)) (argumentIn (drop at log)) (drop 1 (drop at log))
-  zero-bad l e = go (told (drop at log) (some-left log at l))
-    where
-      go : Told (kindIn (drop at log)) (argumentIn (drop at log)) (drop 1 (drop at log)) (entryLength (drop at log)) → IsBad (kindIn (drop at log)) (argumentIn (drop at log)) (drop 1 (drop at log))
-      go (bad b z) = b
-      go (won k a u z) = absurd (omega (arith, e, z))
-      go (many k p o u z) = absurd (omega (arith, e, z))
-      go (fed k a u z) = absurd (omega (arith, e, z))
-      go (plain k h z) = absurd (omega (arith, e, z))
-
-  bad-zero : at < length log → IsBad (kindIn (drop at log)) (argumentIn (drop at log)) (drop 1 (drop at log)) → entryLength (drop at log) ≡ 0
-  bad-zero l b = go b (told (drop at log) (some-left log at l))
-    where
-      go : IsBad (kindIn (drop at log)) (argumentIn (drop at log)) (drop 1 (drop at log)) → Told (kindIn (drop at log)) (argumentIn (drop at log)) (drop 1 (drop at log)) (entryLength (drop at log)) → entryLength (drop at log) ≡ 0
-      go x (bad b z) = z
-      go (inl o) (won k a u z) = absurd (omega (arith, o, k))
-      go (inr (inl (w, inl o))) (won k a u z) = absurd (o a)
-      go (inr (inl (w, inr o))) (won k a u z) = absurd (false≢true (sym u ∙ o))
-      go (inr (inr (inl o))) (won k a u z) = absurd (omega (arith, o .0, k))
-      go (inr (inr (inr o))) (won k a u z) = absurd (omega (arith, o .0, k))
-      go (inl o) (many k p l u z) = absurd (omega (arith, o, k))
-      go (inr (inl o)) (many k p l u z) = absurd (omega (arith, o .0, k))
-      go (inr (inr (inl (w, inl o)))) (many k p l u z) = absurd (omega (arith, o, p))
-      go (inr (inr (inl (w, inr (inl o))))) (many k p l u z) = absurd (omega (arith, o, l))
-      go (inr (inr (inl (w, inr (inr o))))) (many k p l u z) = absurd (false≢true (sym u ∙ o))
-      go (inr (inr (inr o))) (many k p l u z) = absurd (omega (arith, o .0, k))
-      go (inl o) (fed k a u z) = absurd (omega (arith, o, k))
-      go (inr (inl o)) (fed k a u z) = absurd (omega (arith, o .0, k))
-      go (inr (inr (inl o))) (fed k a u z) = absurd (omega (arith, o .0, k))
-      go (inr (inr (inr (w, inl o)))) (fed k a u z) = absurd (o a)
-      go (inr (inr (inr (w, inr o)))) (fed k a u z) = absurd (false≢true (sym u ∙ o))
-      go (inl o) (plain k h z) = absurd (omega (arith, o, h))
-      go (inr (inl o)) (plain k h z) = absurd (k (o .0))
-      go (inr (inr (inl o))) (plain k h z) = absurd (omega (arith, o .0, h))
-      go (inr (inr (inr o))) (plain k h z) = absurd (omega (arith, o .0, h))
-
   pub bad-exactly : (refusalAt log at ≡ 14) ↔ ((at < length log) × IsBad (kindIn (drop at log)) (argumentIn (drop at log)) (drop 1 (drop at log)))
-  bad-exactly = (λ h. let b = bad-length .0 h in (b .0, zero-bad (b .0) (b .1)), λ h. bad-length .1 (h .0, bad-zero (h .0) (h .1)))
+  bad-exactly = (
+    λ h. let b = bad-length log at .0 h in (b .0, zero-bad (drop at log) (some-left log at (b .0)) (b .1)),
+    λ h. bad-length log at .1 (h .0, bad-zero (drop at log) (some-left log at (h .0)) (h .1)),
+  )
 
 -- where the walk ends
 pub ends-at : (log : List ℕ) → (length log ≡ stopOf log) ⊎ (refusalAt log (stopOf log) ≡ 14)

@@ -7,18 +7,19 @@ use native.Mathlib.Omega.{arith}
 use borrow.Author.Tests.{leb-true, leb-false, lt-ltb, le-ltb, le-leb, lt-leb, eq-eqb, ne-eqb}
 use lib.Dec.{ltb, leb, eqb}
 use lib.ListN.{length, take, drop, length-append, length-drop, take-append-drop}
-use lib.Seq.{length-take-le, take-append-le, take-append-seam, drop-append-seam, take-append-add, drop-append-add, drop-drop}
+use lib.Seq.{length-take-le, take-append-seam, drop-append-seam, drop-drop}
 use Rattle.log.specs.Kinds.{letterOf, kindIn}
 use Rattle.log.specs.Log.{partAt, partsOf}
 use Rattle.log.specs.laws.Next.{from-on, none-empty, none-left}
 use Rattle.log.specs.laws.Walk.{parts-none}
 use Rattle.text.specs.Text.{digitsOf, spaced, lineOf, lengthIn, bufferWith}
 use Rattle.ledger.specs.declared.Game.{Game}
-use Rattle.ledger.specs.Ledger.{refusalFor, after}
+use Rattle.book.specs.declared.Book.{Book}
+use Rattle.book.specs.Book.{bookRefusal, bookAfter}
 use Rattle.play.specs.declared.Step.{Step}
 use Rattle.play.specs.declared.Walk.{Walk}
 use Rattle.play.specs.declared.Printed.{Printed}
-use Rattle.play.specs.Play.{bookingOf, stepOf, entryLine, textFrom, textLeft, filled, linesOf}
+use Rattle.play.specs.Play.{keyedOf, stepOf, entryLine, textFrom, textLeft, filled, linesOf}
 use Rattle.play.specs.laws.Turn.{no-parts, step-is, parts-are, inside}
 
 -- a line has a byte at least
@@ -63,14 +64,14 @@ rest-put n buf out =
 -- ---- the lines of parts
 
 module _ (room n : ℕ) (w : Walk) (p : List ℕ) (rest : List (List ℕ)) where
-  abbrev pub gameNext : Game
-  gameNext = after (w .game) (bookingOf p)
+  abbrev pub bookNext : Book
+  bookNext = bookAfter (w .book) (keyedOf p)
 
   abbrev pub lineNext : List ℕ
-  lineNext = entryLine (w .entry) (letterOf (kindIn p)) (refusalFor (w .game) (bookingOf p)) gameNext
+  lineNext = entryLine (w .entry) (letterOf (kindIn p)) (bookRefusal (w .book) (keyedOf p)) (bookNext .game)
 
   abbrev pub walkNext : Walk
-  walkNext = record { game = gameNext; at = w .at + length p; entry = w .entry + 1 }
+  walkNext = record { book = bookNext; at = w .at + length p; entry = w .entry + 1 }
 
   pub filled-on : n + length lineNext ≤ room → (w .entry ≡ 4294967295 → ⊥) → filled room n w (p ∷ rest) ≡ filled room (n + length lineNext) walkNext rest
   unfolding filled
@@ -97,13 +98,13 @@ pub filled-max : (room n : ℕ) (w : Walk) (parts : List (List ℕ)) → w .entr
 filled-max room n w [] e = filled-none room n w
 filled-max room n w (p ∷ rest) e = filled-last room n w p rest e
 
-text-none : (k : ℕ) (g : Game) → textFrom k g [] ≡ []
+text-none : (j : ℕ) (k : Book) → textFrom j k [] ≡ []
 unfolding textFrom
-text-none k g = refl
+text-none j k = refl
 
-pub text-some : (k : ℕ) (g : Game) (p : List ℕ) (rest : List (List ℕ)) → textFrom k g (p ∷ rest) ≡ entryLine k (letterOf (kindIn p)) (refusalFor g (bookingOf p)) (after g (bookingOf p)) ++ textFrom (k + 1) (after g (bookingOf p)) rest
+pub text-some : (j : ℕ) (k : Book) (p : List ℕ) (rest : List (List ℕ)) → textFrom j k (p ∷ rest) ≡ entryLine j (letterOf (kindIn p)) (bookRefusal k (keyedOf p)) (bookAfter k (keyedOf p) .game) ++ textFrom (j + 1) (bookAfter k (keyedOf p)) rest
 unfolding textFrom
-text-some k g p rest = refl
+text-some j k p rest = refl
 
 -- ---- before every line
 
@@ -140,7 +141,7 @@ module _ (log : List ℕ) (w : Walk) (old : List ℕ) where
     none-gives e = gives (ap (filled (length old) n v) e ∙ filled-none (length old) n v) (λ h l. none e)
       where
         none : partsOf (drop (v .at) log) ≡ [] → textLeft v log ≡ []
-        none e = ap (textFrom (v .entry) (v .game)) e ∙ text-none (v .entry) (v .game)
+        none e = ap (textFrom (v .entry) (v .book)) e ∙ text-none (v .entry) (v .book)
 
     pub past-gives : length log ≤ v .at → Gives (record { written = n; walk = v }) buf
     past-gives h = none-gives (parts-none (drop (v .at) log) (none-empty (drop (v .at) log) (none-left log (v .at) h)))
@@ -150,9 +151,9 @@ module _ (log : List ℕ) (w : Walk) (old : List ℕ) where
     max-gives e = gives (filled-max (length old) n v (partsOf (drop (v .at) log)) e) (λ h l. absurd (omega (arith, e, l)))
 
     -- b is the entry there, booked
-    module _ (b : Step) (eb : b ≡ stepOf (v .game) log (v .at)) where
+    module _ (b : Step) (eb : b ≡ stepOf (v .book) log (v .at)) where
       pub end-gives : b .entry .length ≡ 0 → Gives (record { written = n; walk = v }) buf
-      end-gives z = none-gives (no-parts (v .game) log (v .at) (rw eb at z))
+      end-gives z = none-gives (no-parts (v .book) log (v .at) (rw eb at z))
 
       module _ (l : b .entry .length ≡ 0 → ⊥) where
         abbrev p : List ℕ
@@ -162,23 +163,23 @@ module _ (log : List ℕ) (w : Walk) (old : List ℕ) where
         rest = partsOf (drop (v .at + length p) log)
 
         abbrev line : List ℕ
-        line = entryLine (v .entry) (b .entry .letter) (b .entry .refusal) (b .game)
+        line = entryLine (v .entry) (b .entry .letter) (b .entry .refusal) (b .book .game)
 
-        there : stepOf (v .game) log (v .at) .entry .length ≡ 0 → ⊥
+        there : stepOf (v .book) log (v .at) .entry .length ≡ 0 → ⊥
         there = rw eb at l
 
         -- what b is of the log
         line-is : line ≡ lineNext (length old) n v p rest
-        line-is = rw (eb, step-is (v .game) log (v .at) there)
+        line-is = rw (eb, step-is (v .book) log (v .at) there)
 
-        walk-is : record { game = b .game; at = v .at + b .entry .length; entry = v .entry + 1 } ≡ walkNext (length old) n v p rest
-        walk-is = rw (eb, step-is (v .game) log (v .at) there)
+        walk-is : record { book = b .book; at = v .at + b .entry .length; entry = v .entry + 1 } ≡ walkNext (length old) n v p rest
+        walk-is = rw (eb, step-is (v .book) log (v .at) there)
 
         parts : partsOf (drop (v .at) log) ≡ p ∷ rest
-        parts = parts-are (v .game) log (v .at) there
+        parts = parts-are (v .book) log (v .at) there
 
         pub line-inside : (0 < b .entry .length) × (v .at + b .entry .length ≤ length log)
-        line-inside = rw (eb, step-is (v .game) log (v .at) there) (inside (v .game) log (v .at) there)
+        line-inside = rw (eb, step-is (v .book) log (v .at) there) (inside (v .book) log (v .at) there)
 
         -- its line, written into what is left of the buffer, of which m bytes are told
         module _ (m : ℕ) (em : m ≡ lengthIn (drop n buf) line) where
@@ -195,7 +196,7 @@ module _ (log : List ℕ) (w : Walk) (old : List ℕ) where
           -- it has no room
           short-gives : m ≡ 0 → length line ≤ 83 → Gives (record { written = n; walk = v }) buf
           short-gives z short =
-              let long = zero-long (drop n buf) line (line-some (v .entry) (b .entry .letter) (b .entry .refusal) (b .game)) (sym em ∙ z) in
+              let long = zero-long (drop n buf) line (line-some (v .entry) (b .entry .letter) (b .entry .refusal) (b .book .game)) (sym em ∙ z) in
               let over : length old < n + length (lineNext (length old) n v p rest) = rw (← line-is) (omega (arith, long, left-length, k .room)) in
               gives (ap (filled (length old) n v) parts ∙ filled-long (length old) n v p rest over) (λ h y. absurd (omega (arith, long, short, left-length, h)))
 
@@ -222,12 +223,12 @@ module _ (log : List ℕ) (w : Walk) (old : List ℕ) where
             front-length : length (take n buf ++ line) ≡ n + m
             front-length = length-append (take n buf) line ∙ rw (head-length, m-is)
 
-            line-kept : Kept out (record { game = b .game; at = v .at + b .entry .length; entry = v .entry + 1 }) (n + m)
+            line-kept : Kept out (record { book = b .book; at = v .at + b .entry .length; entry = v .entry + 1 }) (n + m)
             line-kept =
                 record {
                   size = ap length out-is ∙ length-append (take n buf ++ line) (drop m (drop n buf)) ∙ omega (arith, front-length, length-drop m (drop n buf), left-length, m-is, fits, k .room);
                   room = line-room;
-                  text = ap (λ (x : List ℕ). x ++ textLeft (record { game = b .game; at = v .at + b .entry .length; entry = v .entry + 1 }) log) front ∙ append-assoc (take n buf) line _ ∙ ap (λ (x : List ℕ). take n buf ++ x) (sym text-turn) ∙ k .text;
+                  text = ap (λ (x : List ℕ). x ++ textLeft (record { book = b .book; at = v .at + b .entry .length; entry = v .entry + 1 }) log) front ∙ append-assoc (take n buf) line _ ∙ ap (λ (x : List ℕ). take n buf ++ x) (sym text-turn) ∙ k .text;
                   past = ap (drop (n + m)) out-is ∙ ap (λ (j : ℕ). drop j ((take n buf ++ line) ++ drop m (drop n buf))) (sym front-length) ∙ drop-append-seam (take n buf ++ line) (drop m (drop n buf)) ∙ ap (drop m) (k .past) ∙ drop-drop m n old;
                   left = ap (λ (x : Walk). filled (length old) (n + m) x (partsOf (drop (x .at) log))) walk-is ∙ sym filled-turn ∙ k .left;
                 }
@@ -235,9 +236,9 @@ module _ (log : List ℕ) (w : Walk) (old : List ℕ) where
                 front : take (n + m) out ≡ take n buf ++ line
                 front = ap (take (n + m)) out-is ∙ ap (λ (j : ℕ). take j ((take n buf ++ line) ++ drop m (drop n buf))) (sym front-length) ∙ take-append-seam (take n buf ++ line) (drop m (drop n buf))
 
-                text-turn : textLeft v log ≡ line ++ textLeft (record { game = b .game; at = v .at + b .entry .length; entry = v .entry + 1 }) log
+                text-turn : textLeft v log ≡ line ++ textLeft (record { book = b .book; at = v .at + b .entry .length; entry = v .entry + 1 }) log
                 text-turn =
-                    ap (textFrom (v .entry) (v .game)) parts ∙ text-some (v .entry) (v .game) p rest
+                    ap (textFrom (v .entry) (v .book)) parts ∙ text-some (v .entry) (v .book) p rest
                     ∙ ap (λ (x : List ℕ). x ++ textLeft (walkNext (length old) n v p rest) log) (sym line-is) ∙ ap (λ (x : Walk). line ++ textLeft x log) (sym walk-is)
 
                 filled-turn : filled (length old) n v (partsOf (drop (v .at) log)) ≡ filled (length old) (n + m) (walkNext (length old) n v p rest) rest
@@ -259,7 +260,7 @@ module _ (log : List ℕ) (w : Walk) (old : List ℕ) where
           -- nothing is written
           pub lent-same : m ≡ 0 → take n buf ++ (o ++ drop (length buf - n) (drop n buf)) ≡ buf
           lent-same z =
-              let long = zero-long (drop n buf) line (line-some (v .entry) (b .entry .letter) (b .entry .refusal) (b .game)) (sym lent-length ∙ z) in
+              let long = zero-long (drop n buf) line (line-some (v .entry) (b .entry .letter) (b .entry .refusal) (b .book .game)) (sym lent-length ∙ z) in
               lent-bytes ∙ ap (λ (x : List ℕ). take n buf ++ x) (text-not (drop n buf) line long .1) ∙ take-append-drop n buf
 
           pub lent-short : m ≡ 0 → length line ≤ 83 → Gives (record { written = n; walk = v }) (take n buf ++ (o ++ drop (length buf - n) (drop n buf)))
@@ -268,5 +269,5 @@ module _ (log : List ℕ) (w : Walk) (old : List ℕ) where
               (g .0, (lent-same z ∙ g .1 .0, g .1 .1))
 
           -- the line is written
-          pub lent-kept : (m ≡ 0 → ⊥) → (v .entry ≡ 4294967295 → ⊥) → Kept (take n buf ++ (o ++ drop (length buf - n) (drop n buf))) (record { game = b .game; at = v .at + b .entry .length; entry = v .entry + 1 }) (n + m)
+          pub lent-kept : (m ≡ 0 → ⊥) → (v .entry ≡ 4294967295 → ⊥) → Kept (take n buf ++ (o ++ drop (length buf - n) (drop n buf))) (record { book = b .book; at = v .at + b .entry .length; entry = v .entry + 1 }) (n + m)
           lent-kept some max = rw lent-bytes (line-kept m lent-length some max)

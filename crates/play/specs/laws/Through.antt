@@ -1,7 +1,7 @@
 -- Where a walk stands after as many lines as fit: what was written and what is left make up the text.
 use mathlib.Core.Path.{_≡_, refl, sym, ap, _∙_}
 use mathlib.Core.Bool.{Bool, true, false}
-use mathlib.Core.List.{List, [], _∷_, _++_, append-assoc}
+use mathlib.Core.List.{List, [], _++_, append-assoc}
 use Prim.Native.Nat.{ℕ, _+_, _≤_, _<_}
 use native.Mathlib.Omega.{arith}
 use borrow.Author.Tests.{leb-true, leb-false, eqb-true, eqb-false}
@@ -9,8 +9,8 @@ use lib.Dec.{leb, eqb}
 use lib.ListN.{length, take, drop, length-append, length-drop}
 use lib.Seq.{take-append-seam, drop-drop, take-all, take-take}
 use Rattle.log.specs.Kinds.{entryLength}
-use Rattle.log.specs.Log.{firstPart, partsOf}
-use Rattle.log.specs.laws.Next.{length-inside, part-length}
+use Rattle.log.specs.Log.{partsOf}
+use Rattle.log.specs.laws.Next.{firstPart, length-inside, part-length}
 use Rattle.log.specs.laws.Walk.{along, parts-none, parts-some}
 use Rattle.play.specs.declared.Walk.{Walk}
 use Rattle.play.specs.declared.Printed.{Printed}
@@ -61,8 +61,8 @@ module _ (log : List ℕ) (room : ℕ) where
 
               text-turn : textLeft w log ≡ line ++ textLeft next log
               text-turn =
-                  ap (λ (x : List ℕ). textFrom (w .entry) (w .game) (partsOf x)) d ∙ ap (textFrom (w .entry) (w .game)) (parts-some s p) ∙ text-some (w .entry) (w .game) (firstPart s) rest
-                  ∙ ap (λ (x : List ℕ). line ++ textFrom (next .entry) (next .game) (partsOf x)) (sym there)
+                  ap (λ (x : List ℕ). textFrom (w .entry) (w .book) (partsOf x)) d ∙ ap (textFrom (w .entry) (w .book)) (parts-some s p) ∙ text-some (w .entry) (w .book) (firstPart s) rest
+                  ∙ ap (λ (x : List ℕ). line ++ textFrom (next .entry) (next .book) (partsOf x)) (sym there)
 
               step : Moved next (n + length line) (filled room (n + length line) next rest) → Moved w n (filled room (n + length line) next rest)
               step q =

@@ -6,19 +6,18 @@ use Prim.Native.Nat.{ℕ, zero, suc, _+_, _-_, _*_, _%_, _≤_, _<_}
 use native.Mathlib.Omega.{arith}
 use borrow.Author.Tests.{lt-ltb, ltb-false, eqb-false}
 use lib.Dec.{ltb, eqb}
-use lib.IntN.{ℤ, pos, _+ℤ_}
+use lib.IntN.{ℤ, pos}
 use lib.ListN.{length, getD, take, drop}
 use Rattle.tiles.specs.Below.{tabulate}
 use Rattle.tiles.specs.laws.Below.{or-both}
 use Rattle.tiles.specs.laws.Tabulate.{getD-tabulate}
 use Rattle.hand.specs.declared.Fields.{Fields}
 use Rattle.score.specs.laws.Z.{Within}
-use Rattle.records.specs.Records.{handFor, recordsOf, firstUnread, noSet, isWinner, discarderOf, firstAfter, firstWinner}
+use Rattle.records.specs.Records.{handFor, recordsOf, firstUnread, isWinner, discarderOf, firstAfter, firstWinner}
 use Rattle.records.specs.laws.Cut.{cutOf, firstOf, first-part, others-part, read-step}
 use Rattle.ledger.specs.declared.Game.{Game}
 use Rattle.ledger.specs.Booking.{many}
-use Rattle.ledger.specs.Ledger.{notOpen, winRefusal, firstRefused, refusalFor, winGives, setGives, effectOf, applied, after}
-use Rattle.ledger.specs.Runs.{Booked}
+use Rattle.ledger.specs.Ledger.{winRefusal, firstRefused, refusalFor, setGives, effectOf, applied, after, BookedIn}
 use Rattle.ledger.specs.laws.Bounds.{mostGift}
 use Rattle.ledger.specs.laws.Sums.{Small, paid, paid-within}
 use Rattle.moves.specs.laws.Steps.{finished}
@@ -143,7 +142,7 @@ module _ (g : Game) (number : ℕ) (s : List ℕ) where
         rw (c, b, z, wins-at (g .dealer) (omega (arith, h)))
 
   -- a set that is booked is the booking
-  pub set-booked : (n : ℕ) (k : Game) → refusalFor g (many number s) ≡ firstRefused g rs → SetBooked n k → Booked g (many number s) n k
+  pub set-booked : (n : ℕ) (k : Game) → refusalFor g (many number s) ≡ firstRefused g rs → SetBooked n k → BookedIn g (many number s) n k
   unfolding after
   set-booked n k q w = rw q (w .0, w .1)
 

@@ -1,11 +1,11 @@
--- `play::book` meets its contract, kind by kind.
+-- `play::book_plain` meets its contract, kind by kind.
 use borrow.Author.Needs.{needs}
 use borrow.Author.Tests.{eq-eqb, ne-eqb}
-use Rattle.play.proofs.book.Statement.{statement}
-use Rattle.play.proofs.book.Tie as tie
+use Rattle.play.proofs.book_plain.Statement.{statement}
+use Rattle.play.proofs.book_plain.Tie as tie
 
-pub book-spec : {M : Type 1} → statement M
-book-spec =
+pub book-plain-spec : {M : Type 1} → statement M
+book-plain-spec =
     tie.close
     (tie.spec
     (λ c κs. search needs)

@@ -1,4 +1,4 @@
--- Demand 3: what is claimed of the bookings of a list, booked one after the other from a fresh game.
+-- What demand 3 claims of a win, and of several records that are booked as one (02, S-6).
 use mathlib.Core.Path.{_≡_}
 use mathlib.Core.Logic.{_⊎_, _↔_}
 use mathlib.Core.Bool.{true, false, _&&_, cond}
@@ -15,8 +15,7 @@ use Rattle.score.specs.Named.{groupsOf, IsReadingOf, ReadsWithYaku, IsReported,
 use Rattle.ledger.specs.declared.Game.{Game}
 use Rattle.ledger.specs.Booking.{Booking, win, many}
 use Rattle.records.specs.Records.{recordsOf, noSet, firstWinner}
-use Rattle.ledger.specs.Ledger.{startingScore, pointsInPlay, fresh, scoreAt, totalOf, notOpen, handFor, riichiMismatch, refusalFor, wonBy, addedBy, fedIn, after, ledger, givenFrom}
-use Rattle.ledger.specs.Runs.{Every}
+use Rattle.ledger.specs.Ledger.{scoreAt, notOpen, handFor, riichiMismatch, wonBy, addedBy, fedIn, after}
 
 -- ---- a win with record s that got the refusal n; l is "the ledger as the win meets it"
 
@@ -127,27 +126,3 @@ module _ (l : Game) where
 -- P, where the booking is of several records
 abbrev pub OfMany : (Game → ℕ → List ℕ → ℕ → Type 0) → Game → Booking → ℕ → Type 0
 OfMany P l b n = (number : ℕ) (s : List ℕ) → b ≡ many number s → P l number s n
-
--- ---- a list
-
--- "a single claim about the whole list": the bookings bs got the refusals ns and left the game g
-pub record Demand3 (bs : List Booking) (ns : List ℕ) (g : Game) : Type 0 where
-  -- "The four scores plus 1,000 times the sticks on the table are 120,000."
-  pub sum : totalOf g ≡ pointsInPlay
-  -- "Each seat has 30,000 plus all that the rules give or take for the bookings accepted."
-  pub seats : (i : ℕ) → i < 4 → scoreAt g i ≡ startingScore +ℤ givenFrom fresh bs i
-  -- "The whole game equals the ledger of document 01, kept for the same list."
-  pub ledger : g ≡ ledger bs
-  -- "A booking was accepted exactly when the documents name no refusal for it; otherwise it got the number that they name."
-  pub named : Every (λ l b n. n ≡ refusalFor l b) fresh bs ns
-  -- the same of a win, in full
-  pub wins : Every (OfWin AcceptedWhen) fresh bs ns
-  -- "Each accepted win was paid by a reading of its tiles that has a yaku, and the winner's gain in it is at least that in every other reading of the same tiles that has a yaku."
-  pub paid : Every (OfWin PaidByBest) fresh bs ns
-  -- the same of several records, "the set as one booking", and "each of the winners has the best reading of that winner's tiles" (02, S-6)
-  pub sets-accepted : Every (OfMany SetAcceptedWhen) fresh bs ns
-  pub sets : Every (OfMany SetPaid) fresh bs ns
-  -- "A win of a sound record in an open game was refused for its tiles exactly when no reading of them has a yaku."
-  pub tiles : Every (OfWin TilesRefused) fresh bs ns
-  -- with 6 exactly when there is no reading, and with 7 exactly when there are readings
-  pub six-or-seven : Every (OfWin SixOrSeven) fresh bs ns
