@@ -23,23 +23,17 @@ module _ (k : Book) (x : Keyed) where
 
 -- ---- the game that a booking meets
 
--- the game itself, but where the earlier one is kept and out of form
+-- the earlier one where that is kept and out of form
+met-earlier : (k : Book) → isSet (k .held) ≡ true → outOfForm (k .earlier) ≡ true → metIn k ≡ k .earlier
+met-earlier k h o = rw (h, o)
+
+-- else the game itself
 pub met-game : (k : Book) → outOfForm (k .earlier) ≡ false → metIn k ≡ k .game
 met-game k e = go (isSet (k .held))
   where
     go : (t : Bool) → cond (t && outOfForm (k .earlier)) (k .earlier) (k .game) ≡ k .game
     go true = rw e
     go false = refl
-
--- where the earlier game is kept and out of form
-module _ (k : Book) (h : isSet (k .held) ≡ true) (o : outOfForm (k .earlier) ≡ true) where
-  met-earlier : metIn k ≡ k .earlier
-  met-earlier = rw (h, o)
-
-  pub earlier-out : (x : Keyed) → (bookRefusal k x ≡ 8) ⊎ (bookRefusal k x ≡ 9)
-  unfolding bookRefusal
-  earlier-out (plain b) = rw met-earlier (out-refused (k .earlier) o b)
-  earlier-out (correction b) = inr (rw (met-earlier, o))
 
 -- a correction in any book: 9, then 20, then what the booking that it carries meets
 module _ (k : Book) (b : Booking) where
@@ -63,3 +57,9 @@ module _ (k : Book) (b : Booking) where
   pub carried-last : outOfForm (k .game) ≡ false → outOfForm (k .earlier) ≡ false → isSet (k .held) ≡ true → bookRefusal k (correction b) ≡ refusalFor (k .earlier) b
   unfolding bookRefusal
   carried-last o e h = rw (met-game k e, o, h)
+
+-- so whatever is keyed in where the earlier game is kept and out of form
+pub earlier-out : (k : Book) → isSet (k .held) ≡ true → outOfForm (k .earlier) ≡ true → (x : Keyed) → (bookRefusal k x ≡ 8) ⊎ (bookRefusal k x ≡ 9)
+unfolding bookRefusal
+earlier-out k h o (plain b) = rw (met-earlier k h o) (out-refused (k .earlier) o b)
+earlier-out k h o (correction b) = inr (nine-first k b (inr (h, o)))
