@@ -23,6 +23,10 @@ use Rattle.book.specs.laws.Superseded as superseded
 pub demand-3 : (xs : List Keyed) (ns : List ℕ) (k : Book) → Runs freshBook xs ns k → Demand3 xs ns k
 demand-3 = laws.demand-3
 
+-- of bookings alone the game is the ledger "kept for the same list", as it was before S-10
+pub plain-ledger : (bs : List Booking) → bookFrom freshBook (map plain bs) .game ≡ ledger bs
+plain-ledger = lists.plain-ledger
+
 -- every list has its run, so that demand 3 speaks of each
 pub runs-exists : (xs : List Keyed) (k : Book) → Runs k xs (refusalsFrom k xs) (bookFrom k xs)
 runs-exists = lists.runs-exist
@@ -37,8 +41,9 @@ counters-keep-best = laws.counters-keep-best
 pub both-in-form : (xs : List Keyed) → let k = bookFrom freshBook xs in (outOfForm (k .game) ≡ false) × (outOfForm (k .earlier) ≡ false)
 both-in-form xs = let p = lists.both-kept xs in (lists.kept-in-form _ (p .0), lists.kept-in-form _ (p .1))
 
--- "The earlier game that is kept for this must be in form too, or the game isn't": whatever is keyed in meets 9, or an 8 before it
-pub earlier-in-form-too : (k : Book) → isSet (k .held) ≡ true → outOfForm (k .earlier) ≡ true → (x : Keyed) → (bookRefusal k x ≡ 8) ⊎ (bookRefusal k x ≡ 9)
+-- "The earlier game that is kept for this must be in form too, or the game isn't": a booking is refused as in that game, with 9 or the 8 before it; a correction: the next
+pub earlier-in-form-too : (k : Book) → isSet (k .held) ≡ true → outOfForm (k .earlier) ≡ true → (b : Booking)
+    → let n = bookRefusal k (plain b) in (n ≡ refusalFor (k .earlier) b) × ((n ≡ 8) ⊎ (n ≡ 9))
 earlier-in-form-too = after.earlier-out
 
 -- "It refuses with 20, before all else but the 9 for a game out of form, when there is none to supersede"; past both with what the booking meets that it carries

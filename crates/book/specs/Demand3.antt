@@ -3,7 +3,7 @@ use mathlib.Core.Path.{_≡_}
 use mathlib.Core.List.{List}
 use Prim.Native.Nat.{ℕ, _<_}
 use lib.IntN.{_+ℤ_}
-use Rattle.ledger.specs.Ledger.{startingScore, pointsInPlay, fresh, scoreAt, totalOf, ledger, givenFrom}
+use Rattle.ledger.specs.Ledger.{startingScore, pointsInPlay, fresh, scoreAt, totalOf, refusalFor, ledger, givenFrom}
 use Rattle.ledger.specs.Wins.{AcceptedWhen, PaidByBest, TilesRefused, SixOrSeven, OfWin, SetAcceptedWhen, SetPaid, OfMany}
 use Rattle.book.specs.declared.Book.{Book}
 use Rattle.book.specs.Book.{Keyed, freshBook, bookFrom, standing}
@@ -20,7 +20,7 @@ pub record Demand3 (xs : List Keyed) (ns : List ℕ) (k : Book) : Type 0 where
   -- the whole record that is lent is what its own step makes of the list
   pub book : k ≡ bookFrom freshBook xs
   -- "A booking was accepted exactly when the documents name no refusal for it; otherwise it got the number that they name."
-  pub named : ns ≡ refusalsFrom freshBook xs
+  pub named : (ns ≡ refusalsFrom freshBook xs) × Every (λ l b n. n ≡ refusalFor l b) freshBook xs ns
   -- the same of a win, in full
   pub wins : Every (OfWin AcceptedWhen) freshBook xs ns
   -- "Each accepted win was paid by a reading of its tiles that has a yaku, and the winner's gain in it is at least that in every other reading of the same tiles that has a yaku."

@@ -58,8 +58,8 @@ module _ (k : Book) (b : Booking) where
   unfolding bookRefusal
   carried-last o e h = rw (met-game k e, o, h)
 
--- so whatever is keyed in where the earlier game is kept and out of form
-pub earlier-out : (k : Book) → isSet (k .held) ≡ true → outOfForm (k .earlier) ≡ true → (x : Keyed) → (bookRefusal k x ≡ 8) ⊎ (bookRefusal k x ≡ 9)
+-- a booking where the earlier game is kept and out of form
+pub earlier-out : (k : Book) → isSet (k .held) ≡ true → outOfForm (k .earlier) ≡ true → (b : Booking)
+    → let n = bookRefusal k (plain b) in (n ≡ refusalFor (k .earlier) b) × ((n ≡ 8) ⊎ (n ≡ 9))
 unfolding bookRefusal
-earlier-out k h o (plain b) = rw (met-earlier k h o) (out-refused (k .earlier) o b)
-earlier-out k h o (correction b) = inr (nine-first k b (inr (h, o)))
+earlier-out k h o b = rw (met-earlier k h o) (refl, out-refused (k .earlier) o b)

@@ -1,12 +1,12 @@
 -- What a list that is keyed in keeps from a fresh game on, and what it gets of each booking.
 use mathlib.Core.Path.{_≡_, refl, sym, ap, _∙_, subst}
 use mathlib.Core.Bool.{Bool, true, false, cond}
-use mathlib.Core.List.{List, [], _∷_}
+use mathlib.Core.List.{List, [], _∷_, map}
 use Prim.Native.Nat.{ℕ}
 use lib.Dec.{ltb}
 use Rattle.ledger.specs.declared.Game.{Game}
 use Rattle.ledger.specs.Booking.{Booking}
-use Rattle.ledger.specs.Ledger.{isSet, outOfForm, refusalFor}
+use Rattle.ledger.specs.Ledger.{isSet, mark, outOfForm, refusalFor, effectOf, applied, after, ledgerFrom, ledger}
 use Rattle.ledger.specs.laws.Form.{of-form}
 use Rattle.ledger.specs.laws.Effect.{Kept}
 use Rattle.ledger.specs.laws.Kept.{fresh-kept, kept-form, after-kept}
@@ -62,6 +62,30 @@ module _ (k : Book) (p : Both k) where
   pub correction-refusal : (b : Booking) → bookRefusal k (correction b) ≡ cond (isSet (k .held)) (refusalFor (k .earlier) b) 20
   unfolding bookRefusal
   correction-refusal b = rw (met-is, kept-in-form (k .game) (p .0))
+
+-- ---- bookings alone
+
+-- the game is the ledger's, booking by booking
+plain-game : (k : Book) → Both k → (b : Booking) → bookAfter k (plain b) .game ≡ after (k .game) b
+unfolding bookAfter entered after
+plain-game k p b = rw (plain-refusal k p b) (go (ltb 0 (refusalFor (k .game) b)) refl)
+  where
+    new : Game
+    new = applied (k .game) (effectOf (k .game) b)
+
+    go : (t : Bool) → ltb 0 (refusalFor (k .game) b) ≡ t
+        → cond t k (record { game = cond (ltb 0 (refusalFor (k .game) b)) (k .game) new; earlier = k .game; held = mark (effectOf (k .game) b .finishes) }) .game ≡ cond t (k .game) new
+    go true e = refl
+    go false e = rw e
+
+plain-from : (bs : List Booking) (k : Book) → Both k → bookFrom k (map plain bs) .game ≡ ledgerFrom (k .game) bs
+unfolding bookFrom ledgerFrom
+plain-from [] k p = refl
+plain-from (b ∷ bs) k p = plain-from bs (bookAfter k (plain b)) (after-both k (plain b) p) ∙ ap (λ (l : Game). ledgerFrom l bs) (plain-game k p b)
+
+pub plain-ledger : (bs : List Booking) → bookFrom freshBook (map plain bs) .game ≡ ledger bs
+unfolding freshBook ledger
+plain-ledger bs = plain-from bs freshBook fresh-both
 
 -- ---- runs
 
