@@ -1,33 +1,44 @@
 #!/usr/bin/env python3
-"""cost.py [--stack | --waits | --ready | --bookings]: what one Score costs, in instructions (valgrind --tool=callgrind) and in bytes of stack (frames of the archive).
+"""cost.py [--PART ..]: what the calls cost; PART: stack, scores, slips, bookings, waits, ready, cards, judges; by default all of them.
+Instructions are counted (valgrind --tool=callgrind), bytes of stack read off the frames of the archive.
 
-It runs the program `vectors` (made by `rt check vectors`) on hands of crates/vectors/stdin. A figure is that of one entry: reading
+Scores: the program `vectors` (made by `rt check vectors`) on hands of crates/vectors/stdin. A figure is that of one entry: reading
 54 bytes, Score, and comparing. Mean: over the first 10,000 entries. Costliest found: the hands are measured in blocks, and those of the
 three costliest blocks one by one, so a costly hand among cheap ones can be missed.
 Stack: of hb_score, hb_win, hb_many and hb_correct_many the deepest chain of calls in the archive (`rt staticlib handset`), by their frames; the search recurses
-five deep at most, the settling of records three deep.
+five deep at most.
 Slip: what hb_slip takes beyond hb_score, by a C program over the archive (`rt staticlib handset`). Bookings: what hb_win takes beyond
 hb_score, of a yakuman that was fed too, what hb_many of one to three records takes beyond their Scores, what hb_feed takes and
 what a correction of a draw takes, by another, with the copy of the book. Waits: what hb_waits takes, by another, over hands drawn from a wall, hands of one suit and hands
 one tile short of groups, 1,000 each from a fixed seed, and over hands of 3 to 5 neighbouring numbers, the widest searches that a climb
-over hands found. Ready: what hb_ready takes, over 100 of each of those sets, and the frame of hb_ready in that program, with the one
-under it; what the C library takes is left out.
+over hands found. Ready: what hb_ready takes, over 100 of each of those sets, and its stack; what the C library takes is left out.
 Cards: what hb_cards takes, by another; its stack is read off a stack that was painted before the call, the caller's frame included.
-Judge: hb_judge on claims of the reported readings of those of the first 10,000 hands that score, made by the other scorer (`claims`).
+Judge: hb_judge on claims of the reported readings of those of the first 10,000 hands that score, made by the other scorer (`claims`), and hb_score of the same hands.
 """
 import os, random, re, subprocess, sys, tempfile
 here = os.path.join(os.path.dirname(os.path.abspath(__file__)), "..")
-program = os.path.join(here, "target/bin/vectors")
-data = open(os.path.join(here, "crates/vectors/stdin"), "rb").read()
-entries = [data[i:i + 54] for i in range(0, len(data), 54)]
+vectors = os.path.join(here, "target/bin/vectors")
+archive = os.path.join(here, "target/staticlib/libhandset.a")
+
+
+def counted(program, *words, stdin=b""):
+    """How many instructions a run of a program takes, and what it prints."""
+    with tempfile.TemporaryDirectory() as d:
+        r = subprocess.run(["valgrind", "--tool=callgrind", f"--callgrind-out-file={d}/out", program, *map(str, words)],
+                           input=stdin, capture_output=True, check=True)
+        return int(re.search(rb"Collected : (\d+)", r.stderr).group(1)), r.stdout
+
+
+def compiled(d, source):
+    """A C program over the archive, in the folder d."""
+    subprocess.run(["gcc", "-O2", "-static", "-x", "c", "-", "-x", "none", archive, "-I", os.path.join(here, "include"), "-o", f"{d}/program"],
+                   input=source.encode(), check=True)
+    return f"{d}/program"
 
 
 def instructions(hands):
-    """How many instructions a run on these entries takes."""
-    with tempfile.TemporaryDirectory() as d:
-        r = subprocess.run(["valgrind", "--tool=callgrind", f"--callgrind-out-file={d}/out", program],
-                           input=b"".join(hands), capture_output=True)
-        return int(re.search(rb"Collected : (\d+)", r.stderr).group(1))
+    """How many instructions a run of `vectors` on these entries takes."""
+    return counted(vectors, stdin=b"".join(hands))[0]
 
 
 SLIPS = """#include <stdlib.h>
@@ -63,34 +74,21 @@ int main(int argc, char **argv) {
 """
 
 
-def compiled(d, source):
-    """A C program over the archive; gives what runs it under callgrind: its instructions and its output."""
-    archive = os.path.join(here, "target/staticlib/libhandset.a")
-    subprocess.run(["gcc", "-O2", "-static", "-x", "c", "-", "-x", "none", archive, "-I", os.path.join(here, "include"), "-o", f"{d}/program"],
-                   input=source.encode(), check=True)
-
-    def run(*words):
-        r = subprocess.run(["valgrind", "--tool=callgrind", f"--callgrind-out-file={d}/out", f"{d}/program", *map(str, words)],
-                           capture_output=True, check=True)
-        return int(re.search(rb"Collected : (\d+)", r.stderr).group(1)), r.stdout
-    return run
-
-
 def cards():
     """What the practice cards of a suit and a size take."""
     with tempfile.TemporaryDirectory() as d:
-        run = compiled(d, CARDS)
+        program = compiled(d, CARDS)
         for suit, size in ((0, 2), (0, 5), (0, 8), (1, 8), (2, 8)):
-            (one, stack), (two, _) = run(1, suit, size), run(2, suit, size)
+            (one, stack), (two, _) = counted(program, 1, suit, size), counted(program, 2, suit, size)
             print(f"cards of suit {suit}, {size} tiles: {two - one} instructions, {int(stack)} bytes of stack")
 
 
 def slips():
     """What a slip takes beyond its Score, for lines 1 and 9 of the table of hands."""
     with tempfile.TemporaryDirectory() as d:
-        run = compiled(d, SLIPS)
+        program = compiled(d, SLIPS)
         for line, record in ((1, "b81e640210620a31661a9a6bb0"), (9, "201e60000005965acb2cc30d34")):
-            each = {s: (run(1001, s, record)[0] - run(1, s, record)[0]) // 1000 for s in "01"}
+            each = {s: (counted(program, 1001, s, record)[0] - counted(program, 1, s, record)[0]) // 1000 for s in "01"}
             print(f"slip of line {line}: {each['1'] - each['0']} instructions beyond its Score, {each['0']}")
 
 
@@ -123,10 +121,10 @@ def bookings():
     """What booking a win takes beyond its Score, for line 1 of the table of hands and for three dragon triplets that were fed; the same of sets of
     line 1's hand, won by seats 1, 2 and 0; what a feed takes, and a correction of a draw by line 1's win and by another draw."""
     with tempfile.TemporaryDirectory() as d:
-        run = compiled(d, BOOKINGS)
+        program = compiled(d, BOOKINGS)
 
         def each(what, *words):
-            return (run(1001, what, *words)[0] - run(1, what, *words)[0]) // 1000
+            return (counted(program, 1001, what, *words)[0] - counted(program, 1, what, *words)[0]) // 1000
         for name, words in (("line 1", ["b81e640210620a31661a9a6bb0"]), ("a yakuman that was fed", ["201684021068a2fbefc10410c2", "fed"])):
             print(f"win of {name}: {each(1, *words) - each(0, *words)} instructions beyond its Score")
         won = [first + "1e640210620a31661a9a6bb0" for first in ("b8", "d8", "98")]
@@ -181,14 +179,10 @@ def waits():
             ([0] * 3 + [1] * 4 + [2] * 4 + [3] * 2, [0] * 3 + [1] * 3 + [2] * 3 + [3] * 3 + [4], [0] * 3 + [1] * 4 + [2] * 3 + [3] * 2 + [4])
             if low % 9 + shape[-1] < 9]
     with tempfile.TemporaryDirectory() as d:
-        archive = os.path.join(here, "target/staticlib/libhandset.a")
-        subprocess.run(["gcc", "-O2", "-x", "c", "-", "-x", "none", archive, "-I", os.path.join(here, "include"), "-o", f"{d}/waits"],
-                       input=WAITS.encode(), check=True)
+        program = compiled(d, WAITS)
 
         def run(hands):
-            r = subprocess.run(["valgrind", "--tool=callgrind", f"--callgrind-out-file={d}/out", f"{d}/waits"],
-                               input=b"".join(map(unfinished, hands)), capture_output=True, check=True)
-            return int(re.search(rb"Collected : (\d+)", r.stderr).group(1))
+            return counted(program, stdin=b"".join(map(unfinished, hands)))[0]
         base = run([])
         most = max(run([hand]) - base for hand in wide)
         for name, hands in sets.items():
@@ -205,20 +199,14 @@ def ready():
     sets = {"drawn from a wall": [drawn(34, 0) for _ in range(100)], "of one suit": [drawn(9, 9 * (n % 3)) for n in range(100)],
             "a tile short of groups": [short() for _ in range(100)]}
     with tempfile.TemporaryDirectory() as d:
-        archive = os.path.join(here, "target/staticlib/libhandset.a")
-        program = WAITS.replace("hb_waits(hand + 1, hand[0], hand, 0)", "hb_ready(hand + 1, hand[0])")
-        subprocess.run(["gcc", "-O2", "-x", "c", "-", "-x", "none", archive, "-I", os.path.join(here, "include"), "-o", f"{d}/ready"],
-                       input=program.encode(), check=True)
+        program = compiled(d, WAITS.replace("hb_waits(hand + 1, hand[0], hand, 0)", "hb_ready(hand + 1, hand[0])"))
 
         def run(hands):
-            r = subprocess.run(["valgrind", "--tool=callgrind", f"--callgrind-out-file={d}/out", f"{d}/ready"],
-                               input=b"".join(map(unfinished, hands)), capture_output=True, check=True)
-            return int(re.search(rb"Collected : (\d+)", r.stderr).group(1))
+            return counted(program, stdin=b"".join(map(unfinished, hands)))[0]
         base = run([])
         for name, hands in sets.items():
             print(f"ready of 100 hands {name}: mean {(run(hands) - base) // 100} instructions")
-        f, _ = frames(f"{d}/ready")
-        print(f"stack: ready {f['hb_ready']}, choose under it {f.get('nearest::choose', 0)} bytes")
+        stacks_of(program, ["hb_ready"])
 
 
 JUDGES = """#include <stdio.h>
@@ -226,8 +214,10 @@ JUDGES = """#include <stdio.h>
 int main(int argc, char **argv) {
     uint8_t e[24];
     FILE *claims = fopen(argv[1], "rb");
-    while (fread(e, 24, 1, claims) == 1)
-        if (argc < 3) { HbJudged j = hb_judge(e + 1, e[0], e + 17, e[16], e[14], e[15]); if (j.refusal | j.verdict) return 1; }
+    while (fread(e, 24, 1, claims) == 1) {
+        if (*argv[2] == '1' && hb_score(e + 1, e[0], e[14], e[15]).refusal) return argc;
+        if (*argv[2] == '2') { HbJudged j = hb_judge(e + 1, e[0], e + 17, e[16], e[14], e[15]); if (j.refusal | j.verdict) return 1; }
+    }
     return 0;
 }
 """
@@ -238,14 +228,10 @@ def judges():
     with tempfile.TemporaryDirectory() as d:
         subprocess.run(["cargo", "run", "--release", "--quiet", "--bin", "claims", "--", "../crates/vectors/stdin", "10000", f"{d}/claims"],
                        cwd=os.path.join(here, "other_scorer"), check=True)
-        archive = os.path.join(here, "target/staticlib/libhandset.a")
-        subprocess.run(["gcc", "-O2", "-x", "c", "-", "-x", "none", archive, "-I", os.path.join(here, "include"), "-o", f"{d}/judges"],
-                       input=JUDGES.encode(), check=True)
+        program = compiled(d, JUDGES)
         count = os.path.getsize(f"{d}/claims") // 24
-        each = [int(re.search(rb"Collected : (\d+)", subprocess.run(
-            ["valgrind", "--tool=callgrind", f"--callgrind-out-file={d}/out", f"{d}/judges", f"{d}/claims"] + skip,
-            capture_output=True, check=True).stderr).group(1)) for skip in ([], ["skip"])]
-        print(f"Judge: mean over {count} accepted claims {(each[0] - each[1]) // count} instructions")
+        none, score, judge = (counted(program, f"{d}/claims", what)[0] for what in range(3))
+        print(f"Judge: mean over {count} accepted claims {(judge - none) // count} instructions, of their Scores {(score - none) // count}")
 
 
 def one_suit(e):
@@ -265,9 +251,8 @@ def worst(hands, base, block):
     return max((instructions([h] * 20) - base) / 20 for _, k in cost[-3:] for h in blocks[k])
 
 
-def frames(name):
+def frames(path):
     """Bytes of stack of each function of a program that has a frame, and what each calls."""
-    path = os.path.join(here, "target/bin", name)
     text = subprocess.run(["objdump", "-d", "-C", "--no-show-raw-insn", path], capture_output=True, text=True).stdout
     sizes, calls, name = {}, {}, None
     for line in text.splitlines():
@@ -296,40 +281,54 @@ int main(int argc, char **argv) {
 """
 
 
+def deepest(name, sizes, calls, above=()):
+    """The bytes of the deepest chain of calls from a function, and the chain; the search recurses five deep at most."""
+    if above.count(name) == (5 if name == "search::split" else 1):
+        return 0, []
+    size, chain = max((deepest(c, sizes, calls, (*above, name)) for c in calls[name] if c in sizes), default=(0, []))
+    return sizes[name] + size, [name] + chain
+
+
+def stacks_of(program, names):
+    """Prints the stack of calls of a program, by the frames of their deepest chains."""
+    sizes, calls = frames(program)
+    for name in names:
+        size, chain = deepest(name, sizes, calls)
+        times = {n: f"{chain.count(n)} times " if chain.count(n) > 1 else "" for n in chain}
+        print(f"stack of {name}: {size} bytes: " + ", ".join(f"{often}{n} {sizes[n]}" for n, often in times.items()))
+
+
 def stack():
-    """The stack that Score, Win, Many and its correction take, by the frames of the archive: the deepest chain of calls, of those that recurse as often as they can."""
-    most = {"search::split": 5, "sets::settle_all": 3}
+    """The stack that Score, Win, Many and its correction take."""
     with tempfile.TemporaryDirectory() as d:
-        compiled(d, STACKS)
-        sizes, calls = frames(f"{d}/program")
-
-    def deepest(name, above):
-        if above.count(name) == most.get(name, 1):
-            return 0, []
-        size, chain = max((deepest(c, above + [name]) for c in calls[name] if c in sizes), default=(0, []))
-        return sizes[name] + size, [name] + chain
-    for call in ("hb_score", "hb_win", "hb_many", "hb_correct_many"):
-        size, chain = deepest(call, [])
-        print(f"stack of {call}: {size} bytes: " + ", ".join(f"{chain.count(n)} times {n} {sizes[n]}" if chain.count(n) > 1 else f"{n} {sizes[n]}" for n in dict.fromkeys(chain)))
+        stacks_of(compiled(d, STACKS), ("hb_score", "hb_win", "hb_many", "hb_correct_many"))
 
 
-stack()
-if "--waits" in sys.argv:
-    waits()
-elif "--ready" in sys.argv:
-    ready()
-elif "--bookings" in sys.argv:
-    bookings()
-elif "--stack" not in sys.argv:
+def scores():
+    """What Score takes: the mean, and the costliest found."""
+    data = open(os.path.join(here, "crates/vectors/stdin"), "rb").read()
+    entries = [data[i:i + 54] for i in range(0, len(data), 54)]
     base = instructions([])
     first = entries[:10000]
     print(f"mean over 10,000 mixed entries: {(instructions(first) - base) // 10000} instructions")
     print(f"costliest found of them: {worst(first, base, 50):.0f} instructions")
     suit = [e for e in entries if one_suit(e)]
     print(f"costliest found of {len(suit)} one-suit hands: {worst(suit, base, 20):.0f} instructions")
-    slips()
-    bookings()
-    waits()
-    ready()
-    cards()
-    judges()
+
+
+PARTS = {"--stack": stack, "--scores": scores, "--slips": slips, "--bookings": bookings, "--waits": waits, "--ready": ready, "--cards": cards, "--judges": judges}
+
+
+def main():
+    missing = [path for path in (vectors, archive) if not os.path.exists(path)]
+    if missing:
+        sys.exit(f"cost.py: no {os.path.relpath(missing[0], here)}: run `rt check vectors` and `rt staticlib handset` first")
+    unknown = [word for word in sys.argv[1:] if word not in PARTS]
+    if unknown:
+        sys.exit(f"cost.py: {unknown[0]}: no such part; there are {' '.join(PARTS)}")
+    for part in sys.argv[1:] or PARTS:
+        PARTS[part]()
+
+
+if __name__ == "__main__":
+    main()

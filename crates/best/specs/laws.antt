@@ -2,3 +2,4 @@ pub mod Top
 pub mod First
 pub mod Tried
 pub mod Over
+pub mod Keep

@@ -3,7 +3,7 @@ ghost use mathlib.Core.Path.{_≡_};
 ghost use Prim.Native.Nat.{ℕ, _+_, _-_, _<_, _≤_, min};
 ghost use Rattle.choices.specs.search.Moves.{choices as choicesOf, tetra as tetraOf, triangle as triangleOf};
 ghost use Rattle.choices.specs.search.Moves.{xOf, yOf, zOf, state as stateOf, live as liveOf};
-ghost use Rattle.choices.specs.search.Made.{triesOf, Parted, Makes, valueOf};
+ghost use Rattle.choices.specs.search.Made.{triesOf, Parted, takes, Makes, valueOf};
 
 // The states of a regular hand: a + 5b + 25g of the runs begun at the kind before (a) and at the one before that (b) and the groups left to begin (g).
 const PARTS: [u8; 35] = [
@@ -59,6 +59,7 @@ pub struct Move {
     pub tiles: u8,
 }
 
+// The smaller of two numbers.
 fn least(a: u8, b: u8) -> u8
     ensures { λ r. ⌜ r ≡ min a b ⌝ }
 {
@@ -86,6 +87,7 @@ pub fn parts_of(s: u8) -> Parts
     }
 }
 
+// How many a, b, g have a smaller sum than n.
 fn tetra(n: u8) -> u8
     requires { ⌜ n ≤ 4 ⌝ }
     ensures { λ r. ⌜ (r ≡ tetraOf n) × (r ≤ 20) ⌝ }
@@ -93,6 +95,7 @@ fn tetra(n: u8) -> u8
     n * (n + 1) * (n + 2) / 6
 }
 
+// How many a, b have a smaller sum than n.
 fn triangle(n: u8) -> u8
     requires { ⌜ n ≤ 4 ⌝ }
     ensures { λ r. ⌜ (r ≡ triangleOf n) × (r ≤ 10) ⌝ }
@@ -161,7 +164,19 @@ pub fn live(k: u8, s: u8, q: Parts) -> bool
     true
 }
 
-// The choice e at the kind k in the state s: of a regular hand of the parts q, of seven pairs, of thirteen orphans, of any.
+// The choice of x runs, y triplets and z pairs in a state of the parts q, where so many are left to begin.
+pub fn taking(q: Parts, x: u8, y: u8, z: u8) -> Move
+    requires { ⌜ (q .a + q .b + q .g ≤ 4) × (x + y ≤ q .g) × (y ≤ 1) × (z ≤ q .p) × (q .p ≤ 1) ⌝ }
+    ensures { λ r. ⌜ r ≡ takes q x y z ⌝ }
+{
+    Move {
+        fine: true,
+        to: state(x, q.a, q.a + q.g, y, q.p - z),
+        tiles: q.a + q.b + x + 3 * y + 2 * z,
+    }
+}
+
+// The choice e at the kind k in the state s of a regular hand of the parts q.
 fn regular(k: u8, s: u8, q: Parts, e: u8) -> Move
     requires { ⌜ (s < 70) × (e < 10) × Parted s q ⌝ }
     ensures { λ r. ⌜ Makes k s e r ⌝ }
@@ -170,11 +185,7 @@ fn regular(k: u8, s: u8, q: Parts, e: u8) -> Move
     let y = triplets(e);
     let z = pair(e);
     if (x + y <= q.g) & (z <= q.p) & ((x == 0) | tiles::is_run_start(k)) {
-        return Move {
-            fine: true,
-            to: state(x, q.a, q.a + q.g, y, q.p - z),
-            tiles: q.a + q.b + x + 3 * y + 2 * z,
-        };
+        return taking(q, x, y, z);
     }
     Move {
         fine: false,
@@ -183,6 +194,7 @@ fn regular(k: u8, s: u8, q: Parts, e: u8) -> Move
     }
 }
 
+// The same of seven pairs: a pair of the kind, or none.
 fn pairs(s: u8, e: u8, k: u8) -> Move
     requires { ⌜ (70 ≤ s) × (s < 78) ⌝ }
     ensures { λ r. ⌜ Makes k s e r ⌝ }
@@ -201,6 +213,7 @@ fn pairs(s: u8, e: u8, k: u8) -> Move
     }
 }
 
+// The same of thirteen orphans: a tile of a terminal's or an honour's kind, or two.
 fn orphans(k: u8, s: u8, e: u8) -> Move
     requires { ⌜ (78 ≤ s) × (s < 80) ⌝ }
     ensures { λ r. ⌜ Makes k s e r ⌝ }
@@ -227,6 +240,7 @@ fn orphans(k: u8, s: u8, e: u8) -> Move
     }
 }
 
+// The choice e at the kind k in any state, whose parts are q where it is one of a regular hand.
 pub fn made(k: u8, s: u8, q: Parts, e: u8) -> Move
     requires { ⌜ (s < 80) × (e < 10) × Parted s q ⌝ }
     ensures { λ r. ⌜ Makes k s e r ⌝ }

@@ -3,7 +3,7 @@ ghost use mathlib.Core.Path.{_≡_};
 ghost use mathlib.Core.List.{_++_};
 ghost use Prim.Native.Nat.{_+_, _*_, _-_, _<_, _≤_};
 ghost use lib.ListN.{length, take, replicate};
-ghost use Rattle.bits.specs.Bits.{Below};
+ghost use Rattle.bits.specs.Bits.{bitsOf};
 ghost use Rattle.claim.specs.IsJudged.{refusedWith, IsJudged};
 ghost use Rattle.claim.specs.Judge.{judgedOf};
 ghost use Rattle.claim.specs.search.Claimed.{shapeIn, codesIn, ascends as ascendsOf, lengthOf, nothing as nothingOf, claimedIn, claimedOf};
@@ -35,14 +35,12 @@ struct Claimed {
 // ---- the claim
 
 // The 4 - m group codes, then 68 in each place that a meld takes.
-fn groups_in(b: &[u8], m: usize) -> [u8; 4]
-    requires { ⌜ (m ≤ 4) × (8 + 7 * (4 - m) ≤ length (now b)) × Below 2 (now b) ⌝ }
-    ensures { λ r. ⌜ r ≡ codesIn m (now (b .entry)) ++ replicate m 68 ⌝ }
+fn groups_in(s: &[u8], m: usize) -> [u8; 4]
+    requires { ⌜ (m ≤ 4) × (length (now s) ≤ 13) × (8 + 7 * (4 - m) ≤ 8 * length (now s)) ⌝ }
+    ensures { λ r. ⌜ r ≡ codesIn m (bitsOf (now (s .entry))) ++ replicate m 68 ⌝ }
 {
-    let ws = [7u8; 4];
     let mut out = [68u8; 4];
-    let n = 4 - m;
-    bits::unpack_into(&ws[..n], b, 8, &mut out);
+    bits::run_into(s, 8, 7, 4 - m, &mut out);
     out
 }
 
@@ -77,17 +75,17 @@ fn nothing() -> Claimed
 }
 
 // A claim of shape 0 and its length.
-fn regular_in(b: &[u8], m: usize) -> Claimed
-    requires { ⌜ (m ≤ 4) × (length (now b) ≡ 8 * lengthOf 0 m) × Below 2 (now b) × (shapeIn (now b) ≡ 0) ⌝ }
-    ensures { λ r. ⌜ r ≡ claimedIn m (lengthOf 0 m) (now (b .entry)) ⌝ }
+fn regular_in(s: &[u8], m: usize) -> Claimed
+    requires { ⌜ (m ≤ 4) × (length (now s) ≡ lengthOf 0 m) × (shapeIn (bitsOf (now s)) ≡ 0) ⌝ }
+    ensures { λ r. ⌜ r ≡ claimedIn m (lengthOf 0 m) (bitsOf (now (s .entry))) ⌝ }
 {
     let size = 4 - m;
     let at = 8 + 7 * size;
-    let pair = bits::gather(b, 2, 6) as u8;
-    let groups = groups_in(b, m);
-    let place = bits::gather(b, at, 3) as u8;
-    let gain = bits::gather(b, at + 3, 17);
-    let padding = bits::gather(b, at + 20, PADS[m]);
+    let pair = bits::field(s, 2, 6);
+    let groups = groups_in(s, m);
+    let place = bits::field(s, at, 3);
+    let gain = bits::long_field(s, at + 3, 17);
+    let padding = bits::field(s, at + 20, PADS[m]);
     if (33 < pair) | !ascend(groups, size) | (size < place as usize) | (0 < padding) {
         return nothing();
     }
@@ -105,12 +103,12 @@ fn regular_in(b: &[u8], m: usize) -> Claimed
 }
 
 // A claim of shape 1 or 2 and its length.
-fn shape_in(b: &[u8], m: usize, shape: u8) -> Claimed
-    requires { ⌜ (length (now b) ≡ 24) × Below 2 (now b) × (shapeIn (now b) ≡ shape) × (0 < shape) × (shape ≡ 3 → ⊥) ⌝ }
-    ensures { λ r. ⌜ r ≡ claimedIn m 3 (now (b .entry)) ⌝ }
+fn shape_in(s: &[u8], m: usize, shape: u8) -> Claimed
+    requires { ⌜ (length (now s) ≡ 3) × (shapeIn (bitsOf (now s)) ≡ shape) × (0 < shape) × (shape ≡ 3 → ⊥) ⌝ }
+    ensures { λ r. ⌜ r ≡ claimedIn m 3 (bitsOf (now (s .entry))) ⌝ }
 {
-    let gain = bits::gather(b, 2, 17);
-    let padding = bits::gather(b, 19, 5);
+    let gain = bits::long_field(s, 2, 17);
+    let padding = bits::field(s, 19, 5);
     if 0 < padding {
         return nothing();
     }
@@ -122,24 +120,6 @@ fn shape_in(b: &[u8], m: usize, shape: u8) -> Claimed
     }
 }
 
-// A claim of n bytes, 3 to 7, by its bits.
-fn claimed_in(b: &[u8], n: usize, m: usize) -> Claimed
-    requires { ⌜ (m ≤ 4) × (3 ≤ n) × (n ≤ 7) × (length (now b) ≡ 8 * n) × Below 2 (now b) ⌝ }
-    ensures { λ r. ⌜ r ≡ claimedIn m n (now (b .entry)) ⌝ }
-{
-    let shape = bits::gather(b, 0, 2) as u8;
-    if shape == 0 {
-        if n != LENGTHS[m] {
-            return nothing();
-        }
-        return regular_in(b, m);
-    }
-    if (n != 3) | (shape == 3) {
-        return nothing();
-    }
-    shape_in(b, m, shape)
-}
-
 // What a claim names for a hand with m melds.
 fn read_claim(s: &[u8], m: usize) -> Claimed
     requires { ⌜ m ≤ 4 ⌝ }
@@ -149,12 +129,17 @@ fn read_claim(s: &[u8], m: usize) -> Claimed
     if n < 3 {
         return nothing();
     }
-    if 7 < n {
+    let shape = bits::field(s, 0, 2);
+    if shape == 0 {
+        if n != LENGTHS[m] {
+            return nothing();
+        }
+        return regular_in(s, m);
+    }
+    if (n != 3) | (shape == 3) {
         return nothing();
     }
-    let bits = hand_record::spread(s);
-    let k = 8 * n;
-    claimed_in(&bits[..k], n, m)
+    shape_in(s, m, shape)
 }
 
 // ---- the verdict
@@ -234,10 +219,9 @@ fn verdict(h: Hand, dealer: u8, wind: u8, r: Reading, gain: u32) -> u8
         return 1;
     }
     let t = score::setting_of(h, dealer, wind);
-    let v = setting::worth(t, r);
-    let y = v.yaku;
+    let v = best::judge(t, best::none(), r);
     let b = search::best_of(t, c, m, win);
-    weighed(yaku::has_yaku(y), v.gain.0, gain, b.value.gain.0)
+    weighed(v.valued, v.value.gain.0, gain, b.value.gain.0)
 }
 
 // ---- the call

@@ -94,12 +94,11 @@ pub fn descends(x: Held) -> bool
 pub fn over_four(t: [u8; 34]) -> bool
     ensures { λ r. ⌜ r ≡ overFour (λ k. getD t k 0) ⌝ }
 {
+    let mut over = false;
     for k in 0..34 {
-        if 4 < t[k] {
-            return true;
-        }
+        over = over | (4 < t[k]);
     }
-    false
+    over
 }
 
 // ---- what Write asks beside them

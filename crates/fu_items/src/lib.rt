@@ -2,11 +2,14 @@
 ghost use mathlib.Core.Path.{_≡_};
 ghost use mathlib.Core.Bool.{cond};
 ghost use Prim.Native.Nat.{_≤_};
-ghost use lib.ListN.{getD};
-ghost use Rattle.tiles.specs.Below.{sum};
+ghost use Rattle.groups.specs.search.Ways.{waysAt};
+ghost use Rattle.yaku.specs.search.Common.{groupTestsOf, placeTestsOf};
+ghost use Rattle.fu_items.specs.search.Items.{itemsBy};
 ghost use Rattle.fu_items.specs.Fu.{fu, tripletFu, groupFu, groupItems, earned as earnedOf, added as addedOf, rounded as roundedOf, baseAlone, itemsOf};
 use units::Fu;
+use yaku::GroupTests;
 use yaku::Parts;
+use yaku::PlaceTests;
 use yaku::Won;
 
 // What each thing earns, in fu, and what rounding adds: the groups are the reading's in its order, then the melds' in the record's.
@@ -82,12 +85,9 @@ pub fn base_alone(n: Fu) -> Items
 }
 
 // What each group earns: the reading's in its order, then the melds' in the record's.
-fn group_items(p: Parts) -> [Fu; 4]
-    ensures { λ r. ⌜ r ≡ groupItems p ⌝ }
-    ensures { λ r. ⌜ sum 4 (λ k. getD r k (fu 0) .0) ≤ 128 ⌝ }
+pub fn group_items(g: [u8; 4], ways: [u8; 4]) -> [Fu; 4]
+    ensures { λ r. ⌜ r ≡ itemsBy g ways ⌝ }
 {
-    let g = p.groups;
-    let ways = p.ways;
     [
         group_fu(g[0], ways[0]),
         group_fu(g[1], ways[1]),
@@ -96,22 +96,30 @@ fn group_items(p: Parts) -> [Fu; 4]
     ]
 }
 
-// The items of a regular reading, before rounding.
-fn earned(w: Won, p: Parts) -> Items
-    requires { ⌜ p .place ≤ 4 ⌝ }
+// What each group earns, where `all` is what they do by their ways alone and the winning tile completes the one at `place`.
+pub fn items_at(all: [Fu; 4], g: [u8; 4], ways: [u8; 4], ron: bool, place: u8) -> [Fu; 4]
+    requires { ⌜ (all ≡ itemsBy g ways) × (place ≤ 4) ⌝ }
+    ensures { λ r. ⌜ r ≡ itemsBy g (waysAt ways ron place) ⌝ }
+{
+    let mut u = all;
+    if ron & (0 < place) {
+        let i = (place - 1) as usize;
+        u[i] = group_fu(g[i], 1);
+    }
+    u
+}
+
+// The items of a regular reading, before rounding, where `group` is what its groups earn.
+fn earned(w: Won, k: GroupTests, q: PlaceTests, p: Parts, group: [Fu; 4]) -> Items
+    requires { ⌜ k ≡ groupTestsOf w (p .shape) (p .pair) (p .groups) ⌝ }
+    requires { ⌜ (q ≡ placeTestsOf w p) × (group ≡ groupItems p) ⌝ }
     ensures { λ i. ⌜ i ≡ earnedOf w p 0 ⌝ }
     ensures { λ i. ⌜ addedOf i ≤ 164 ⌝ }
 {
-    let g = p.groups;
-    let pinfu = groups::pinfu(w.closed, g, p.pair, p.place, w.win, w.round, w.own);
     let ron = fu_if(w.closed & w.ron, Fu(10));
-    let pair = fu_if(groups::is_value(w.round, w.own, p.pair), Fu(2));
-    let group = group_items(p);
-    let wait = fu_if(
-        groups::earns_wait(p.place, groups::placed(g, p.place), w.win),
-        Fu(2),
-    );
-    let tsumo = fu_if(!w.ron & !pinfu, Fu(2));
+    let pair = fu_if(k.value, Fu(2));
+    let wait = fu_if(q.wait, Fu(2));
+    let tsumo = fu_if(!w.ron & !q.pinfu, Fu(2));
     Items {
         base: Fu(20),
         ron,
@@ -153,9 +161,17 @@ fn rounded(closed: bool, f: Fu) -> Fu
     if !closed & (n == 20) { Fu(30) } else { Fu(n) }
 }
 
-// The items of a reading: a base of 25 alone for seven pairs, only zeros with a yakuman.
-pub fn items_of(w: Won, p: Parts, yakuman: bool) -> Items
-    requires { ⌜ p .place ≤ 4 ⌝ }
+// The items of a reading, where `group` is what its groups earn: a base of 25 alone for seven pairs, only zeros with a yakuman.
+pub fn items_of(
+    w: Won,
+    k: GroupTests,
+    q: PlaceTests,
+    p: Parts,
+    group: [Fu; 4],
+    yakuman: bool,
+) -> Items
+    requires { ⌜ k ≡ groupTestsOf w (p .shape) (p .pair) (p .groups) ⌝ }
+    requires { ⌜ (q ≡ placeTestsOf w p) × (group ≡ groupItems p) ⌝ }
     ensures { λ i. ⌜ i ≡ itemsOf w p yakuman ⌝ }
     ensures { λ i. ⌜ addedOf i ≤ 170 ⌝ }
 {
@@ -166,7 +182,7 @@ pub fn items_of(w: Won, p: Parts, yakuman: bool) -> Items
     if shape == 1 {
         return base_alone(Fu(25));
     }
-    let mut i = earned(w, p);
+    let mut i = earned(w, k, q, p, group);
     let n = added(i);
     let r = rounded(w.closed, n);
     let more = Fu(r.0 - n.0);

@@ -6,6 +6,7 @@ ghost use lib.ListN.{getD};
 ghost use Rattle.tiles.specs.Below.{all, any};
 ghost use Rattle.tiles.specs.Groups.{isRun};
 ghost use Rattle.groups.specs.Tests.{winds as windsOf, touches as touchesOf, outside as outsideOf, triplets as tripletsOf, isConcealed, concealed as concealedOf, kans as kansOf, fourWinds};
+ghost use Rattle.groups.specs.search.Ways.{waysAt};
 use groups::one;
 use groups::one_has;
 
@@ -38,7 +39,11 @@ fn has_run(g: [u8; 4]) -> bool
 pub fn outside(g: [u8; 4], pair: u8) -> bool
     ensures { λ r. ⌜ r ≡ outsideOf g pair ⌝ }
 {
-    all_touch(g) & tiles::is_yaochu(pair) & has_run(g)
+    if tiles::is_yaochu(pair) & has_run(g) {
+        all_touch(g)
+    } else {
+        false
+    }
 }
 
 // Yaku 17: four triplets.
@@ -71,6 +76,32 @@ pub fn concealed(g: [u8; 4], ways: [u8; 4]) -> u8
         + is_concealed(g[1], ways[1])
         + is_concealed(g[2], ways[2])
         + is_concealed(g[3], ways[3])
+}
+
+// How many of `all` concealed triplets still are, where the winning tile completes the one at `place`.
+pub fn concealed_at(all: u8, g: [u8; 4], ways: [u8; 4], ron: bool, place: u8) -> u8
+    requires { ⌜ (all ≡ concealedOf g ways) × (place ≤ 4) ⌝ }
+    ensures { λ r. ⌜ r ≡ concealedOf g (waysAt ways ron place) ⌝ }
+{
+    if ron & (0 < place) {
+        let i = (place - 1) as usize;
+        all - is_concealed(g[i], ways[i])
+    } else {
+        all
+    }
+}
+
+// How many of `all` kans there still are: none that the winning tile completes.
+pub fn kans_at(all: u8, ways: [u8; 4], ron: bool, place: u8) -> u8
+    requires { ⌜ (all ≡ kansOf ways) × (place ≤ 4) ⌝ }
+    ensures { λ r. ⌜ r ≡ kansOf (waysAt ways ron place) ⌝ }
+{
+    if ron & (0 < place) {
+        let i = (place - 1) as usize;
+        all - one(2 <= ways[i])
+    } else {
+        all
+    }
 }
 
 // Yaku 19 and 31: how many kans there are.

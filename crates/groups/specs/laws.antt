@@ -1,1 +1,2 @@
 pub mod Twins
+pub mod Ways

@@ -1,13 +1,13 @@
 // The groups of a hand with its melds, and what yaku and fu both ask of them: value tiles, waits, pinfu. The codes may be any.
 ghost use mathlib.Core.Path.{_≡_};
-ghost use mathlib.Core.Bool.{cond};
+ghost use mathlib.Core.Bool.{_&&_, not, cond};
 ghost use Prim.Native.Nat.{_<_, _≤_, _-_, _%_};
 ghost use lib.ListN.{getD};
 ghost use Rattle.tiles.specs.Below.{all};
 ghost use Rattle.tiles.specs.Groups.{isRun};
 ghost use Rattle.groups.specs.Melds.{meldCode, meldWay};
 ghost use Rattle.groups.specs.search.Ways.{waysAt};
-ghost use Rattle.groups.specs.Tests.{has as hasOf, isValue, dragons as dragonsOf, littleDragons, valueHan, earnsWait, pinfu as pinfuOf};
+ghost use Rattle.groups.specs.Tests.{has as hasOf, isValue, dragons as dragonsOf, littleDragons, valueHan, earnsWait};
 use units::Han;
 
 // The group of a meld byte, 64 * kind + tile.
@@ -134,10 +134,9 @@ fn all_runs(g: [u8; 4]) -> bool
     (g[0] < 34) & (g[1] < 34) & (g[2] < 34) & (g[3] < 34)
 }
 
-// Yaku 4: closed, four runs, the place a run that earns no wait fu, the pair no value tile.
-pub fn pinfu(closed: bool, g: [u8; 4], pair: u8, place: u8, win: u8, round: u8, own: u8) -> bool
-    requires { ⌜ place ≤ 4 ⌝ }
-    ensures { λ r. ⌜ r ≡ pinfuOf closed g pair place win round own ⌝ }
+// Yaku 4 but for the place: closed, four runs, the pair no value tile; `value` says whether it is one.
+pub fn may_be_pinfu(closed: bool, g: [u8; 4], value: bool) -> bool
+    ensures { λ r. ⌜ r ≡ (closed && all 4 (λ i. isRun (getD g i 0)) && not value) ⌝ }
 {
-    closed & all_runs(g) & !earns_wait(place, placed(g, place), win) & !is_value(round, own, pair)
+    closed & all_runs(g) & !value
 }

@@ -64,8 +64,10 @@ fn tally_of(c: [u8; 13], n: usize) -> [u8; 34]
 {
     let mut t = [0u8; 34];
     for i in 0..n {
-        let u = tiles::add(t, c[i], 1);
-        t = u;
+        let k = c[i] as usize;
+        if k < 34 {
+            t[k] += 1;
+        }
     }
     t
 }

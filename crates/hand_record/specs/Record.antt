@@ -20,7 +20,7 @@ use Rattle.hand_record.specs.declared.Written.{Written}
 
 -- ---- the layout
 
--- "how 1; winner 2; discarder 2; riichi 2; situation 3; dora indicator 6; winning tile 6; meld count m 3"
+-- "how 1 ..; winner 2; discarder 2 ..; riichi 2 ..; situation 3 ..; dora indicator 6; winning tile 6; meld count m 3"
 abbrev pub head : List ℕ
 head = 1 ∷ 2 ∷ 2 ∷ 2 ∷ 3 ∷ 6 ∷ 6 ∷ 3 ∷ []
 
@@ -36,13 +36,13 @@ lengthOf m = getD (13 ∷ 12 ∷ 11 ∷ 10 ∷ 8 ∷ []) m 0
 abbrev pub padOf : ℕ → ℕ
 padOf m = getD (1 ∷ 3 ∷ 5 ∷ 7 ∷ 1 ∷ []) m 0
 
--- all widths of a record with m melds: the head, "m melds of 8; 13 − 3m other concealed tiles of 6; zero bits to the byte"
+-- all widths of a record with m melds: the head, "m melds of 8 ..; 13 − 3m other concealed tiles of 6, ..; zero bits to the byte"
 unfoldable pub widths : ℕ → List ℕ
 widths m = head ++ (eights m ++ (sixes (13 - 3 * m) ++ (padOf m ∷ [])))
 
 -- ---- the parts of a record's bits
 
--- the eight values of a head: "how; winner; discarder; riichi; situation; dora indicator; winning tile", and "meld count m"
+-- the eight values of a head: how, winner, discarder, riichi, situation, "dora indicator", "winning tile" and "meld count m"
 abbrev pub headBy : List ℕ → Head
 headBy l = record {
   fields = record {
@@ -57,7 +57,7 @@ headBy l = record {
   m = getD l 7 0;
 }
 
--- "how; winner; ..; meld count m" of a record's bits: its first 25
+-- how, winner and the others up to "meld count m", of a record's bits: its first 25
 unfoldable pub headOf : List ℕ → Head
 headOf bits = headBy (unpack head bits)
 
@@ -77,7 +77,7 @@ heldIn at m bits = record { m = m; melds = fill 4 (meldsOf at m bits); concealed
 unfoldable pub paddingAfter : ℕ → ℕ → ℕ → List ℕ → ℕ
 paddingAfter at m n bits = getD (unpack (n ∷ []) (drop (at + 8 * m + 6 * (13 - 3 * m)) bits)) 0 0
 
--- in the record of a finished hand: after "how 1; ..; meld count m 3", 25 bits
+-- in the record of a finished hand: after "how 1 .. meld count m 3", 25 bits
 abbrev pub paddingOf : ℕ → List ℕ → ℕ
 paddingOf m bits = paddingAfter 25 m (padOf m) bits
 
@@ -157,7 +157,7 @@ pub record IsSound (s : List ℕ) : Type 0 where
 
 -- ---- Write
 
--- the head's values in the record's order: "how; winner; discarder; ..; meld count m"
+-- the head's values in the record's order: how, winner, discarder and the others up to "meld count m"
 abbrev pub headList : Head → List ℕ
 headList x =
     let f = x .fields in
@@ -175,7 +175,7 @@ valuesOf h = headList (headFor h) ++ (take (h .held .m) (h .held .melds) ++ (tak
 unfoldable pub recordOf : Hand → List ℕ
 recordOf h = bytesOf (lengthOf (h .held .m)) (widths (h .held .m)) (valuesOf h)
 
--- "Refusals: 2, 3, 4, 5 as above, then 13: buffer shorter than the record"
+-- "Refusals: 2 .., 3, 4, 5 as above, then 13: buffer shorter than the record"
 unfoldable pub writeRefusal : Hand → List ℕ → ℕ
 writeRefusal h buf = cond (ltb 0 (unwritable h)) (unwritable h) (cond (ltb (length buf) (lengthOf (h .held .m))) 13 0)
 

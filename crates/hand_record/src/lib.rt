@@ -1,9 +1,9 @@
 // The hand record and Read (01, Tiles and the hand record). It takes all input.
 ghost use mathlib.Core.Path.{_≡_};
 ghost use Prim.Native.Nat.{_+_, _*_, _-_, _≤_};
-ghost use lib.ListN.{length, drop};
-ghost use Rattle.bits.specs.Bits.{unpack, Below, bitsOf, fill};
-ghost use Rattle.hand_record.specs.Record.{headOf, meldsOf, sixes, heldIn, refusedWith, judged, readOf, refusalIn, fieldsOf, readHandOf};
+ghost use lib.ListN.{length};
+ghost use Rattle.bits.specs.Bits.{bitsOf};
+ghost use Rattle.hand_record.specs.Record.{lengthOf, headOf, heldIn, refusedWith, judged, readOf, refusalIn, fieldsOf, readHandOf};
 use hand::Fields;
 use hand::Hand;
 use hand::Held;
@@ -49,68 +49,34 @@ pub struct Written {
     pub len: usize,
 }
 
-// The bits of at most 13 bytes, with zeros after them. An inner call of each reader.
-pub fn spread(s: &[u8]) -> [u8; 104]
-    requires { ⌜ length (now s) ≤ 13 ⌝ }
-    ensures { λ r. ⌜ r ≡ fill 104 (bitsOf (now (s .entry))) ⌝ }
-{
-    let eights = [8u8; 13];
-    let mut b = [0u8; 104];
-    let n = s.len();
-    bits::pack_into(&eights[..n], s, &mut b, 0);
-    b
-}
-
 // The first 25 bits.
-fn header(b: &[u8]) -> Head
-    requires { ⌜ (25 ≤ length (now b)) × Below 2 (now b) ⌝ }
-    ensures { λ r. ⌜ r ≡ headOf (now (b .entry)) ⌝ }
+fn header(s: &[u8]) -> Head
+    requires { ⌜ 4 ≤ length (now s) ⌝ }
+    ensures { λ r. ⌜ r ≡ headOf (bitsOf (now (s .entry))) ⌝ }
 {
-    let ws = HEAD;
-    let mut h = [0u8; 8];
-    bits::unpack_into(&ws, b, 0, &mut h);
     let fields = Fields {
-        how: h[0],
-        winner: h[1],
-        discarder: h[2],
-        riichi: h[3],
-        situation: h[4],
-        indicator: h[5],
-        winning: h[6],
+        how: bits::field(s, 0, 1),
+        winner: bits::field(s, 1, 2),
+        discarder: bits::field(s, 3, 2),
+        riichi: bits::field(s, 5, 2),
+        situation: bits::field(s, 7, 3),
+        indicator: bits::field(s, 10, 6),
+        winning: bits::field(s, 16, 6),
     };
-    Head { fields, m: h[7] }
+    let m = bits::field(s, 22, 3);
+    Head { fields, m }
 }
 
-// The m melds from bit `at` on, with zeros after them.
-fn melds_in(b: &[u8], at: usize, m: usize) -> [u8; 4]
-    requires { ⌜ (m ≤ 4) × (at + 8 * m ≤ length (now b)) × Below 2 (now b) ⌝ }
-    ensures { λ r. ⌜ r ≡ fill 4 (meldsOf at m (now (b .entry))) ⌝ }
-{
-    let ws = [8u8; 4];
-    let mut out = [0u8; 4];
-    bits::unpack_into(&ws[..m], b, at, &mut out);
-    out
-}
-
-// The n tiles from bit `at` on, with zeros after them.
-fn tiles_in(b: &[u8], at: usize, n: usize) -> [u8; 13]
-    requires { ⌜ (n ≤ 13) × (at + 6 * n ≤ length (now b)) × Below 2 (now b) ⌝ }
-    ensures { λ r. ⌜ r ≡ fill 13 (unpack (sixes n) (drop at (now (b .entry)))) ⌝ }
-{
-    let ws = [6u8; 13];
-    let mut out = [0u8; 13];
-    bits::unpack_into(&ws[..n], b, at, &mut out);
-    out
-}
-
-// The tiles held that the bits from `at` on are: m melds, and then 13 - 3m tiles. An inner call of each reader.
-pub fn held_in(b: &[u8], at: usize, m: u8) -> Held
-    requires { ⌜ (m ≤ 4) × (at + 8 * m + 6 * (13 - 3 * m) ≤ length (now b)) × Below 2 (now b) ⌝ }
-    ensures { λ r. ⌜ r ≡ heldIn at m (now (b .entry)) ⌝ }
+// The tiles held from bit `at` on: m melds, and then 13 - 3m tiles, with zeros after them. An inner call of each reader.
+pub fn held_in(s: &[u8], at: usize, m: u8) -> Held
+    requires { ⌜ (m ≤ 4) × (length (now s) ≤ 13) × (at + 8 * m + 6 * (13 - 3 * m) ≤ 8 * length (now s)) ⌝ }
+    ensures { λ r. ⌜ r ≡ heldIn at m (bitsOf (now (s .entry))) ⌝ }
 {
     let k = m as usize;
-    let melds = melds_in(b, at, k);
-    let concealed = tiles_in(b, at + 8 * k, 13 - 3 * k);
+    let mut melds = [0u8; 4];
+    bits::run_into(s, at, 8, k, &mut melds);
+    let mut concealed = [0u8; 13];
+    bits::run_into(s, at + 8 * k, 6, 13 - 3 * k, &mut concealed);
     Held {
         m,
         melds,
@@ -133,16 +99,15 @@ fn refused(n: u8) -> HandRead
     }
 }
 
-// The hand of m melds and the fields f that bits are, or why it is refused.
-fn hand_in(b: &[u8], f: Fields, m: u8) -> HandRead
-    requires { ⌜ (m ≤ 4) × (104 ≤ length (now b)) × Below 2 (now b) × (f ≡ headOf (now b) .fields) ⌝ }
-    ensures { λ r. ⌜ r ≡ judged m (now (b .entry)) ⌝ }
+// The hand of m melds and the fields f that a record of its length is, or why it is refused.
+fn hand_in(s: &[u8], f: Fields, m: u8) -> HandRead
+    requires { ⌜ (m ≤ 4) × (length (now s) ≡ lengthOf m) × (f ≡ headOf (bitsOf (now s)) .fields) ⌝ }
+    ensures { λ r. ⌜ r ≡ judged m (bitsOf (now (s .entry))) ⌝ }
 {
-    let k = m as usize;
-    let held = held_in(b, 25, m);
-    let padding = bits::gather(b, 25 + 8 * k + 6 * (13 - 3 * k), PADS[k]);
+    let held = held_in(s, 25, m);
+    let padding = bits::last(s, PADS[m as usize]);
     let h = Hand { fields: f, held };
-    let j = refusals::refusal(h, padding);
+    let j = refusals::refusal(h, padding as u32);
     if 0 < j {
         return refused(j);
     }
@@ -160,11 +125,7 @@ pub fn read(s: &[u8]) -> HandRead
     if n < 4 {
         return refused(1);
     }
-    if 13 < n {
-        return refused(1);
-    }
-    let b = spread(s);
-    let h = header(&b);
+    let h = header(s);
     let m = h.m;
     if 4 < m {
         return refused(1);
@@ -173,7 +134,7 @@ pub fn read(s: &[u8]) -> HandRead
         return refused(1);
     }
     let f = h.fields;
-    hand_in(&b, f, m)
+    hand_in(s, f, m)
 }
 
 // The refusal of an answer, 0 for a sound record.

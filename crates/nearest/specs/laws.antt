@@ -1,4 +1,5 @@
 pub mod Chosen
+pub mod Kept
 pub mod Table
 pub mod Answer
 pub mod Attained

@@ -5,6 +5,9 @@ pub mod Readings
 pub mod Only
 pub mod Order
 pub mod Suits
+pub mod Pairs
+pub mod Three
+pub mod Found
 pub mod Fold
 pub mod Few
 pub mod Counted

@@ -11,7 +11,7 @@ fn meld_count(s: &[u8]) -> u8
     requires { ⌜ 4 ≤ length (now s) ⌝ }
     ensures { λ r. ⌜ r ≡ countIn (now (s .entry)) ⌝ }
 {
-    s[2] % 4 * 2 + s[3] / 128
+    bits::field(s, 22, 3)
 }
 
 // How many bytes the record has that bytes start with, 0 where m is over 4 or bytes are missing.

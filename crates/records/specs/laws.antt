@@ -1,3 +1,4 @@
 pub mod Sets
 pub mod Cut
 pub mod First
+pub mod Hands

@@ -1,15 +1,50 @@
-// Records that lie end to end (02, S-6): the first of them that does not read, whether they are one set of wins, who wins them and who wins first.
+// Records that lie end to end (02, S-6): the hands that they are or the refusal of the first that does not read, whether the hands are one set of wins,
+// and who wins first. Each record is read once.
 ghost use mathlib.Core.Path.{_≡_};
-ghost use mathlib.Core.Bool.{false};
-ghost use Prim.Native.Nat.{_≤_};
-ghost use lib.ListN.{getD};
-ghost use Rattle.tiles.specs.Below.{tabulate};
-ghost use Rattle.records.specs.Records.{handFor, recordsOf, firstUnread, clash, clashes, noSet, isWinner, firstAfter};
-ghost use Rattle.records.specs.laws.Cut.{cutOf, firstOf};
+ghost use mathlib.Core.List.{List, map};
+ghost use Prim.Native.Nat.{ℕ, _≤_};
+ghost use lib.ListN.{take};
+ghost use Rattle.records.specs.Records.{handFor, recordsOf, firstUnread, clash, noSet, isWinner, firstAfter};
+ghost use Rattle.records.specs.laws.Cut.{cutOf, IsFirst};
 use hand::Fields;
+use hand::Hand;
+use hand::Held;
+use hand_record::Answer;
+
+// One record of several: its hand and where it ends, or its refusal.
+struct First {
+    refusal: u8,
+    end: usize,
+    hand: Hand,
+}
+
+// The hands of one to three records, or the refusal of the first that does not read.
+pub struct Hands {
+    pub refusal: u8,
+    pub hands: [Hand; 3],
+}
+
+// No tile, and all else zero.
+fn no_hand() -> Hand {
+    let held = Held {
+        m: 0,
+        melds: [0u8; 4],
+        concealed: [0u8; 13],
+    };
+    let fields = Fields {
+        how: 0,
+        winner: 0,
+        discarder: 0,
+        riichi: 0,
+        situation: 0,
+        indicator: 0,
+        winning: 0,
+    };
+    Hand { fields, held }
+}
 
 // Where the first of so many records ends, the last being all that is left; 0 where it is broken.
-pub fn cut(number: u8, s: &[u8]) -> usize
+fn cut(number: u8, s: &[u8]) -> usize
     ensures { λ r. ⌜ r ≡ cutOf number (now (s .entry)) ⌝ }
 {
     if number == 1 {
@@ -18,33 +53,56 @@ pub fn cut(number: u8, s: &[u8]) -> usize
     record_lengths::record_length(s)
 }
 
-// The refusal of the first record that does not read; 0 where each does.
-pub fn first_unread(number: u8, s: &[u8]) -> u8
-    ensures { λ r. ⌜ r ≡ firstUnread (recordsOf number (now (s .entry))) ⌝ }
+// The first of so many records; a broken one is cut to no bytes, which do not read.
+fn read_first(number: u8, s: &[u8]) -> First
+    requires { ⌜ 1 ≤ number ⌝ }
+    ensures { λ r. ⌜ IsFirst number (now (s .entry)) r ⌝ }
 {
-    if number == 0 {
-        return 0;
+    let end = cut(number, s);
+    let r = hand_record::read(&s[..end]);
+    let a = r.answer;
+    let Answer::Sound(f) = a else {
+        return First {
+            refusal: hand_record::refusal(a),
+            end: 0,
+            hand: no_hand(),
+        };
+    };
+    let held = r.held;
+    let hand = Hand { fields: f, held };
+    First {
+        refusal: 0,
+        end,
+        hand,
     }
-    let k = cut(number, s);
-    if k == 0 {
-        return 1;
-    }
-    let r = hand_record::read_hand(&s[..k]);
-    if 0 < r.refusal {
-        return r.refusal;
-    }
-    first_unread(number - 1, &s[k..])
 }
 
-// The fields of the first record, of one at least that all read.
-pub fn first_fields(number: u8, s: &[u8]) -> Fields
-    requires { ⌜ (1 ≤ number) × (firstUnread (recordsOf number (now s)) ≡ 0) ⌝ }
-    ensures { λ r. ⌜ r ≡ handFor (firstOf number (now (s .entry))) .fields ⌝ }
+// The hands of so many records, in their order, or the refusal of the first that does not read.
+pub fn read_all(number: u8, s: &[u8]) -> Hands
+    requires { ⌜ number ≤ 3 ⌝ }
+    ensures { λ r. ⌜ r .refusal ≡ firstUnread (recordsOf number (now (s .entry))) ⌝ }
+    ensures { λ r. ⌜ (r .refusal ≡ 0 → map handFor (recordsOf number (now (s .entry))) ≡ take number (r .hands)) ⌝ }
 {
-    let k = cut(number, s);
-    let r = hand_record::read_hand(&s[..k]);
-    let h = r.hand;
-    h.fields
+    let none = no_hand();
+    let mut hands = [none; 3];
+    let mut left = number;
+    let mut i = 0usize;
+    let mut at = 0usize;
+    while 0 < left {
+        let r = read_first(left, &s[at..]);
+        if 0 < r.refusal {
+            return Hands {
+                refusal: r.refusal,
+                hands,
+            };
+        }
+        let h = r.hand;
+        hands[i] = h;
+        i += 1;
+        at += r.end;
+        left -= 1;
+    }
+    Hands { refusal: 0, hands }
 }
 
 // Two records have one winner, or differ in what a set has in common.
@@ -58,68 +116,51 @@ fn clash(f: Fields, g: Fields) -> bool
         | !(f.situation == g.situation)
 }
 
-// One of the records clashes with f.
-fn clashes(f: Fields, number: u8, s: &[u8]) -> bool
-    requires { ⌜ firstUnread (recordsOf number (now s)) ≡ 0 ⌝ }
-    ensures { λ r. ⌜ r ≡ clashes f (recordsOf number (now (s .entry))) ⌝ }
+// One of so many hands is not ron, or two clash.
+pub fn no_set(number: u8, hands: [Hand; 3]) -> bool
+    requires { ⌜ (1 ≤ number) × (number ≤ 3) ⌝ }
+    ensures { λ r. ⌜ ((rs : List (List ℕ)) → map handFor rs ≡ take number hands → r ≡ noSet rs) ⌝ }
 {
-    if number == 0 {
-        return false;
-    }
-    let a = clash(f, first_fields(number, s));
-    let k = cut(number, s);
-    let b = clashes(f, number - 1, &s[k..]);
-    a | b
+    let a = hands[0];
+    let b = hands[1];
+    let c = hands[2];
+    let f = a.fields;
+    let g = b.fields;
+    let h = c.fields;
+    let two = 1 < number;
+    let three = 2 < number;
+    !(f.how == 1)
+        | (two & clash(f, g))
+        | (three & clash(f, h))
+        | (two & !(g.how == 1))
+        | (three & clash(g, h))
+        | (three & !(h.how == 1))
 }
 
-// One of the records is not ron, or two clash.
-pub fn no_set(number: u8, s: &[u8]) -> bool
-    requires { ⌜ firstUnread (recordsOf number (now s)) ≡ 0 ⌝ }
-    ensures { λ r. ⌜ r ≡ noSet (recordsOf number (now (s .entry))) ⌝ }
+// The seat wins one of so many hands.
+pub fn is_winner(number: u8, hands: [Hand; 3], seat: u8) -> bool
+    requires { ⌜ (1 ≤ number) × (number ≤ 3) ⌝ }
+    ensures { λ r. ⌜ ((rs : List (List ℕ)) → map handFor rs ≡ take number hands → r ≡ isWinner rs seat) ⌝ }
 {
-    if number == 0 {
-        return false;
-    }
-    let f = first_fields(number, s);
-    let k = cut(number, s);
-    let a = clashes(f, number - 1, &s[k..]);
-    let b = no_set(number - 1, &s[k..]);
-    !(f.how == 1) | a | b
+    let a = hands[0];
+    let b = hands[1];
+    let c = hands[2];
+    (a.fields.winner == seat)
+        | ((1 < number) & (b.fields.winner == seat))
+        | ((2 < number) & (c.fields.winner == seat))
 }
 
-// Which seats win one of the records.
-pub fn winners(number: u8, s: &[u8]) -> [bool; 4]
-    requires { ⌜ firstUnread (recordsOf number (now s)) ≡ 0 ⌝ }
-    ensures { λ r. ⌜ r ≡ tabulate 4 0 (isWinner (recordsOf number (now (s .entry)))) ⌝ }
-{
-    if number == 0 {
-        return [false, false, false, false];
-    }
-    let f = first_fields(number, s);
-    let w = f.winner;
-    let k = cut(number, s);
-    let b = winners(number - 1, &s[k..]);
-    [
-        (w == 0) | b[0],
-        (w == 1) | b[1],
-        (w == 2) | b[2],
-        (w == 3) | b[3],
-    ]
-}
-
-// The first seat after the discarder, in turn order, that wins; the last of them where no other does.
-pub fn first_after(discarder: u8, w: [bool; 4]) -> u8
-    requires { ⌜ discarder ≤ 3 ⌝ }
-    ensures { λ r. ⌜ (r ≡ firstAfter discarder (λ i. getD w i false)) × (r ≤ 3) ⌝ }
+// The first seat after the discarder, in turn order, that wins one of so many hands; the last of them where no other does.
+pub fn first_after(discarder: u8, number: u8, hands: [Hand; 3]) -> u8
+    requires { ⌜ (discarder ≤ 3) × (1 ≤ number) × (number ≤ 3) ⌝ }
+    ensures { λ r. ⌜ ((rs : List (List ℕ)) → map handFor rs ≡ take number hands → r ≡ firstAfter discarder (isWinner rs)) ⌝ }
 {
     let a = (discarder + 1) % 4;
-    let b = (discarder + 2) % 4;
-    let i = a as usize;
-    let j = b as usize;
-    if w[i] {
+    if is_winner(number, hands, a) {
         return a;
     }
-    if w[j] {
+    let b = (discarder + 2) % 4;
+    if is_winner(number, hands, b) {
         return b;
     }
     (discarder + 3) % 4

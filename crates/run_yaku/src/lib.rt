@@ -59,7 +59,11 @@ fn straight_from(g: [u8; 4], c: u8) -> bool
     requires { ⌜ c ≤ 18 ⌝ }
     ensures { λ r. ⌜ r ≡ (hasOf g c && hasOf g (c + 3) && hasOf g (c + 6)) ⌝ }
 {
-    has(g, c) & has(g, c + 3) & has(g, c + 6)
+    if has(g, c) {
+        has(g, c + 3) & has(g, c + 6)
+    } else {
+        false
+    }
 }
 
 // Yaku 14: 123 456 789 of a suit.

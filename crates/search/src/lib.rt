@@ -1,10 +1,13 @@
 // The best reading of a tally: every reading is searched, valued and held against the best so far, up to the first yakuman, which nothing beats.
 ghost use mathlib.Core.Path.{_≡_};
 ghost use mathlib.Core.Bool.{false};
-ghost use Prim.Native.Nat.{_≤_};
+ghost use mathlib.Core.List.{[]};
+ghost use Prim.Native.Nat.{_+_, _≤_};
+ghost use lib.ListN.{length, getD};
 ghost use Rattle.reading.specs.search.Readings.{placed, shaped};
 ghost use Rattle.reading.specs.search.Judged.{judged};
-ghost use Rattle.reading.specs.laws.Fold.{searched};
+ghost use Rattle.reading.specs.laws.Fold.{ranged};
+ghost use Rattle.reading.specs.laws.Found.{Stored, behind};
 ghost use Rattle.setting.specs.search.Setting.{worthIn, Ready};
 ghost use Rattle.best.specs.search.Best.{judgeOf, bestOf};
 use best::Best;
@@ -16,12 +19,22 @@ fn places(h: Setting, pair: u8, groups: [u8; 4], size: u8, win: u8, best: Best) 
     requires { ⌜ Ready h × (size ≤ 4) × (best .done ≡ false) ⌝ }
     ensures { λ r. ⌜ r ≡ judged (judgeOf (worthIn h)) best (placed size win pair groups) ⌝ }
 {
+    let k = setting::common_of(
+        h,
+        Reading {
+            shape: 0,
+            pair,
+            groups,
+            place: 0,
+        },
+    );
     let mut b = best;
     let mut p: u8 = 0;
     while p <= size {
         if reading_steps::holds(pair, groups, p, win) {
-            b = best::judge(
+            b = best::judge_at(
                 h,
+                k,
                 b,
                 Reading {
                     shape: 0,
@@ -39,54 +52,63 @@ fn places(h: Setting, pair: u8, groups: [u8; 4], size: u8, win: u8, best: Best) 
     b
 }
 
-// Each splitting of t into left groups of the codes from code on, behind the groups that so has.
+// Stores each splitting of t into left groups of the codes from code on, behind the groups that so has, from the place n on; how many there are then.
 fn split(
-    h: Setting,
     t: [u8; 34],
     code: u8,
-    left: u8,
+    left: usize,
     so: [u8; 4],
-    size: u8,
-    win: u8,
-    pair: u8,
-    best: Best,
-) -> Best
-    requires { ⌜ Ready h × (left ≤ size) × (size ≤ 4) × (best .done ≡ false) ⌝ }
-    ensures { λ r. ⌜ r ≡ searched (judgeOf (worthIn h)) size win pair so left code t best ⌝ }
+    size: usize,
+    n: usize,
+    out: &mut [[u8; 4]; 3],
+) -> usize
+    requires { ⌜ (left ≤ size) × (size ≤ 4) × (n + length (behind size so left code t) ≤ 3) ⌝ }
+    ensures { λ r. ⌜ Stored (now (out .entry)) n (behind size so left code t) (now (out .exit)) r ⌝ }
 {
     if left == 0 {
         if reading_steps::is_empty(t) {
-            return places(h, pair, so, size, win, best);
+            out[n] = so;
+            return n + 1;
         }
-        return best;
+        return n;
     }
-    let mut found = best;
-    let mut c = code;
+    let mut found = n;
+    let mut c = reading_steps::next_code(&t, code);
     while c < 68 {
         if reading_steps::fits(t, c) {
             let mut groups = so;
-            groups[(size - left) as usize] = c;
+            groups[size - left] = c;
             found = split(
-                h,
                 reading_steps::without(t, c),
                 c,
                 left - 1,
                 groups,
                 size,
-                win,
-                pair,
                 found,
+                out,
             );
-            if found.done {
-                return found;
-            }
         }
         if !reading_steps::passes(t, c) {
             return found;
         }
-        c += 1;
+        c = reading_steps::next_code(&t, c + 1);
     }
     found
+}
+
+// Each place of a pair and the first n splittings.
+fn each(h: Setting, pair: u8, out: [[u8; 4]; 3], n: usize, size: u8, win: u8, best: Best) -> Best
+    requires { ⌜ Ready h × (n ≤ 3) × (size ≤ 4) × (best .done ≡ false) ⌝ }
+    ensures { λ r. ⌜ r ≡ ranged (judgeOf (worthIn h)) (λ i. placed size win pair (getD out i [])) n 0 best ⌝ }
+{
+    let mut b = best;
+    for i in 0..n {
+        b = places(h, pair, out[i], size, win, b);
+        if b.done {
+            return b;
+        }
+    }
+    b
 }
 
 // The shapes without groups.
@@ -115,24 +137,27 @@ pub fn best_of(h: Setting, t: [u8; 34], m: u8, win: u8) -> Best
     requires { ⌜ Ready h × (m ≤ 4) ⌝ }
     ensures { λ r. ⌜ r ≡ bestOf (worthIn h) t m win ⌝ }
 {
+    let p = reading_steps::pairs_in(&t);
     let mut b = best::none();
-    for k in 0..34 {
-        if 2 <= t[k] {
-            b = split(
-                h,
-                reading_steps::without_pair(t, k),
+    let mut k = p.first;
+    while k <= p.last {
+        if 2 <= t[k as usize] {
+            let mut out = [[68u8; 4]; 3];
+            let n = split(
+                reading_steps::without_pair(t, k as usize),
                 0,
-                4 - m,
+                (4 - m) as usize,
                 [68, 68, 68, 68],
-                4 - m,
-                win,
-                k as u8,
-                b,
+                (4 - m) as usize,
+                0,
+                &mut out,
             );
+            b = each(h, k, out, n, 4 - m, win, b);
             if b.done {
                 return b;
             }
         }
+        k += 3;
     }
     shapes(h, t, m, b)
 }

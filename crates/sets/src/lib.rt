@@ -1,13 +1,18 @@
 // Several rons on one tile, booked together (02, S-6), by value. Any value of the game and any bytes may be given; no sum wraps.
 ghost use mathlib.Core.Path.{_≡_};
 ghost use mathlib.Core.Bool.{cond};
-ghost use Prim.Native.Nat.{_≤_};
-ghost use Rattle.records.specs.Records.{recordsOf, firstUnread};
+ghost use mathlib.Core.List.{List, map};
+ghost use Prim.Native.Nat.{ℕ, _≤_};
+ghost use lib.ListN.{take};
+ghost use Rattle.records.specs.Records.{handFor};
+ghost use Rattle.records.specs.laws.Sets.{AllRead};
 ghost use Rattle.ledger.specs.Booking as Booking;
 ghost use Rattle.ledger.specs.Ledger.{BookedIn};
 ghost use Rattle.ledger.specs.laws.Form.{Open};
-ghost use Rattle.sets.specs.laws.Settled.{AllSettled, SetBooked};
+ghost use Rattle.ledger.specs.laws.Sums.{Small};
+ghost use Rattle.sets.specs.laws.Settled.{AllBounds, Settles, BooksHands};
 use game::Outcome;
+use hand::Hand;
 use ledger::Game;
 use wins::Settled;
 
@@ -18,52 +23,49 @@ fn taken(takes: bool, n: u32) -> u32
     if takes { n } else { 0 }
 }
 
-// The settling of so many records, the counters and the sticks going to the seat `first`: what they give in all, or the refusal of the first that meets one.
-fn settle_all(g: Game, first: u8, number: u8, s: &[u8]) -> Settled
-    requires { ⌜ Open g × (number ≤ 3) × (firstUnread (recordsOf number (now s)) ≡ 0) ⌝ }
-    ensures { λ r. ⌜ AllSettled g first number (now (s .entry)) r ⌝ }
+// The settling of so many hands, the counters and the sticks going to the seat `first`: what they give in all, or the refusal of the first that meets one.
+fn settle_all(g: Game, first: u8, number: u8, hands: [Hand; 3]) -> Settled
+    requires { ⌜ Open g × (number ≤ 3) × AllBounds number hands ⌝ }
+    ensures { λ r. ⌜ Small (r .gives) ⌝ }
+    ensures { λ r. ⌜ ((rs : List (List ℕ)) → AllRead rs → map handFor rs ≡ take number hands → Settles g first rs r) ⌝ }
 {
-    if number == 0 {
-        return wins::refused(0);
+    let n = number as usize;
+    let mut by = [0i32, 0, 0, 0];
+    let mut i = 0usize;
+    while i < n {
+        let h = hands[i];
+        let takes = h.fields.winner == first;
+        let t = wins::settle_hand(g, h, taken(takes, g.counter), taken(takes, g.sticks));
+        if 0 < t.refusal {
+            return t;
+        }
+        let a = t.gives;
+        let b = moves::pay(by, a);
+        by = b;
+        i += 1;
     }
-    let k = records::cut(number, s);
-    let f = records::first_fields(number, s);
-    let takes = f.winner == first;
-    let t = wins::settle(g, &s[..k], taken(takes, g.counter), taken(takes, g.sticks));
-    if 0 < t.refusal {
-        return t;
-    }
-    let u = settle_all(g, first, number - 1, &s[k..]);
-    if 0 < u.refusal {
-        return u;
-    }
-    let a = t.gives;
-    let b = u.gives;
-    let gives = moves::pay(a, b);
     Settled {
         refusal: 0,
         winner: first,
-        gives,
+        gives: by,
     }
 }
 
-// The wins of a set of records that read, in an open game.
-fn book_set(g: Game, number: u8, s: &[u8]) -> Outcome
-    requires { ⌜ Open g × (1 ≤ number) × (number ≤ 3) × (firstUnread (recordsOf number (now s)) ≡ 0) ⌝ }
-    ensures { λ r. ⌜ SetBooked g number (now (s .entry)) (r .refusal) (r .game) ⌝ }
+// The wins of a set of so many hands, in an open game.
+fn book_set(g: Game, number: u8, hands: [Hand; 3]) -> Outcome
+    requires { ⌜ Open g × (1 ≤ number) × (number ≤ 3) × AllBounds number hands ⌝ }
+    ensures { λ r. ⌜ BooksHands g number hands (r .refusal) (r .game) ⌝ }
 {
-    let f = records::first_fields(number, s);
-    let w = records::winners(number, s);
-    let first = records::first_after(f.discarder, w);
-    let t = settle_all(g, first, number, s);
+    let h = hands[0];
+    let first = records::first_after(h.fields.discarder, number, hands);
+    let t = settle_all(g, first, number, hands);
     if 0 < t.refusal {
         return Outcome {
             refusal: t.refusal,
             game: g,
         };
     }
-    let i = g.dealer as usize;
-    let dealers = w[i];
+    let dealers = records::is_winner(number, hands, g.dealer);
     let by = t.gives;
     let k = moves::finish(g, by, 0, !dealers, wins::counter_after(g.counter, dealers));
     Outcome {
@@ -90,18 +92,20 @@ pub fn many(g: Game, number: u8, s: &[u8]) -> Outcome
             game: g,
         };
     }
-    let unread = records::first_unread(number, s);
+    let r = records::read_all(number, s);
+    let unread = r.refusal;
     if 0 < unread {
         return Outcome {
             refusal: unread,
             game: g,
         };
     }
-    if records::no_set(number, s) {
+    let hands = r.hands;
+    if records::no_set(number, hands) {
         return Outcome {
             refusal: 17,
             game: g,
         };
     }
-    book_set(g, number, s)
+    book_set(g, number, hands)
 }

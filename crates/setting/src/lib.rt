@@ -3,11 +3,13 @@ ghost use mathlib.Core.Path.{_≡_};
 ghost use mathlib.Core.Bool.{cond};
 ghost use Prim.Native.Nat.{_≤_};
 ghost use lib.Dec.{eqb};
-ghost use Rattle.setting.specs.search.Setting.{joined as joinedOf, partsIn, worthIn, Ready};
+ghost use Rattle.yaku.specs.Yaku.{isYakuman, hasYaku};
+ghost use Rattle.setting.specs.search.Setting.{joined as joinedOf, partsIn, worthIn, Ready, IsCommonIn};
 use points::Seats;
 use reading::Reading;
 use tile_yaku::TileTests;
-use value::Value;
+use value::Common;
+use value::Worth;
 use yaku::Parts;
 use yaku::Won;
 
@@ -40,15 +42,26 @@ fn joined(g: [u8; 4], c: [u8; 4]) -> [u8; 4]
     ]
 }
 
-// The reading with the melds.
-fn parts(t: Setting, r: Reading) -> Parts
-    requires { ⌜ r .place ≤ 4 ⌝ }
-    ensures { λ p. ⌜ p ≡ partsIn t r ⌝ }
+// What the pair and groups of a reading have at each place, to be made once for all of them.
+pub fn common_of(t: Setting, r: Reading) -> Common
+    requires { ⌜ Ready t ⌝ }
+    ensures { λ k. ⌜ IsCommonIn t (r .shape) (r .pair) (r .groups) k ⌝ }
 {
+    let w = t.won;
+    let x = t.tests;
     let rg = r.groups;
     let mc = t.codes;
     let mw = t.ways;
-    let groups = joined(rg, mc);
+    value::common_of(w, x, r.shape, r.pair, joined(rg, mc), mw, t.dora)
+}
+
+// The reading with the melds.
+fn parts(t: Setting, k: Common, r: Reading) -> Parts
+    requires { ⌜ (k .groups ≡ joinedOf (r .groups) (t .codes)) × (r .place ≤ 4) ⌝ }
+    ensures { λ p. ⌜ p ≡ partsIn t r ⌝ }
+{
+    let mw = t.ways;
+    let groups = k.groups;
     let ways = groups::ways_at(mw, t.won.ron, r.place);
     Parts {
         shape: r.shape,
@@ -59,13 +72,14 @@ fn parts(t: Setting, r: Reading) -> Parts
     }
 }
 
-// What a reading is worth.
-pub fn worth(t: Setting, r: Reading) -> Value
-    requires { ⌜ Ready t × (r .place ≤ 4) ⌝ }
-    ensures { λ v. ⌜ v ≡ worthIn t r ⌝ }
+// What a reading is worth and whether a yakuman or any yaku is listed for it, where k is what its pair and groups have at each place.
+pub fn worth_at(t: Setting, k: Common, r: Reading) -> Worth
+    requires { ⌜ IsCommonIn t (r .shape) (r .pair) (r .groups) k × (r .place ≤ 4) ⌝ }
+    ensures { λ v. ⌜ v .value ≡ worthIn t r ⌝ }
+    ensures { λ v. ⌜ (v .yakuman ≡ isYakuman (worthIn t r .yaku)) × (v .any ≡ hasYaku (worthIn t r .yaku)) ⌝ }
 {
     let w = t.won;
-    let x = t.tests;
     let s = t.seats;
-    value::value_of(w, x, parts(t, r), t.dora, s)
+    let mw = t.ways;
+    value::value_of(w, k, parts(t, k, r), mw, t.dora, s)
 }

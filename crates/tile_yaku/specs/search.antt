@@ -1,1 +1,2 @@
 pub mod TileTests
+pub mod Sorts

@@ -1,9 +1,10 @@
-// The yaku that go by the tiles alone. A set of kinds is a number: kind k is in it where bit k is set, man 1 the lowest.
+// The yaku that go by the tiles alone. Nine sorts of kinds are told apart, and one pass over the tally says which of them are there.
 ghost use mathlib.Core.Path.{_≡_};
 ghost use Prim.Native.Nat.{_<_};
 ghost use Rattle.tile_yaku.specs.search.TileTests.{tileTestsOf};
-ghost use Rattle.tile_yaku.specs.OfTiles.{only as onlyOf, halfFlush, flush as flushOf, gatesOf, gates as gatesIs};
-ghost use Rattle.tile_yaku.specs.laws.Sets.{bit};
+ghost use Rattle.tile_yaku.specs.search.Sorts.{sortsIn, within};
+ghost use Rattle.tiles.specs.Kinds.{inSuit};
+ghost use Rattle.tile_yaku.specs.OfTiles.{only as onlyOf, gatesOf, gates as gatesIs};
 
 // What the tiles alone say, the same in every reading of a hand.
 pub struct TileTests {
@@ -18,56 +19,67 @@ pub struct TileTests {
     pub gates: bool,
 }
 
-const NUMBERS: u64 = 0b0000000_111111111_111111111_111111111;
+// Sets of sorts: terminals and simples of man; of pin; terminals, 2 3 4 6 8 and 5 7 of sou; honours but hatsu; hatsu.
+const NUMBERS: [bool; 9] = [true, true, true, true, true, true, true, false, false];
 
-const SIMPLES: u64 = 0b0000000_011111110_011111110_011111110;
+const SIMPLES: [bool; 9] = [false, true, false, true, false, true, true, false, false];
 
-const TERMINALS: u64 = 0b0000000_100000001_100000001_100000001;
+const TERMINALS: [bool; 9] = [true, false, true, false, true, false, false, false, false];
 
-const HONOURS: u64 = 0b1111111_000000000_000000000_000000000;
+const HONOURS: [bool; 9] = [false, false, false, false, false, false, false, true, true];
 
-const YAOCHUS: u64 = 0b1111111_100000001_100000001_100000001;
+const YAOCHUS: [bool; 9] = [true, false, true, false, true, false, false, true, true];
 
-const GREENS: u64 = 0b0100000_010101110_000000000_000000000;
+const GREENS: [bool; 9] = [false, false, false, false, false, true, false, false, true];
 
-const MAN: u64 = 0b0000000_000000000_000000000_111111111;
+const MAN: [bool; 9] = [true, true, false, false, false, false, false, false, false];
 
-const PIN: u64 = 0b0000000_000000000_111111111_000000000;
+const PIN: [bool; 9] = [false, false, true, true, false, false, false, false, false];
 
-const SOU: u64 = 0b0000000_111111111_000000000_000000000;
+const SOU: [bool; 9] = [false, false, false, false, true, true, true, false, false];
 
-const MAN_HONOURS: u64 = 0b1111111_000000000_000000000_111111111;
+const MAN_HONOURS: [bool; 9] = [true, true, false, false, false, false, false, true, true];
 
-const PIN_HONOURS: u64 = 0b1111111_000000000_111111111_000000000;
+const PIN_HONOURS: [bool; 9] = [false, false, true, true, false, false, false, true, true];
 
-const SOU_HONOURS: u64 = 0b1111111_111111111_000000000_000000000;
+const SOU_HONOURS: [bool; 9] = [false, false, false, false, true, true, true, true, true];
 
-// Each tile is in the set.
-fn only(t: [u8; 34], set: u64) -> bool
-    ensures { λ r. ⌜ r ≡ onlyOf t (bit set) ⌝ }
+// Which sorts of tiles the tally has.
+fn sorts(t: [u8; 34]) -> [bool; 9]
+    ensures { λ r. ⌜ r ≡ sortsIn t ⌝ }
 {
-    for k in 0..34 {
-        if !((t[k] == 0) | ((set >> k) % 2 == 1)) {
-            return false;
-        }
-    }
-    true
+    [
+        (0 < t[0]) | (0 < t[8]),
+        (0 < t[1]) | (0 < t[2]) | (0 < t[3]) | (0 < t[4]) | (0 < t[5]) | (0 < t[6]) | (0 < t[7]),
+        (0 < t[9]) | (0 < t[17]),
+        (0 < t[10])
+            | (0 < t[11])
+            | (0 < t[12])
+            | (0 < t[13])
+            | (0 < t[14])
+            | (0 < t[15])
+            | (0 < t[16]),
+        (0 < t[18]) | (0 < t[26]),
+        (0 < t[19]) | (0 < t[20]) | (0 < t[21]) | (0 < t[23]) | (0 < t[25]),
+        (0 < t[22]) | (0 < t[24]),
+        (0 < t[27]) | (0 < t[28]) | (0 < t[29]) | (0 < t[30]) | (0 < t[31]) | (0 < t[33]),
+        0 < t[32],
+    ]
 }
 
-// Yaku 23: one suit and honours, both present.
-fn half_flush(t: [u8; 34]) -> bool
-    ensures { λ r. ⌜ r ≡ halfFlush t ⌝ }
+// Each sort that is there is in the set.
+fn only(x: [bool; 9], set: [bool; 9]) -> bool
+    ensures { λ r. ⌜ r ≡ within x set ⌝ }
 {
-    (only(t, MAN_HONOURS) | only(t, PIN_HONOURS) | only(t, SOU_HONOURS))
-        & !only(t, NUMBERS)
-        & !only(t, HONOURS)
-}
-
-// Yaku 25: one suit.
-fn flush(t: [u8; 34]) -> bool
-    ensures { λ r. ⌜ r ≡ flushOf t ⌝ }
-{
-    only(t, MAN) | only(t, PIN) | only(t, SOU)
+    (set[0] | !x[0])
+        & (set[1] | !x[1])
+        & (set[2] | !x[2])
+        & (set[3] | !x[3])
+        & (set[4] | !x[4])
+        & (set[5] | !x[5])
+        & (set[6] | !x[6])
+        & (set[7] | !x[7])
+        & (set[8] | !x[8])
 }
 
 // Three of the 1 and of the 9 of a suit, and one at least of each between.
@@ -87,30 +99,37 @@ fn gates_of(t: [u8; 34], s: usize) -> bool
         & (3 <= t[i + 8])
 }
 
-// Yaku 35: no meld, one suit's 1112345678999 and one more of it.
-fn gates(t: [u8; 34], bare: bool) -> bool
+// Yaku 35: no meld, one suit's 1112345678999 and one more of it; man, pin and sou say of which suit all tiles are.
+fn gates(t: [u8; 34], bare: bool, man: bool, pin: bool, sou: bool) -> bool
+    requires { ⌜ (man ≡ onlyOf t (inSuit 0)) × (pin ≡ onlyOf t (inSuit 1)) × (sou ≡ onlyOf t (inSuit 2)) ⌝ }
     ensures { λ r. ⌜ r ≡ gatesIs t bare ⌝ }
 {
-    bare
-        & ((only(t, MAN) & gates_of(t, 0))
-            | (only(t, PIN) & gates_of(t, 1))
-            | (only(t, SOU) & gates_of(t, 2)))
+    if !(bare & (man | pin | sou)) {
+        return false;
+    }
+    (man & gates_of(t, 0)) | (pin & gates_of(t, 1)) | (sou & gates_of(t, 2))
 }
 
 // The tests of the tiles alone, to be made once for a hand.
 pub fn tile_tests(t: [u8; 34], bare: bool) -> TileTests
     ensures { λ r. ⌜ r ≡ tileTestsOf t bare ⌝ }
 {
-    let numbers = only(t, NUMBERS);
+    let x = sorts(t);
+    let man = only(x, MAN);
+    let pin = only(x, PIN);
+    let sou = only(x, SOU);
+    let numbers = only(x, NUMBERS);
+    let honours = only(x, HONOURS);
+    let one_suit = only(x, MAN_HONOURS) | only(x, PIN_HONOURS) | only(x, SOU_HONOURS);
     TileTests {
-        simples: only(t, SIMPLES),
-        yaochus: only(t, YAOCHUS),
+        simples: only(x, SIMPLES),
+        yaochus: only(x, YAOCHUS),
         honour: !numbers,
-        half: half_flush(t),
-        flush: flush(t),
-        honours: only(t, HONOURS),
-        terminals: only(t, TERMINALS),
-        greens: only(t, GREENS),
-        gates: gates(t, bare),
+        half: one_suit & !numbers & !honours,
+        flush: man | pin | sou,
+        honours,
+        terminals: only(x, TERMINALS),
+        greens: only(x, GREENS),
+        gates: gates(t, bare, man, pin, sou),
     }
 }

@@ -2,9 +2,9 @@
 ghost use mathlib.Core.Path.{_≡_};
 ghost use Prim.Native.Nat.{_≤_};
 ghost use lib.ListN.{length};
-ghost use Rattle.bits.specs.Bits.{Below};
+ghost use Rattle.bits.specs.Bits.{bitsOf};
 ghost use Rattle.hand_record.specs.Record.{heldIn, paddingAfter};
-ghost use Rattle.unfinished.specs.Unfinished.{padOf, heldRefusal, readOf};
+ghost use Rattle.unfinished.specs.Unfinished.{lengthOf, padOf, heldRefusal, readOf};
 ghost use Rattle.unfinished.specs.laws.Read.{refusedWith, givenBy};
 use hand::Held;
 
@@ -49,15 +49,14 @@ fn held_refusal(x: Held, padding: u32) -> u8
     0
 }
 
-// The tiles held that bits with m melds are, or why they are refused.
-fn given(b: &[u8], m: u8) -> Unfinished
-    requires { ⌜ (m ≤ 4) × (104 ≤ length (now b)) × Below 2 (now b) ⌝ }
-    ensures { λ r. ⌜ r ≡ givenBy (heldIn 3 m (now (b .entry))) (paddingAfter 3 m (padOf m) (now (b .entry))) ⌝ }
+// The tiles held that an input of m's length is, or why they are refused.
+fn given(s: &[u8], m: u8) -> Unfinished
+    requires { ⌜ (m ≤ 4) × (length (now s) ≡ lengthOf m) ⌝ }
+    ensures { λ r. ⌜ r ≡ givenBy (heldIn 3 m (bitsOf (now (s .entry)))) (paddingAfter 3 m (padOf m) (bitsOf (now (s .entry)))) ⌝ }
 {
-    let k = m as usize;
-    let held = hand_record::held_in(b, 3, m);
-    let padding = bits::gather(b, 3 + 8 * k + 6 * (13 - 3 * k), PADS[k]);
-    let j = held_refusal(held, padding);
+    let held = hand_record::held_in(s, 3, m);
+    let padding = bits::last(s, PADS[m as usize]);
+    let j = held_refusal(held, padding as u32);
     if 0 < j {
         return refused(j);
     }
@@ -72,16 +71,12 @@ pub fn read(s: &[u8]) -> Unfinished
     if n == 0 {
         return refused(1);
     }
-    if 13 < n {
-        return refused(1);
-    }
-    let b = hand_record::spread(s);
-    let m = bits::gather(&b, 0, 3) as u8;
+    let m = bits::field(s, 0, 3);
     if 4 < m {
         return refused(1);
     }
     if n != LENGTHS[m as usize] {
         return refused(1);
     }
-    given(&b, m)
+    given(s, m)
 }

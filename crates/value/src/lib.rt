@@ -1,17 +1,22 @@
 // What a reading is worth: its yaku, h, fu, the basic points and the winner's gain.
 ghost use mathlib.Core.Path.{_≡_};
-ghost use Prim.Native.Nat.{_<_, _≤_};
+ghost use mathlib.Core.Bool.{cond};
+ghost use Prim.Native.Nat.{_+_, _<_, _≤_};
+ghost use lib.Dec.{eqb};
 ghost use Rattle.tile_yaku.specs.search.TileTests.{tileTestsOf};
-ghost use Rattle.yaku.specs.Yaku.{yakuOf};
-ghost use Rattle.value.specs.Han.{hanOf};
+ghost use Rattle.yaku.specs.Yaku.{isYakuman, yakuOf, hasYaku};
+ghost use Rattle.groups.specs.search.Ways.{waysAt};
 ghost use Rattle.value.specs.Value.{valueOf};
+ghost use Rattle.value.specs.search.Common.{IsCommon};
 use fu_items::Items;
 use points::Seats;
 use tile_yaku::TileTests;
 use units::Fu;
 use units::Han;
 use units::Points;
+use yaku::GroupTests;
 use yaku::Parts;
+use yaku::PlaceTests;
 use yaku::Won;
 
 mod yaku_han;
@@ -26,43 +31,100 @@ pub struct Value {
     pub gain: Points,
 }
 
-// h, where y is the list of the yaku.
-fn hand_han(w: Won, p: Parts, y: [bool; 37], dora: u8, yakuman: bool) -> Han
-    requires { ⌜ y ≡ yakuOf w p ⌝ }
-    requires { ⌜ (w .round < 34) × (w .own < 34) × (dora < 34) ⌝ }
-    ensures { λ h. ⌜ h .0 ≡ hanOf w p dora yakuman ⌝ }
-    ensures { λ h. ⌜ h .0 ≤ 482 ⌝ }
-{
-    let t = w.tally;
-    let g = p.groups;
-    if yakuman {
-        return Han(0);
-    }
-    let v = groups::value_han(g, w.round, w.own, groups::little_dragons(g, p.pair));
-    let d = t[dora as usize];
-    yaku_han::han(y, w.closed, v, units::han_of(d))
+// What a reading is worth, and whether a yakuman or any yaku is listed for it.
+pub struct Worth {
+    pub value: Value,
+    pub yakuman: bool,
+    pub any: bool,
 }
 
-// What a reading is worth; `dora` is the kind of the dora.
-pub fn value_of(w: Won, x: TileTests, p: Parts, dora: u8, s: Seats) -> Value
+// What is the same at each place of the winning tile: the four groups, what they and the pair say, and h but for the yaku that go by the
+// place or the ways; and by the ways alone, how many concealed triplets and kans there are and what each group earns.
+pub struct Common {
+    pub groups: [u8; 4],
+    pub tests: GroupTests,
+    pub han: Han,
+    pub hidden: u8,
+    pub kan: u8,
+    pub items: [Fu; 4],
+}
+
+// What a pair and groups have at each place, to be made once for all of them; `dora` is the kind of the dora.
+pub fn common_of(
+    w: Won,
+    x: TileTests,
+    shape: u8,
+    pair: u8,
+    g: [u8; 4],
+    ways: [u8; 4],
+    dora: u8,
+) -> Common
     requires { ⌜ x ≡ tileTestsOf (w .tally) (w .bare) ⌝ }
-    requires { ⌜ (p .place ≤ 4) × (w .round < 34) × (w .own < 34) × (dora < 34) ⌝ }
-    ensures { λ v. ⌜ v ≡ valueOf w p dora s ⌝ }
-    ensures { λ v. ⌜ (v .han .0 ≤ 482) × (v .fu .0 ≤ 170) × (v .basic .0 ≤ 8000) × (v .gain .0 ≤ 192000) ⌝ }
+    requires { ⌜ (w .round < 34) × (w .own < 34) × (dora < 34) ⌝ }
+    ensures { λ k. ⌜ IsCommon w dora shape pair g ways k ⌝ }
 {
-    let y = yaku::yaku_of(w, x, p);
-    let yakuman = yaku::is_yakuman(y);
-    let h = hand_han(w, p, y, dora, yakuman);
-    let items = fu_items::items_of(w, p, yakuman);
+    let t = w.tally;
+    let tests = yaku::group_tests(w, x, shape, pair, g);
+    let y = tests.yaku;
+    let d = t[dora as usize];
+    let han = yaku_han::han(y, w.closed, tests.values, units::han_of(d));
+    let hidden = group_yaku::concealed(g, ways);
+    let kan = group_yaku::kans(ways);
+    let items = fu_items::group_items(g, ways);
+    Common {
+        groups: g,
+        tests,
+        han,
+        hidden,
+        kan,
+        items,
+    }
+}
+
+// h, where q is what the place says.
+fn hand_han(k: Common, q: PlaceTests) -> Han
+    requires { ⌜ k .han .0 ≤ 482 ⌝ }
+    ensures { λ h. ⌜ h .0 ≡ cond (q .yakuman) 0 (k .han .0 + cond (q .pinfu) 1 0 + cond (eqb (q .hidden) 3) 2 0 + cond (eqb (q .kan) 3) 2 0) ⌝ }
+    ensures { λ h. ⌜ h .0 ≤ 487 ⌝ }
+{
+    if q.yakuman {
+        return Han(0);
+    }
+    yaku_han::placed(k.han, q)
+}
+
+// What a reading is worth, and whether a yakuman or any yaku is listed for it; `dora` is the kind of the dora.
+// The ways of p are `ways`, but for the group that the winning tile completes.
+pub fn value_of(w: Won, k: Common, p: Parts, ways: [u8; 4], dora: u8, s: Seats) -> Worth
+    requires { ⌜ IsCommon w dora (p .shape) (p .pair) (p .groups) ways k ⌝ }
+    requires { ⌜ (p .ways ≡ waysAt ways (w .ron) (p .place)) × (p .place ≤ 4) ⌝ }
+    ensures { λ r. ⌜ r .value ≡ valueOf w p dora s ⌝ }
+    ensures { λ r. ⌜ (r .yakuman ≡ isYakuman (yakuOf w p)) × (r .any ≡ hasYaku (yakuOf w p)) ⌝ }
+{
+    let x = k.tests;
+    let gs = p.groups;
+    let hidden = group_yaku::concealed_at(k.hidden, gs, ways, w.ron, p.place);
+    let kan = group_yaku::kans_at(k.kan, ways, w.ron, p.place);
+    let earned = k.items;
+    let group = fu_items::items_at(earned, gs, ways, w.ron, p.place);
+    let q = yaku::place_tests(w, x, p, hidden, kan);
+    let h = hand_han(k, q);
+    let items = fu_items::items_of(w, x, q, p, group, q.yakuman);
     let f = fu_items::added(items);
-    let a = points::basic(yakuman, h, f);
+    let a = points::basic(q.yakuman, h, f);
     let g = points::gain(s, w.ron, a);
-    Value {
+    let y = yaku::yaku_of(w, x, q, p);
+    let value = Value {
         yaku: y,
         han: h,
         items,
         fu: f,
         basic: a,
         gain: g,
+    };
+    Worth {
+        value,
+        yakuman: q.yakuman,
+        any: q.any,
     }
 }

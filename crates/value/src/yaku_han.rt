@@ -2,9 +2,11 @@
 ghost use mathlib.Core.Path.{_≡_};
 ghost use mathlib.Core.Bool.{cond};
 ghost use Prim.Native.Nat.{_+_, _/_, _%_, _<_, _≤_};
+ghost use lib.Dec.{eqb};
 ghost use Rattle.value.specs.Han.{hanBy, yakuHan};
 ghost use Rattle.value.specs.laws.Han.{hanFor};
 use units::Han;
+use yaku::PlaceTests;
 
 // The han of each yaku: in a closed hand, then in an open one, so that 0x21 is the paper's 2−1 and 0x10 its c1. Yakuman have none.
 const HAN: [u8; 37] = [
@@ -91,4 +93,18 @@ pub fn han(y: [bool; 37], closed: bool, values: Han, dora: Han) -> Han
     ensures { λ r. ⌜ r .0 ≤ 482 ⌝ }
 {
     Han(han_by(y, closed).0 + han_if(y[3], values).0 + dora.0)
+}
+
+// h, where it is `before` without the yaku that go by the place or the ways: 4, closed only, and 18 and 19; 30 and 31 are yakuman.
+pub fn placed(before: Han, q: PlaceTests) -> Han
+    requires { ⌜ before .0 ≤ 482 ⌝ }
+    ensures { λ r. ⌜ r .0 ≡ before .0 + cond (q .pinfu) 1 0 + cond (eqb (q .hidden) 3) 2 0 + cond (eqb (q .kan) 3) 2 0 ⌝ }
+    ensures { λ r. ⌜ r .0 ≤ 487 ⌝ }
+{
+    Han(
+        before.0
+            + han_if(q.pinfu, Han(1)).0
+            + han_if(q.hidden == 3, Han(2)).0
+            + han_if(q.kan == 3, Han(2)).0,
+    )
 }

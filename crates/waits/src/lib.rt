@@ -1,13 +1,15 @@
 // What an unfinished hand waits for, and whether it is in furiten (02, S-1).
 ghost use mathlib.Core.Path.{_≡_};
-ghost use mathlib.Core.Bool.{_&&_, false};
-ghost use Prim.Native.Nat.{_≤_};
+ghost use mathlib.Core.Bool.{_&&_, true, false, cond};
+ghost use Prim.Native.Nat.{ℕ, suc, _-_, _<_, _≤_};
 ghost use lib.Dec.{ltb};
-ghost use lib.ListN.{getD};
+ghost use lib.ListN.{length, getD};
 ghost use Rattle.tiles.specs.laws.Tally.{more};
 ghost use Rattle.waits.specs.Waits.{refusedWith, IsWaits};
 ghost use Rattle.waits.specs.Answer.{waitsOf};
 ghost use Rattle.waits.specs.search.Found.{reads as readsOf, waitSet, someIn};
+ghost use Rattle.waits.specs.search.Over.{sortOf, ofSort};
+ghost use Rattle.splits.specs.search.Parts.{isParts};
 use hand::Held;
 
 // What the call gives: 0, the set of waits and furiten; or the refusal, no wait and no furiten.
@@ -29,25 +31,84 @@ fn refused(n: u8) -> Waits
     }
 }
 
-// The tiles have a reading with m melds: a pair and groups, or without melds seven pairs or thirteen orphans.
-fn reads(t: [u8; 34], m: u8) -> bool
-    requires { ⌜ m ≤ 4 ⌝ }
+// The tiles have a reading with m melds: a pair and groups, which is asked only where they may be, or without melds seven pairs or thirteen orphans.
+fn reads(t: [u8; 34], m: u8, may: bool) -> bool
+    requires { ⌜ (m ≤ 4) × (may ≡ false → isParts (suc (4 - m)) true t ≡ false) ⌝ }
     ensures { λ r. ⌜ r ≡ readsOf t m ⌝ }
 {
-    splits::splits(t, 4 - m)
-        | ((m == 0) & (reading_steps::is_seven_pairs(t) | reading_steps::is_orphans(t)))
+    let mut s = false;
+    if may {
+        s = splits::splits(t, 4 - m);
+    }
+    s | ((m == 0) & (reading_steps::is_seven_pairs(t) | reading_steps::is_orphans(t)))
 }
 
-// A kind of which n are held is a wait of the concealed tiles t.
-fn is_wait(t: [u8; 34], n: u8, m: u8, k: u8) -> bool
-    requires { ⌜ (m ≤ 4) × (getD t k 0 ≤ 13) ⌝ }
+// A kind of which n are held is a wait of the concealed tiles t; with it they may be a pair and groups, or are none.
+fn is_wait(t: [u8; 34], n: u8, m: u8, k: u8, may: bool) -> bool
+    requires { ⌜ (m ≤ 4) × (getD t k 0 ≤ 13) × (may ≡ false → isParts (suc (4 - m)) true (more t k 1) ≡ false) ⌝ }
     ensures { λ r. ⌜ r ≡ (ltb n 4 && readsOf (more t k 1) m) ⌝ }
 {
     if n < 4 {
-        reads(tiles::add(t, k, 1), m)
+        reads(tiles::add(t, k, 1), m, may)
     } else {
         false
     }
+}
+
+// The suit of a kind, 0 to 2, or its honour, 3 to 9.
+fn sort_of(k: usize) -> usize
+    requires { ⌜ k < 34 ⌝ }
+    ensures { λ r. ⌜ (r ≡ sortOf k) × (r < 10) ⌝ }
+{
+    if k < 9 {
+        0
+    } else if k < 18 {
+        1
+    } else if k < 27 {
+        2
+    } else {
+        k - 24
+    }
+}
+
+// The tiles of a suit or an honour.
+fn of_sort(t: &[u8; 34], c: usize) -> u8
+    requires { ⌜ (c < 10) × (length (now t) ≡ 34) × ((k : ℕ) → getD (now t) k 0 ≤ 13) ⌝ }
+    ensures { λ r. ⌜ r ≡ ofSort (now (t .entry)) c ⌝ }
+{
+    if 3 <= c {
+        return t[24 + c];
+    }
+    let mut n: u8 = 0;
+    for i in 0..9 {
+        n += t[9 * c + i];
+    }
+    n
+}
+
+// 1 for yes.
+fn one(b: bool) -> u8
+    ensures { λ r. ⌜ (r ≡ cond b 1 0) × (r ≤ 1) ⌝ }
+{
+    if b { 1 } else { 0 }
+}
+
+// The suits and honours of which a tile more may make a pair and groups: those with tiles over threes, where there are two at most.
+fn open_sorts(t: &[u8; 34]) -> [bool; 10]
+    requires { ⌜ (length (now t) ≡ 34) × ((k : ℕ) → getD (now t) k 0 ≤ 13) ⌝ }
+    ensures { λ r. ⌜ ((k n : ℕ) → k < 34 → getD r (sortOf k) false ≡ false → isParts (suc n) true (more (now (t .entry)) k 1) ≡ false) ⌝ }
+{
+    let mut o = [false; 10];
+    let mut n: u8 = 0;
+    for c in 0..10 {
+        let b = of_sort(t, c) % 3 != 0;
+        o[c] = b;
+        n += one(b);
+    }
+    if 2 < n {
+        return [false; 10];
+    }
+    o
 }
 
 // The set of waits, kind by kind.
@@ -58,9 +119,10 @@ fn wait_set(x: Held) -> [bool; 34]
     let m = x.m;
     let t = hand::others_tally(x);
     let held = hand::held_tally(x);
+    let may = open_sorts(&t);
     let mut w = [false; 34];
     for k in 0..34 {
-        w[k] = is_wait(t, held[k], m, k as u8);
+        w[k] = is_wait(t, held[k], m, k as u8, may[sort_of(k)]);
     }
     w
 }

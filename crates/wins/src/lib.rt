@@ -1,19 +1,23 @@
 // The booking of a win, by value. Any value of the struct may be given; no sum wraps.
 ghost use mathlib.Core.Path.{_≡_};
 ghost use mathlib.Core.Bool.{false, _&&_, not, cond};
-ghost use Prim.Native.Nat.{_+_, _≤_};
+ghost use mathlib.Core.List.{List};
+ghost use Prim.Native.Nat.{ℕ, _+_, _≤_};
 ghost use lib.Dec.{ltb};
 ghost use lib.ListN.{getD};
 ghost use Rattle.hand.specs.Refusals.{wrongDiscarder};
+ghost use Rattle.hand_record.specs.Record.{refusalIn, readOf};
+ghost use Rattle.hand_record.specs.laws.Bounds.{Bounds};
 ghost use Rattle.ledger.specs.Booking as Booking;
-ghost use Rattle.ledger.specs.Ledger.{lastHand, fedIn, holdsFourWinds, BookedIn};
+ghost use Rattle.ledger.specs.Ledger.{lastHand, handFor, fedIn, holdsFourWinds, BookedIn};
 ghost use Rattle.ledger.specs.laws.Bounds.{mostSticks};
 ghost use Rattle.ledger.specs.laws.Form.{Open};
-ghost use Rattle.ledger.specs.laws.Sums.{Changes};
+ghost use Rattle.ledger.specs.laws.Sums.{Changes, Gifts};
 ghost use Rattle.wins.specs.laws.Won.{nothing, Won, IsSettled};
 use game::Outcome;
 use hand::Fields;
 use hand::Hand;
+use hand_record::Answer;
 use ledger::Game;
 use score::Scored;
 
@@ -102,22 +106,33 @@ fn settle_scored(g: Game, f: Fields, v: Scored, fed: u8, n: u32, k: u32) -> Sett
     }
 }
 
-// The settling of one win in an open game, by its record, the winner taking n counters and k sticks: the record's best reading and the counters are paid,
-// by article 67 where its yaku was fed. Refused with Score's 1 to 7; 11, a riichi in the record without a declaration of the winner, or the reverse.
-pub fn settle(g: Game, s: &[u8], n: u32, k: u32) -> Settled
-    requires { ⌜ Open g × (n ≤ lastHand) × (k ≤ mostSticks) ⌝ }
-    ensures { λ r. ⌜ IsSettled g (now (s .entry)) n k r ⌝ }
+// The settling of one win in an open game, by its hand, the winner taking n counters and k sticks: the hand's best reading and the counters are paid, by
+// article 67 where its yaku was fed. Refused with Score's 6 and 7; 11, a riichi in the record without a declaration of the winner, or the reverse.
+pub fn settle_hand(g: Game, h: Hand, n: u32, k: u32) -> Settled
+    requires { ⌜ Open g × Bounds h × (n ≤ lastHand) × (k ≤ mostSticks) ⌝ }
+    ensures { λ r. ⌜ Gifts (r .gives) ⌝ }
+    ensures { λ r. ⌜ ((s : List ℕ) → refusalIn (readOf s .answer) ≡ 0 → h ≡ handFor s → IsSettled g s n k r) ⌝ }
 {
-    let r = hand_record::read_hand(s);
-    if 0 < r.refusal {
-        return refused(r.refusal);
-    }
-    let h = r.hand;
     let v = score::settle(h, g.dealer, g.wind);
     let yaku = v.yaku;
     let fed = fed_by(g, h, yaku);
     let f = h.fields;
     settle_scored(g, f, v, fed, n, k)
+}
+
+// The settling of one win by its record: refused with Read's 1 to 5, then as its hand is.
+fn settle(g: Game, s: &[u8], n: u32, k: u32) -> Settled
+    requires { ⌜ Open g × (n ≤ lastHand) × (k ≤ mostSticks) ⌝ }
+    ensures { λ r. ⌜ IsSettled g (now (s .entry)) n k r ⌝ }
+{
+    let r = hand_record::read(s);
+    let a = r.answer;
+    let Answer::Sound(f) = a else {
+        return refused(hand_record::refusal(a));
+    };
+    let held = r.held;
+    let h = Hand { fields: f, held };
+    settle_hand(g, h, n, k)
 }
 
 // Win: the record is settled, and the winner takes the counters and the sticks. Refused with 9, a game that is not open; what its settling is refused with.

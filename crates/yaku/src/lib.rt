@@ -1,9 +1,12 @@
 // The 36 yaku of a reading, and which of them are listed.
 ghost use mathlib.Core.Path.{_≡_};
 ghost use Prim.Native.Nat.{_<_, _≤_};
+ghost use Rattle.groups.specs.Tests.{concealed, kans};
 ghost use Rattle.tile_yaku.specs.search.TileTests.{tileTestsOf};
 ghost use Rattle.yaku.specs.Yaku.{testsOf, isYakuman, listed as listedOf, yakuOf, hasYaku};
+ghost use Rattle.yaku.specs.search.Common.{groupTestsOf, placeTestsOf};
 use tile_yaku::TileTests;
+use units::Han;
 
 // What is the same in every reading of a hand. The tally has all tiles, kans whole; round and own are kinds of wind;
 // bare is a hand with no meld.
@@ -30,18 +33,35 @@ pub struct Parts {
     pub place: u8,
 }
 
-// Each of the 36 yaku, whatever the others say: yaku n at place n.
-pub fn tests(w: Won, x: TileTests, p: Parts) -> [bool; 37]
+// What the pair and the groups say at each place of the winning tile: the tests but for those that go by the place or the ways,
+// which are false; whether a yakuman or any yaku is among these; the han that yaku 3 counts; yaku 4 but for the place; whether the pair is a value tile.
+pub struct GroupTests {
+    pub yaku: [bool; 37],
+    pub yakuman: bool,
+    pub any: bool,
+    pub values: Han,
+    pub runs: bool,
+    pub value: bool,
+}
+
+// What the place of the winning tile says, and the ways with it: whether the wait earns fu, yaku 4, how many concealed triplets and kans there are,
+// and whether a yakuman or any yaku is among all tests.
+pub struct PlaceTests {
+    pub wait: bool,
+    pub pinfu: bool,
+    pub hidden: u8,
+    pub kan: u8,
+    pub yakuman: bool,
+    pub any: bool,
+}
+
+// The tests of the pair and the groups, to be made once for all places.
+pub fn group_tests(w: Won, x: TileTests, shape: u8, pair: u8, g: [u8; 4]) -> GroupTests
     requires { ⌜ x ≡ tileTestsOf (w .tally) (w .bare) ⌝ }
-    requires { ⌜ (p .place ≤ 4) × (w .round < 34) × (w .own < 34) ⌝ }
-    ensures { λ y. ⌜ y ≡ testsOf w p ⌝ }
+    requires { ⌜ (w .round < 34) × (w .own < 34) ⌝ }
+    ensures { λ r. ⌜ r ≡ groupTestsOf w shape pair g ⌝ }
+    ensures { λ r. ⌜ r .values .0 ≤ 5 ⌝ }
 {
-    let g = p.groups;
-    let ways = p.ways;
-    let pair = p.pair;
-    let shape = p.shape;
-    let place = p.place;
-    let win = w.win;
     let round = w.round;
     let own = w.own;
     let riichi = w.riichi;
@@ -49,16 +69,16 @@ pub fn tests(w: Won, x: TileTests, p: Parts) -> [bool; 37]
     let ron = w.ron;
     let closed = w.closed;
     let little = groups::little_dragons(g, pair);
+    let values = groups::value_han(g, round, own, little);
     let twin = run_yaku::twins(g);
-    let hidden = group_yaku::concealed(g, ways);
-    let kan = group_yaku::kans(ways);
     let outside = group_yaku::outside(g, pair);
-    [
+    let value = groups::is_value(round, own, pair);
+    let yaku = [
         false,
         closed & !ron,
         x.simples,
-        0 < groups::value_han(g, round, own, little).0,
-        groups::pinfu(closed, g, pair, place, win, round, own),
+        0 < values.0,
+        false,
         closed & (twin == 1),
         situation == 2,
         situation == 1,
@@ -72,8 +92,8 @@ pub fn tests(w: Won, x: TileTests, p: Parts) -> [bool; 37]
         outside & x.honour,
         run_yaku::in_three_suits(34, g),
         group_yaku::triplets(g),
-        hidden == 3,
-        kan == 3,
+        false,
+        false,
         x.yaochus,
         closed & (twin == 2),
         outside & !x.honour,
@@ -84,14 +104,60 @@ pub fn tests(w: Won, x: TileTests, p: Parts) -> [bool; 37]
         (situation == 4) & !(own == 27),
         groups::dragons(g) == 3,
         group_yaku::four_winds(g, pair),
-        closed & (hidden == 4),
-        kan == 4,
+        false,
+        false,
         x.honours,
         x.terminals,
         x.greens,
         x.gates,
         shape == 2,
-    ]
+    ];
+    let runs = groups::may_be_pinfu(closed, g, value);
+    let yakuman = is_yakuman(yaku);
+    let any = has_yaku(yaku);
+    GroupTests {
+        yaku,
+        yakuman,
+        any,
+        values,
+        runs,
+        value,
+    }
+}
+
+// The tests of the place, where `hidden` triplets are concealed and `kan` groups are kans.
+pub fn place_tests(w: Won, k: GroupTests, p: Parts, hidden: u8, kan: u8) -> PlaceTests
+    requires { ⌜ k ≡ groupTestsOf w (p .shape) (p .pair) (p .groups) ⌝ }
+    requires { ⌜ (hidden ≡ concealed (p .groups) (p .ways)) × (kan ≡ kans (p .ways)) × (p .place ≤ 4) ⌝ }
+    ensures { λ r. ⌜ r ≡ placeTestsOf w p ⌝ }
+{
+    let g = p.groups;
+    let wait = groups::earns_wait(p.place, groups::placed(g, p.place), w.win);
+    let pinfu = k.runs & !wait;
+    let all_hidden = w.closed & (hidden == 4);
+    PlaceTests {
+        wait,
+        pinfu,
+        hidden,
+        kan,
+        yakuman: k.yakuman | (all_hidden | (kan == 4)),
+        any: k.any | (pinfu | (hidden == 3) | (kan == 3) | all_hidden | (kan == 4)),
+    }
+}
+
+// Each of the 36 yaku, whatever the others say: yaku n at place n.
+pub fn tests(w: Won, k: GroupTests, q: PlaceTests, p: Parts) -> [bool; 37]
+    requires { ⌜ k ≡ groupTestsOf w (p .shape) (p .pair) (p .groups) ⌝ }
+    requires { ⌜ q ≡ placeTestsOf w p ⌝ }
+    ensures { λ y. ⌜ y ≡ testsOf w p ⌝ }
+{
+    let mut y = k.yaku;
+    y[4] = q.pinfu;
+    y[18] = q.hidden == 3;
+    y[19] = q.kan == 3;
+    y[30] = w.closed & (q.hidden == 4);
+    y[31] = q.kan == 4;
+    y
 }
 
 // A yakuman is among the yaku.
@@ -102,10 +168,11 @@ pub fn is_yakuman(y: [bool; 37]) -> bool
 }
 
 // With a yakuman only yakuman are listed.
-fn listed(y: [bool; 37]) -> [bool; 37]
+fn listed(y: [bool; 37], yakuman: bool) -> [bool; 37]
+    requires { ⌜ yakuman ≡ isYakuman y ⌝ }
     ensures { λ r. ⌜ r ≡ listedOf y ⌝ }
 {
-    if is_yakuman(y) {
+    if yakuman {
         let mut z = [false; 37];
         z[26] = y[26];
         z[27] = y[27];
@@ -125,22 +192,21 @@ fn listed(y: [bool; 37]) -> [bool; 37]
 }
 
 // The yaku that are listed for a reading: with a yakuman only yakuman.
-pub fn yaku_of(w: Won, x: TileTests, p: Parts) -> [bool; 37]
-    requires { ⌜ x ≡ tileTestsOf (w .tally) (w .bare) ⌝ }
-    requires { ⌜ (p .place ≤ 4) × (w .round < 34) × (w .own < 34) ⌝ }
+pub fn yaku_of(w: Won, k: GroupTests, q: PlaceTests, p: Parts) -> [bool; 37]
+    requires { ⌜ k ≡ groupTestsOf w (p .shape) (p .pair) (p .groups) ⌝ }
+    requires { ⌜ q ≡ placeTestsOf w p ⌝ }
     ensures { λ y. ⌜ y ≡ yakuOf w p ⌝ }
 {
-    listed(tests(w, x, p))
+    listed(tests(w, k, q, p), q.yakuman)
 }
 
 // A yaku is listed.
 pub fn has_yaku(y: [bool; 37]) -> bool
     ensures { λ r. ⌜ r ≡ hasYaku y ⌝ }
 {
+    let mut b = false;
     for n in 0..37 {
-        if y[n] {
-            return true;
-        }
+        b = b | y[n];
     }
-    false
+    b
 }

@@ -11,6 +11,7 @@ use Rattle.reading.specs.Reading.{ofShape}
 use Rattle.reading.specs.search.Readings.{readings}
 use Rattle.reading.specs.search.Judged.{judged}
 use Rattle.value.specs.declared.Value.{Value}
+use Rattle.value.specs.declared.Worth.{Worth}
 use Rattle.fu_items.specs.Fu.{baseAlone}
 use Rattle.best.specs.declared.Best.{Best}
 use Rattle.best.specs.Best.{withYaku, withYakuman}
@@ -44,6 +45,13 @@ module _ (worth : Reading → Value) (ends : Reading → Bool) (b : Best) (r : R
 -- "the first": a later reading has to beat the one that is kept; past one that ends the search none is looked at
 unfoldable pub judgeBy : (Reading → Value) → (Reading → Bool) → Best → Reading → Best
 judgeBy worth ends b r = cond (b .done) b (cond (withYaku worth r && (not (b .valued) || beats (worth r) (b .value))) (taking worth ends b r) (passing worth ends b r))
+
+-- what is kept after a reading of worth v
+unfoldable pub keepOf : Best → Reading → Worth → Best
+keepOf b r v =
+    cond (v .any && (not (b .valued) || beats (v .value) (b .value)))
+    (record { valued = true; value = v .value; reading = r; done = v .yakuman; tried = counted (b .tried) })
+    (record { valued = b .valued; value = b .value; reading = b .reading; done = v .yakuman; tried = counted (b .tried) })
 
 -- "a search in that order ends at the first yakuman reading" (02, S-4)
 abbrev pub judgeOf : (Reading → Value) → Best → Reading → Best

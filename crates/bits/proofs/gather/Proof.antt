@@ -2,7 +2,6 @@
 use borrow.Author.Needs.{needs}
 use Prim.Native.Nat.{_+_, _-_, _*_, _<_, _≤_, _^_}
 use mathlib.Core.Path.{_≡_, refl, sym, _∙_}
-use native.Mathlib.Nat.{sub-zero}
 use native.Mathlib.Omega.{arith}
 use lib.ListN.{take, drop, getD}
 use lib.Pow.{pow-pos}
@@ -23,7 +22,7 @@ bit : (c : tie.In-loop Inv-loop μ-loop) → getD (c .before .before .args .b .n
 bit c = c .before .before .pre .2 (c .before .loop .i)
 
 grown : (c : tie.In-loop Inv-loop μ-loop)
-    → (c .before .loop .r < 65536) × (c .before .loop .r * 2 + getD (c .before .before .args .b .now) (c .before .loop .i) 0 < 2 ^ (c .before .before .args .n - (c .before .loop .left - 1)))
+    → (c .before .loop .r < 128) × (c .before .loop .r * 2 + getD (c .before .before .args .b .now) (c .before .loop .i) 0 < 2 ^ (c .before .before .args .n - (c .before .loop .left - 1)))
 grown c = grow (c .before .before .args .n) (c .before .loop .left) _ _ (c .before .before .pre .0) (c .loop-test .taken) (search needs) (c .before .loop .inv .2) (bit c)
 
 pub gather-spec : {M : Type 1} → statement M
@@ -32,7 +31,6 @@ gather-spec =
     (tie.spec Inv-loop μ-loop
     (λ c. (search needs, search needs, pow-pos (c .args .n - c .args .n), refl))
     (λ c. omega (arith, grown c .0)) (λ c. search needs)
-    (λ c. omega (arith, bit (c .before)))
     (λ c. omega (arith, grown (c .before) .0, bit (c .before)))
     (λ c. search needs) (λ c. search needs) (λ c. search needs)
     (λ c.
@@ -40,4 +38,4 @@ gather-spec =
     (search needs, search needs, grown (c .before) .1, sym (gather-step _ (l .i) (l .left) (l .r) (search needs) (search needs)) ∙ l .inv .3))
     (λ c.
     let z : c .before .loop .left ≡ 0 = omega arith in
-    (rw z at (c .before .loop .inv .3), rw (z, sub-zero) at (c .before .loop .inv .2))))
+    rw z at (c .before .loop .inv .3)))

@@ -1,12 +1,11 @@
 -- `bits::unpack_into` meets its contract: what is left to unpack, stored after what was, gives the whole.
 use borrow.Author.Needs.{needs}
-use Prim.Native.Nat.{ℕ, _+_, _-_, _^_, _<_, _≤_}
+use Prim.Native.Nat.{_+_, _-_, _≤_}
 use mathlib.Core.Path.{_≡_, refl, sym, _∙_}
 use mathlib.Core.List.{[]}
 use native.Mathlib.Omega.{arith}
-use lib.ListN.{length, getD, drop, length-set, drop-of-length-le}
+use lib.ListN.{length, drop, length-set, drop-of-length-le}
 use lib.Seq.{sets}
-use lib.Pow.{pow-mono}
 use Rattle.bits.specs.Bits.{unpack, sum}
 use Rattle.bits.specs.laws.Pack.{unpack-step, Turn, turn}
 use Rattle.bits.proofs.unpack_into.Statement.{statement}
@@ -26,14 +25,6 @@ start c = c .before .before .before .before .before
 now : (c : tie.In-loop Inv-loop μ-loop) → Turn (start c .args .ws .now) (c .before .loop .i) (c .before .loop .o) (start c .args .at + sum (start c .args .ws .now)) (length (start c .args .b .now))
 now c = turn _ _ _ _ _ (c .loop-test .taken) (start c .pre .1) (c .before .loop .inv .1) (start c .pre .2)
 
--- a field of at most 8 bits fits a byte
-byte : (c : tie.After-gather Inv-loop μ-loop) → c .gather .result < 256
-byte c =
-    let t = c .before .before in
-    let w : ℕ = getD (start t .args .ws .now) (t .before .loop .i) 0 in
-    let m : 2 ^ w ≤ 2 ^ 8 = pow-mono (now t .0) in
-    omega (arith, c .gather .ensures .1)
-
 pub unpack-into-spec : {M : Type 1} → statement M
 unpack-into-spec =
     tie.close
@@ -42,7 +33,6 @@ unpack-into-spec =
     (λ c. search needs)
     (λ c. omega (arith, now (c .before)))
     (λ c κs. (omega (arith, now (c .before) .0), now (c .before) .1, start (c .before) .pre .3))
-    (λ c. omega (arith, byte c))
     (λ c. search needs)
     (λ c. omega (arith, now (c .before .before)))
     (λ c. search needs)
@@ -54,7 +44,7 @@ unpack-into-spec =
       search needs,
       now t .2,
       simp length-set (l .inv .2),
-      rw (c .gather .ensures .0) (sym (unpack-step (a .ws .now) (a .b .now) (l .out) (l .i) (l .o) (t .loop-test .taken)) ∙ l .inv .3),
+      rw (c .gather .ensures) (sym (unpack-step (a .ws .now) (a .b .now) (l .out) (l .i) (l .o) (t .loop-test .taken)) ∙ l .inv .3),
     ))
     (λ c. search needs)
     (λ c.

@@ -23,7 +23,7 @@ length-digits zero v = refl
 length-digits (suc w) v = ap suc (length-digits w v)
 
 -- the value of the digits
-val-digits : (a w v : ℕ) → val a (digits w v) ≡ a * 2 ^ w + v % 2 ^ w
+pub val-digits : (a w v : ℕ) → val a (digits w v) ≡ a * 2 ^ w + v % 2 ^ w
 val-digits a zero v = omega (arith, mod-one v, mul-one a)
 val-digits a (suc w) v =
     let d : ℕ = v / 2 ^ w % 2 in
@@ -195,12 +195,12 @@ put-step b i zero v p = absurd (not-suc-le-zero p)
 put-step b i (suc l) v p = rw (add-one, sub-one)
 
 -- a value of l bits less than eight takes one more bit
-pub grow : (n l r x : ℕ) → n ≤ 17 → 0 < l → l ≤ n → r < 2 ^ (n - l) → x < 2 → (r < 65536) × (r * 2 + x < 2 ^ (n - (l - 1)))
+pub grow : (n l r x : ℕ) → n ≤ 8 → 0 < l → l ≤ n → r < 2 ^ (n - l) → x < 2 → (r < 128) × (r * 2 + x < 2 ^ (n - (l - 1)))
 grow n zero r x u p q h g = absurd (not-suc-le-zero p)
 grow n (suc l) r x u p q h g =
     let e : n - l ≡ suc (n - suc l) = omega arith in
-    let f : n - suc l ≤ 16 = omega arith in
-    let m : 2 ^ (n - suc l) ≤ 65536 = pow-mono f in
+    let f : n - suc l ≤ 7 = omega arith in
+    let m : 2 ^ (n - suc l) ≤ 128 = pow-mono f in
     (omega arith, rw (sub-one, e, pow-succ' 2 (n - suc l)) (omega arith))
 
 pub sets-append : (b : List ℕ) (i : ℕ) (xs ys : List ℕ) → sets b i (xs ++ ys) ≡ sets (sets b i xs) (i + length xs) ys
@@ -250,11 +250,6 @@ pub below-all : (b : ℕ) (l : List ℕ) → AllBelow b l → Below b l
 below-all b [] t = λ k. t
 below-all b (x ∷ l) t = below-cons b x l (t .0) (below-all b l (t .1))
 
--- what bits are after stores of bits
-pub below-sets : (b i : ℕ) (vs l : List ℕ) → i + length vs ≤ length l → Below b l → Below b vs → Below b (sets l i vs)
-below-sets b i vs l f h g =
-    rw (sets-eq vs l i f) (below-append b (take i l ++ vs) _ (below-append b (take i l) vs (below-take b i l h) g) (below-drop b (i + length vs) l h))
-
 pub drop-replicate : (n m v : ℕ) → drop n (replicate m v) ≡ replicate (m - n) v
 drop-replicate zero m v = rw sub-zero
 drop-replicate (suc n) zero v = rw zero-sub
@@ -267,18 +262,6 @@ pub sets-fill : (n : ℕ) (l : List ℕ) → length l ≤ n → sets (replicate 
 sets-fill n l h =
     sets-eq l (replicate n 0) 0 (omega (arith, length-replicate {A = ℕ} n 0))
     ∙ rw (zero-add, drop-replicate)
-
--- n of m fields of one width v, from `at` on: they may be unpacked, and stored in m places they leave zeros after them
-module _ (n m v at : ℕ) (b : List ℕ) (h : n ≤ m) where
-  pub run-room : v < 9 → at + v * n ≤ length b → Below 2 b
-      → (length (take n (replicate m v)) ≤ m) × Below 9 (take n (replicate m v)) × (at + sum (take n (replicate m v)) ≤ length b) × Below 2 b
-  run-room w l t =
-      rw (take-replicate n m v h) (omega (arith, length-replicate {A = ℕ} n v), below-replicate 9 n v w, omega (arith, sum-replicate n v), t)
-
-  pub run-stored : (out : List ℕ) → out ≡ sets (replicate m 0) 0 (unpack (take n (replicate m v)) (drop at b)) → out ≡ fill m (unpack (replicate n v) (drop at b))
-  run-stored out e =
-      rw (take-replicate n m v h) at e
-      ∙ sets-fill m (unpack (replicate n v) (drop at b)) (omega (arith, length-unpack (replicate n v) (drop at b), length-replicate {A = ℕ} n v))
 
 pub below-fill : (b n : ℕ) (l : List ℕ) → Below b l → Below b (fill n l)
 below-fill b n l h = below-append b l (replicate (n - length l) 0) h (below-replicate b (n - length l) 0 (omega (arith, h 0)))
@@ -305,22 +288,6 @@ unpack-fit (w ∷ ws) bs h f zero =
     let l : length (take w bs) ≡ w = length-take-le w bs (omega arith) in
     rw l at (val-lt (take w bs) (below-take 2 w bs h))
 unpack-fit (w ∷ ws) bs h f (suc k) = unpack-fit ws (drop w bs) (below-drop 2 w bs h) (omega (arith, length-drop w bs)) k
-
--- a bit of bytes, by a shift
-pub bit-at : (s : List ℕ) (k : ℕ) → k < 8 * length s → getD (bitsOf s) k 0 ≡ getD s (k / 8) 0 / 2 ^ (7 - k % 8) % 2
-bit-at [] k h = absurd (omega arith)
-bit-at (x ∷ s) zero h = refl
-bit-at (x ∷ s) (suc zero) h = refl
-bit-at (x ∷ s) (suc (suc zero)) h = refl
-bit-at (x ∷ s) (suc (suc (suc zero))) h = refl
-bit-at (x ∷ s) (suc (suc (suc (suc zero)))) h = refl
-bit-at (x ∷ s) (suc (suc (suc (suc (suc zero))))) h = refl
-bit-at (x ∷ s) (suc (suc (suc (suc (suc (suc zero)))))) h = refl
-bit-at (x ∷ s) (suc (suc (suc (suc (suc (suc (suc zero))))))) h = refl
-bit-at (x ∷ s) (suc (suc (suc (suc (suc (suc (suc (suc k)))))))) h =
-    let d : suc (suc (suc (suc (suc (suc (suc (suc k))))))) / 8 ≡ suc (k / 8) = omega arith in
-    let m : suc (suc (suc (suc (suc (suc (suc (suc k))))))) % 8 ≡ k % 8 = omega arith in
-    rw (d, m) (bit-at s k (omega arith))
 
 -- lists of fields end to end
 pub pack-append : (ws us vs xs : List ℕ) → length ws ≡ length vs → pack (ws ++ us) (vs ++ xs) ≡ pack ws vs ++ pack us xs

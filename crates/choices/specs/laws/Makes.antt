@@ -11,7 +11,7 @@ use Rattle.tiles.specs.Below.{every}
 use Rattle.choices.specs.declared.Parts.{Parts}
 use Rattle.choices.specs.declared.Move.{Move}
 use Rattle.choices.specs.search.Moves.{aOf, bOf, gOf, pOf, xOf, yOf, zOf, state, may, fine, kept}
-use Rattle.choices.specs.search.Made.{Parted, Makes, valueOf}
+use Rattle.choices.specs.search.Made.{Parted, takes, Makes, valueOf}
 use Rattle.choices.specs.laws.Reach.{kept-more}
 use Rattle.choices.specs.laws.State.{state-read, state-small}
 use Rattle.choices.specs.laws.Special.{next-special, taken-pairs, taken-orphans}
@@ -124,10 +124,10 @@ regular-test x y g z p b h =
     (leb-true _ _ (q .0), leb-true _ _ (q .1))
 
 module _ (k s e x y z : ℕ) (u : Parts) (t : Bool) (lo : s < 70) (q : t ≡ isRunStart k) (c : Parted s u) (ex : x ≡ xOf e) (ey : y ≡ yOf e) (ez : z ≡ zOf e) where
-  pub makes-read : (r : ℕ) → leb (x + y) (u .g) && leb z (u .p) && (eqb x 0 || t) ≡ true → r ≡ state x (u .a) (u .g - (x + y)) (u .p - z) →
-      Makes k s e (record { fine = true; to = r; tiles = u .a + u .b + x + 3 * y + 2 * z })
-  makes-read r h er =
-      rw (er, c .runs-a lo, c .runs-b lo, c .groups lo, c .pairs lo, ex, ey, ez) (makes-regular k s e t lo q (rw (c .groups lo, c .pairs lo, ex, ey, ez) at h))
+  pub makes-read : leb (x + y) (u .g) && leb z (u .p) && (eqb x 0 || t) ≡ true → Makes k s e (takes u x y z)
+  unfolding takes
+  makes-read h =
+      rw (c .runs-a lo, c .runs-b lo, c .groups lo, c .pairs lo, ex, ey, ez) (makes-regular k s e t lo q (rw (c .groups lo, c .pairs lo, ex, ey, ez) at h))
 
   pub makes-unread : leb (x + y) (u .g) && leb z (u .p) && (eqb x 0 || t) ≡ false → Makes k s e (record { fine = false; to = 0; tiles = 0 })
   makes-unread h = makes-no-regular k s e t lo q (rw (c .groups lo, c .pairs lo, ex, ey, ez) at h)

@@ -1,12 +1,12 @@
 -- What the functions that make a choice promise. Nobody has to believe it: what is found is stated in `ready`.
 use mathlib.Core.Path.{_≡_}
 use mathlib.Core.Bool.{true, _&&_, cond}
-use Prim.Native.Nat.{ℕ, _+_, _%_, _≤_, _<_, min}
+use Prim.Native.Nat.{ℕ, _+_, _-_, _*_, _%_, _≤_, _<_, min}
 use lib.Dec.{ltb, leb}
 use Rattle.tiles.specs.Kinds.{isRunStart}
 use Rattle.choices.specs.declared.Parts.{Parts}
 use Rattle.choices.specs.declared.Move.{Move}
-use Rattle.choices.specs.search.Moves.{aOf, bOf, gOf, choices, may, taken, next, kept}
+use Rattle.choices.specs.search.Moves.{aOf, bOf, gOf, state, choices, may, taken, next, kept}
 
 -- q has the parts of the state s of a regular hand
 pub record Parted (s : ℕ) (q : Parts) : Type 0 where
@@ -20,6 +20,10 @@ pub record Parted (s : ℕ) (q : Parts) : Type 0 where
 -- how many choices are tried at the kind k in the state s with g groups left: the others cannot be made
 unfoldable pub triesOf : ℕ → ℕ → ℕ → ℕ
 triesOf k s g = cond (ltb s 70) (cond (isRunStart k) (choices g) (min 3 (choices g))) 2
+
+-- the choice of x runs, y triplets and z pairs in a state of the parts q
+unfoldable pub takes : Parts → ℕ → ℕ → ℕ → Move
+takes q x y z = record { fine = true; to = state x (q .a) (q .g - (x + y)) (q .p - z); tiles = q .a + q .b + x + 3 * y + 2 * z }
 
 -- the move m is the choice e at the kind k in the state s
 pub record Makes (k s e : ℕ) (m : Move) : Type 0 where

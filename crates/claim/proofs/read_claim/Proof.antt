@@ -1,22 +1,29 @@
--- `claim::read_claim` meets its contract: no claim has under 3 bytes or over 7, and the bits of the others are read.
+-- `claim::read_claim` meets its contract: no claim has under 3 bytes, and the others are read by the shape and the length.
 use borrow.Author.Needs.{needs}
-use Prim.Native.Nat.{ℕ, _*_}
-use mathlib.Core.Path.{_≡_, refl, ap, sym, _∙_}
-use mathlib.Core.List.{List}
+use Prim.Native.Nat.{ℕ}
+use mathlib.Core.Path.{_≡_, ap, sym, _∙_}
+use mathlib.Core.Bool.{not}
 use native.Mathlib.Omega.{arith}
-use lib.ListN.{length, take}
-use lib.Seq.{length-take-le}
-use Rattle.bits.specs.Bits.{bitsOf, eights, fill}
-use Rattle.bits.specs.laws.Pack.{length-bitsOf, below-pack}
+use borrow.Author.Tests.{eqb-true, eqb-false, not-false}
+use lib.Dec.{eqb}
+use lib.ListN.{length}
+use Rattle.tiles.specs.laws.Below.{or-both}
+use Rattle.bits.specs.Bits.{bitsOf}
 use Rattle.claim.specs.search.Claimed.{claimedIn}
-use Rattle.claim.specs.laws.Bits.{take-bits}
-use Rattle.claim.specs.laws.Claimed.{far-length}
+use Rattle.claim.specs.laws.Claimed.{far-length, length-0, three-bytes}
 use Rattle.claim.proofs.read_claim.Statement.{statement}
 use Rattle.claim.proofs.read_claim.Tie as tie
 
--- the part that is lent is the claim's bits
-part : (s b : List ℕ) → b ≡ fill 104 (bitsOf s) → take (8 * length s) b ≡ bitsOf s
-part s b e = ap (λ (l : List ℕ). take (8 * length s) l) e ∙ take-bits (length s) s refl
+abbrev start : tie.After-field → tie.Start
+start c = c .before .before .before
+
+-- shape 1 or 2, of 3 bytes
+three : (c : tie.Else4) → (length (start (c .before .before) .args .s .now) ≡ 3) × (c .before .before .field .result ≡ 3 → ⊥)
+three c =
+    let n = length (start (c .before .before) .args .s .now) in
+    let k = c .before .before .field .result in
+    let o = or-both (not (eqb n 3)) (eqb k 3) (c .if4 .left) in
+    (eqb-true n 3 (not-false _ (o .0)), eqb-false k 3 (o .1))
 
 pub read-claim-spec : {M : Type 1} → statement M
 read-claim-spec =
@@ -24,22 +31,27 @@ read-claim-spec =
     (tie.spec (λ c κs. search needs)
     (λ c.
     let a = c .before .before .before in
-    c .nothing .ensures ∙ far-length (a .args .m) (length (a .args .s .now)) (bitsOf (a .args .s .now)) (a .pre) (λ p q. omega (arith, c .before .if1 .taken)))
+    c .nothing .ensures ∙ far-length (a .args .m) _ (bitsOf (a .args .s .now)) (a .pre) (λ p q. omega (arith, c .before .if1 .taken)))
+    (λ c κs. search needs) (λ c. search needs) (λ c. search needs) (λ c κs. search needs)
+    (λ c.
+    let g = c .before .before .before in
+    let a = start g .args in
+    c .nothing2 .ensures ∙ length-0 (a .m) _ (bitsOf (a .s .now)) _ (g .field .ensures) (c .before .before .if2 .taken) (c .before .if3 .taken))
+    (λ c κs.
+    let g = c .before .before in
+    (start g .pre, c .if3 .left, sym (g .field .ensures) ∙ c .before .if2 .taken))
+    (λ c.
+    let a = start (c .before .before .before) .args in
+    c .regular-in .ensures ∙ ap (λ (k : ℕ). claimedIn (a .m) k (bitsOf (a .s .now))) (sym (c .before .if3 .left)))
     (λ c κs. search needs)
     (λ c.
-    let a = c .before .before .before .before in
-    c .nothing2 .ensures ∙ far-length (a .args .m) (length (a .args .s .now)) (bitsOf (a .args .s .now)) (a .pre) (λ p q. omega (arith, c .before .if2 .taken)))
-    (λ c κs. search needs) (λ c. search needs) (λ c. search needs)
-    (λ c.
-    let l : length (c .before .spread .result) ≡ 104 = search needs in
-    sym (length-take-le (8 * length (c .before .before .before .before .before .args .s .now)) (c .before .spread .result) (omega arith)))
+    let g = c .before .before .before in
+    let a = start g .args in
+    c .nothing3 .ensures ∙ three-bytes (a .m) _ (bitsOf (a .s .now)) _ (g .field .ensures) (c .before .before .if2 .left) (c .before .if4 .taken))
     (λ c κs.
-    let a = c .before .before .before .before .before in
-    let s = a .args .s .now in
-    rw (part s (c .before .spread .result) (c .before .spread .ensures))
-    (a .pre, omega arith, omega arith, length-bitsOf s, below-pack (eights (length s)) s))
+    let g = c .before .before in
+    let z = c .before .if2 .left in
+    (three c .0, sym (g .field .ensures), omega arith, three c .1))
     (λ c.
-    let a = c .before .before .before .before .before .before in
-    let s = a .args .s .now in
-    c .claimed-in .ensures ∙ ap (λ (l : List ℕ). claimedIn (a .args .m) (length s) l)
-    (part s (c .before .before .spread .result) (c .before .before .spread .ensures))))
+    let a = start (c .before .before .before) .args in
+    c .shape-in .ensures ∙ ap (λ (k : ℕ). claimedIn (a .m) k (bitsOf (a .s .now))) (sym (three (c .before) .0))))

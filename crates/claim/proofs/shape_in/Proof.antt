@@ -2,6 +2,7 @@
 use borrow.Author.Needs.{needs}
 use mathlib.Core.Path.{_∙_}
 use borrow.Author.Tests.{lt-ltb, le-ltb}
+use Rattle.bits.specs.Bits.{bitsOf}
 use Rattle.claim.specs.laws.Claimed.{shape-faulty, shape-sound}
 use Rattle.claim.proofs.shape_in.Statement.{statement}
 use Rattle.claim.proofs.shape_in.Tie as tie
@@ -15,12 +16,12 @@ shape-in-spec =
     let g = p .before in
     let a = g .before .before in
     c .nothing .ensures
-    ∙ shape-faulty (a .args .m) (a .args .shape) (a .args .b .now) (a .pre .2) (a .pre .3) (a .pre .4) (g .gather .result) (p .gather2 .result)
-    (g .gather .ensures .0) (p .gather2 .ensures .0) (lt-ltb 0 _ (c .before .if1 .taken)))
+    ∙ shape-faulty (a .args .m) (a .args .shape) (bitsOf (a .args .s .now)) (a .pre .1) (a .pre .2) (a .pre .3) (g .long-field .result) (p .field .result)
+    (g .long-field .ensures) (p .field .ensures) (lt-ltb 0 _ (c .before .if1 .taken)))
     (λ c κs. search needs)
     (λ c.
     let p = c .before .before in
     let g = p .before in
     let a = g .before .before in
-    shape-sound (a .args .m) (a .args .shape) (a .args .b .now) (a .pre .2) (a .pre .3) (a .pre .4) (g .gather .result) (p .gather2 .result)
-    (g .gather .ensures .0) (p .gather2 .ensures .0) (c .of-shape .result) (c .of-shape .ensures) (le-ltb 0 _ (c .before .if1 .left))))
+    shape-sound (a .args .m) (a .args .shape) (bitsOf (a .args .s .now)) (a .pre .1) (a .pre .2) (a .pre .3) (g .long-field .result) (p .field .result)
+    (g .long-field .ensures) (p .field .ensures) (c .of-shape .result) (c .of-shape .ensures) (le-ltb 0 _ (c .before .if1 .left))))

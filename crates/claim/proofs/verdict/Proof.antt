@@ -1,7 +1,7 @@
 -- `claim::verdict` meets its contract: where it is a reading, by what it pays.
 use borrow.Author.Needs.{needs}
 use Prim.Native.Nat.{ℕ, _≤_}
-use mathlib.Core.Path.{_≡_, ap, sym, _∙_}
+use mathlib.Core.Path.{_≡_, refl, ap, sym, _∙_}
 use mathlib.Core.Bool.{Bool, true, false, not}
 use mathlib.Core.List.{List}
 use borrow.Author.Tests.{not-true, not-false}
@@ -14,7 +14,8 @@ use Rattle.value.specs.declared.Value.{Value}
 use Rattle.setting.specs.declared.Setting.{Setting}
 use Rattle.best.specs.declared.Best.{Best}
 use Rattle.setting.specs.search.Setting.{worthIn}
-use Rattle.best.specs.search.Best.{bestOf}
+use Rattle.best.specs.search.Best.{noneOf, judgeBy, judgeOf, bestOf}
+use Rattle.best.specs.laws.Keep.{none-going}
 use Rattle.score.specs.Readings.{all-kinds}
 use Rattle.score.specs.Named.{worth}
 use Rattle.score.specs.search.Setting.{settingOf}
@@ -26,6 +27,13 @@ use Rattle.claim.proofs.verdict.Tie as tie
 
 -- ---- by what the calls gave
 
+-- the first reading that is judged is kept where it has a yaku
+weighed-first : (worth : Reading → Value) (r : Reading) (gain most : ℕ) (y : Bool) → hasYaku (worth r .yaku) ≡ y
+    → weighedAs (judgeOf worth noneOf r .valued) (judgeOf worth noneOf r .value .gain .0) gain most ≡ weighedAs (hasYaku (worth r .yaku)) (worth r .gain .0) gain most
+unfolding judgeBy noneOf weighedAs
+weighed-first worth r gain most true e = rw e
+weighed-first worth r gain most false e = rw e
+
 module _ (h : Hand) (dealer wind : ℕ) (r : Reading) (gain : ℕ) (f : IsFormed (h .held .m) r)
     (c : List ℕ) (x : Bool) (ec : c ≡ concealedTally h) (ex : x ≡ reads c (h .held .m) (h .fields .winning) r) where
   reading-is : reads (concealedTally h) (h .held .m) (h .fields .winning) r ≡ x
@@ -36,15 +44,18 @@ module _ (h : Hand) (dealer wind : ℕ) (r : Reading) (gain : ℕ) (f : IsFormed
   none e = rw (reading-is ∙ not-true x e)
 
   weighs : not x ≡ false → h .held .m ≤ 4 → length (h .held .melds) ≡ 4
-      → (t : Setting) (v : Value) (b : Best) (y : Bool) (w : ℕ) → t ≡ settingOf h dealer wind → v ≡ worthIn t r
+      → (t : Setting) (n v b : Best) (w : ℕ) → t ≡ settingOf h dealer wind → n ≡ noneOf → v ≡ judgeOf (worthIn t) n r
       → b ≡ bestOf (worthIn t) c (h .held .m) (h .fields .winning)
-      → y ≡ hasYaku (v .yaku) → w ≡ weighedAs y (v .gain .0) gain (b .value .gain .0) → w ≡ verdictOf h dealer wind r gain
+      → w ≡ weighedAs (v .valued) (v .value .gain .0) gain (b .value .gain .0) → w ≡ verdictOf h dealer wind r gain
   unfolding verdictOf
-  weighs n few long t v b y w et ev eb ey ew =
-      let read : reads (concealedTally h) (h .held .m) (h .fields .winning) r ≡ true = reading-is ∙ not-false x n in
+  weighs x-is few long t n v b w et en ev eb ew =
+      let read : reads (concealedTally h) (h .held .m) (h .fields .winning) r ≡ true = reading-is ∙ not-false x x-is in
       let i = decides (concealedTally h) (h .held .m) (h .fields .winning) (all-kinds h) r f .0 read in
-      let worth-is : v ≡ worth h dealer wind r = ev ∙ ap (λ (z : Setting). worthIn z r) et ∙ worth-in h few long dealer wind r i in
-      ew ∙ rw (read, ey, worth-is, kept-in h few long dealer wind t c b et ec eb)
+      let worth-is : worthIn t r ≡ worth h dealer wind r = ap (λ (z : Setting). worthIn z r) et ∙ worth-in h few long dealer wind r i in
+      ew
+      ∙ ap (λ (z : Best). weighedAs (z .valued) (z .value .gain .0) gain (b .value .gain .0)) (ev ∙ ap (λ (z : Best). judgeOf (worthIn t) z r) en)
+      ∙ weighed-first (worthIn t) r gain (b .value .gain .0) (hasYaku (worthIn t r .yaku)) refl
+      ∙ rw (read, worth-is, kept-in h few long dealer wind t c b et ec eb)
 
 -- ---- the calls
 
@@ -63,14 +74,17 @@ verdict-spec =
     let a = t .before .args in
     none (a .h) (a .dealer) (a .wind) (a .r) (a .gain) (t .before .pre .4) (t .concealed-tally .result) (i .is-reading .result) (t .concealed-tally .ensures)
     (i .is-reading .ensures) (c .if1 .taken))
-    (λ c κs. search needs)
-    (λ c κs. let s = c .before .before .before .before in (c .setting-of .ensures .1, formed-bounds (s .args .h .held .m) (s .args .r) (s .pre .4) .0))
-    (λ c κs. search needs) (λ c κs. search needs) (λ c κs. search needs)
+    (λ c κs. search needs) (λ c κs. search needs)
+    (λ c κs.
+    let k = c .before in
+    let s = k .before .before .before .before in
+    (k .setting-of .ensures .1, formed-bounds (s .args .h .held .m) (s .args .r) (s .pre .4) .0, none-going (c .none .result) (c .none .ensures)))
+    (λ c κs. search needs) (λ c κs. search needs)
     (λ c.
-    let y = c .before in
-    let b = y .before in
-    let v = b .before .before in
-    let k = v .before in
+    let b = c .before in
+    let v = b .before in
+    let n = v .before in
+    let k = n .before in
     let e = k .before in
     let i = e .before in
     let t = i .before in
@@ -78,5 +92,5 @@ verdict-spec =
     let a = s .args in
     weighs (a .h) (a .dealer) (a .wind) (a .r) (a .gain) (s .pre .4) (t .concealed-tally .result) (i .is-reading .result) (t .concealed-tally .ensures)
     (i .is-reading .ensures)
-    (e .if1 .left) (s .pre .0) (long-melds s) (k .setting-of .result) (v .worth .result) (b .best-of .result) (y .has-yaku .result) (c .weighed .result)
-    (k .setting-of .ensures .0) (v .worth .ensures) (b .best-of .ensures) (y .has-yaku .ensures) (c .weighed .ensures)))
+    (e .if1 .left) (s .pre .0) (long-melds s) (k .setting-of .result) (n .none .result) (v .judge .result) (b .best-of .result) (c .weighed .result)
+    (k .setting-of .ensures .0) (n .none .ensures) (v .judge .ensures) (b .best-of .ensures) (c .weighed .ensures)))

@@ -1,5 +1,5 @@
 -- Codes with 68 after them, and lists of codes.
-use Prim.Native.Nat.{ℕ, _+_, _*_, _-_, _≤_, _<_}
+use Prim.Native.Nat.{ℕ, _+_, _-_, _≤_, _<_}
 use mathlib.Core.Path.{_≡_, refl, ap, _∙_}
 use mathlib.Core.Bool.{true, _&&_}
 use mathlib.Core.List.{List, [], _∷_, _++_}
@@ -9,11 +9,11 @@ use native.Mathlib.Omega.{arith}
 use borrow.Author.Tests.{leb-true, le-leb}
 use lib.Dec.{leb}
 use lib.ListN.{length, getD, take, drop, replicate, length-drop, length-replicate}
-use lib.Seq.{length-take-le, take-at, sets, sets-eq, drop-cons, getD-take}
+use lib.Seq.{length-take-le, sets, sets-eq, drop-cons, getD-take}
 use Rattle.tiles.specs.Groups.{isGroup}
 use Rattle.tiles.specs.laws.Below.{and-true}
-use Rattle.bits.specs.Bits.{unpack, bitsOf, fill}
-use Rattle.bits.specs.laws.Pack.{length-unpack, length-bitsOf, take-replicate, drop-replicate}
+use Rattle.bits.specs.Bits.{unpack}
+use Rattle.bits.specs.laws.Pack.{length-unpack, drop-replicate}
 use Rattle.reading.specs.Reading.{Ascends}
 use Rattle.claim.specs.search.Claimed.{codesIn, ascends}
 
@@ -23,23 +23,17 @@ pub length-codes : (m : ℕ) (b : List ℕ) → length (codesIn m b) ≡ 4 - m
 unfolding codesIn
 length-codes m b = length-unpack (replicate (4 - m) 7) (drop 8 b) ∙ length-replicate {A = ℕ} (4 - m) 7
 
-pub groups-stored : (m : ℕ) (b out : List ℕ) → m ≤ 4 → out ≡ sets (replicate 4 68) 0 (unpack (take (4 - m) (replicate 4 7)) (drop 8 b))
+pub groups-stored : (m : ℕ) (b out : List ℕ) → m ≤ 4 → out ≡ sets (replicate 4 68) 0 (unpack (replicate (4 - m) 7) (drop 8 b))
     → out ≡ codesIn m b ++ replicate m 68
 unfolding codesIn
 groups-stored m b out h e =
     let vs : List ℕ = unpack (replicate (4 - m) 7) (drop 8 b) in
-    let l : length vs ≡ 4 - m = length-unpack (replicate (4 - m) 7) (drop 8 b) ∙ length-replicate {A = ℕ} (4 - m) 7 in
-    let e1 : out ≡ sets (replicate 4 68) 0 vs = rw (take-replicate (4 - m) 4 7 (omega arith)) at e in
+    let l : length vs ≡ 4 - m = length-codes m b in
     let r : List ℕ = replicate {A = ℕ} 4 68 in
     let e2 : sets r 0 vs ≡ vs ++ drop (length vs) r = sets-eq vs r 0 (omega arith) ∙ rw zero-add in
     let e3 : drop (length vs) r ≡ replicate (4 - length vs) 68 = drop-replicate (length vs) 4 68 in
     let e4 : 4 - length vs ≡ m = omega arith in
-    e1 ∙ e2 ∙ ap (λ (x : List ℕ). vs ++ x) (e3 ∙ ap (λ (k : ℕ). replicate k 68) e4)
-
--- ---- the bits of n bytes, without what fills them
-
-pub take-bits : (n : ℕ) (s : List ℕ) → length s ≡ n → take (8 * n) (fill 104 (bitsOf s)) ≡ bitsOf s
-take-bits n s e = take-at (bitsOf s) (replicate (104 - length (bitsOf s)) 0) (8 * n) (length-bitsOf s ∙ ap (λ (k : ℕ). 8 * k) e)
+    e ∙ e2 ∙ ap (λ (x : List ℕ). vs ++ x) (e3 ∙ ap (λ (k : ℕ). replicate k 68) e4)
 
 -- ---- codes that ascend
 

@@ -1,44 +1,49 @@
 -- `fu_items::earned` meets its contract: each item is what its function ensures.
 use borrow.Author.Needs.{needs}
 use native.Mathlib.Omega.{arith}
-use Rattle.fu_items.specs.Fu.{earned, added}
+use mathlib.Core.Path.{_≡_, ap}
+use mathlib.Core.List.{List}
+use Prim.Native.Nat.{_≤_}
+use lib.ListN.{getD}
+use Rattle.tiles.specs.Below.{sum}
+use Rattle.units.specs.declared.Fu.{Fu}
+use Rattle.yaku.specs.declared.Parts.{Parts}
+use Rattle.yaku.specs.declared.GroupTests.{GroupTests}
+use Rattle.yaku.specs.declared.PlaceTests.{PlaceTests}
+use Rattle.yaku.specs.search.Common.{groupTestsOf, placeTestsOf}
+use Rattle.fu_items.specs.Fu.{fu, groupItems, earned, added}
+use Rattle.fu_items.specs.laws.Items.{groups-few}
 use Rattle.fu_items.proofs.earned.Statement.{statement}
 use Rattle.fu_items.proofs.earned.Tie as tie
 
+few : (p : Parts) (l : List Fu) → l ≡ groupItems p → sum 4 (λ k. getD l k (fu 0) .0) ≤ 128
+few p l e = rw e (groups-few p)
+
 returns : tie.Need-returns
-unfolding earned added
+unfolding groupTestsOf placeTestsOf earned added
 returns c =
-    let c2 = c .before .before in
-    let c3 = c2 .before in
+    let c3 = c .before .before .before in
     let c4 = c3 .before in
     let c5 = c4 .before in
-    let c6 = c5 .before in
-    let c7 = c6 .before in
-    let c8 = c7 .before in
-    let c10 = c8 .before .before in
-    let ron = c8 .fu-if .ensures in
-    let pair = c6 .fu-if2 .ensures in
-    let group = c5 .group-items .ensures in
-    let wait = c2 .fu-if3 .ensures in
+    let start = c5 .before .before in
+    let ron = c5 .fu-if .ensures in
+    let pair = c4 .fu-if2 .ensures in
+    let wait = c3 .fu-if3 .ensures in
     let tsumo = c .fu-if4 .ensures in (
       rw (
         ron .0,
         pair .0,
-        c7 .is-value .ensures,
-        group .0,
+        ap (λ (k : GroupTests). k .value) (start .pre .0),
+        start .pre .1 .1,
         wait .0,
-        c3 .earns-wait .ensures,
-        c4 .placed .ensures,
+        ap (λ (q : PlaceTests). q .wait) (start .pre .1 .0),
         tsumo .0,
-        c10 .pinfu .ensures,
+        ap (λ (q : PlaceTests). q .pinfu) (start .pre .1 .0),
       ),
-      omega (arith, ron .1, pair .1, group .1, wait .1, tsumo .1),
+      omega (arith, ron .1, pair .1, few (start .args .p) (start .args .group) (start .pre .1 .1), wait .1, tsumo .1),
     )
 
 pub earned-spec : {M : Type 1} → statement M
 earned-spec =
     tie.close
-    (tie.spec
-    (λ c κs. search needs) (λ c κs. search needs) (λ c κs. search needs) (λ c κs. search needs)
-    (λ c κs. search needs) (λ c κs. search needs) (λ c κs. search needs) (λ c κs. search needs)
-    (λ c κs. search needs) returns)
+    (tie.spec (λ c κs. search needs) (λ c κs. search needs) (λ c κs. search needs) (λ c κs. search needs) returns)

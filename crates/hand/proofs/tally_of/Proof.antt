@@ -1,15 +1,17 @@
 -- `hand::tally_of` meets its contract: the tally has the first i tiles, kind by kind.
 use borrow.Author.Needs.{needs}
 use Prim.Native.Nat.{ℕ, _+_, _-_, _≤_, _<_}
-use mathlib.Core.Path.{_≡_, refl, sym, _∙_}
+use mathlib.Core.Path.{_≡_, refl, sym, ap, _∙_}
 use mathlib.Core.List.{List}
+use mathlib.Core.Logic.{⊎-elim}
 use native.Mathlib.Omega.{arith}
 use lib.Dec.{eqb}
-use lib.ListN.{length, getD, getD-replicate}
+use lib.ListN.{length, getD, set, length-set, getD-replicate}
+use lib.Seq.{set-out}
 use Rattle.tiles.specs.Below.{number}
 use Rattle.tiles.specs.Groups.{at}
 use Rattle.tiles.specs.laws.Below.{number-none, number-more, number-le}
-use Rattle.tiles.specs.laws.Tally.{tally-ext, tally-bound, more-adds}
+use Rattle.tiles.specs.laws.Tally.{tally-ext, tally-bound, more, more-adds}
 use Rattle.hand.proofs.tally_of.Statement.{statement}
 use Rattle.hand.proofs.tally_of.Tie as tie
 
@@ -33,19 +35,54 @@ turn : (c : List ℕ) (i : ℕ) (t u : List ℕ) → length t ≡ 34 → ((k : �
 unfolding at
 turn c i t u l e h k g = h k g ∙ sym (number-more (λ j. eqb (getD c j 0) k) i)
 
+-- one more of a kind, or of what is none
+stored : (t : List ℕ) (a : ℕ) → set t a (getD t a 0 + 1) ≡ more t a 1
+unfolding more
+stored t a = refl
+
+kept : (t : List ℕ) (a : ℕ) → length t ≡ 34 → 34 ≤ a → t ≡ more t a 1
+unfolding more
+kept t a l h = sym (set-out t a (getD t a 0 + 1) (omega arith))
+
+more-long : (t : List ℕ) (a : ℕ) → length t ≡ 34 → length (more t a 1) ≡ 34
+unfolding more
+more-long t a l = simp length-set l
+
+module _ (c : tie.Joined1 Inv-loop μ-loop) where
+  abbrev a : List ℕ
+  a = c .before .before .before .args .t1
+
+  abbrev i : ℕ
+  i = c .before .before .loop .i
+
+  abbrev t : List ℕ
+  t = c .before .before .loop .t
+
+  abbrev long : length t ≡ 34
+  long = c .before .before .loop .inv .1
+
+  added : c .if1 .t ≡ more t (getD a i 0) 1
+  added = ⊎-elim (λ w. w .1 ∙ stored t (getD a i 0)) (λ w. w .1 ∙ kept t (getD a i 0) long (w .0 .left)) (c .if1 .came)
+
+  turned : (k : ℕ) → k < 34 → getD (c .if1 .t) k 0 ≡ among a (i + 1) k
+  turned =
+      let known = c .before .before .loop .inv .2 in
+      turn a i t (c .if1 .t) long known (more-adds t long (c .if1 .t) (among a i) (getD a i 0) 1 added known)
+
 pub tally-of-spec : {M : Type 1} → statement M
 tally-of-spec =
     tie.close
     (tie.spec Inv-loop μ-loop
     (λ c. (search needs, refl, λ k g. getD-replicate 34 k 0 0 g ∙ sym (number-none _)))
     (λ c. search needs)
-    (λ c κs. room (c .before .before .args .t1) (c .before .loop .t) (c .before .loop .i) (c .before .loop .inv .1) (search needs) (c .before .loop .inv .2) _)
-    (λ c. search needs) (λ c. search needs)
+    (λ c. search needs)
+    (λ c. c .if1 .taken)
     (λ c.
     let l = c .before .before .loop in
-    let a = c .before .before .before .args in
-    let e = l .inv .1 in
-    (search needs, search needs, turn (a .t1) (l .i) (l .t) (c .add .result) e (l .inv .2) (more-adds (l .t) e (c .add .result) (among (a .t1) (l .i)) (getD (a .t1) (l .i) 0) 1 (c .add .ensures) (l .inv .2))))
+    omega (arith, room (c .before .before .before .args .t1) (l .t) (l .i) (l .inv .1) (search needs) (l .inv .2) (getD (c .before .before .before .args .t1) (l .i) 0)))
+    (λ c. c .if1 .taken)
+    (λ c. search needs) (λ c. search needs)
+    (λ c. (search needs, ap length (added c) ∙ more-long _ _ (c .before .before .loop .inv .1), turned c))
     (λ c.
     let l = c .before .loop in
     let n : l .i ≡ c .before .before .args .n = omega arith in

@@ -1,13 +1,19 @@
--- `hand_record::held_in` meets its contract: the melds, and the tiles after them.
+-- `hand_record::held_in` meets its contract: a run of m widths of 8, and after it one of 13 - 3m widths of 6.
 use borrow.Author.Needs.{needs}
-use Rattle.hand_record.specs.Record.{tilesOf, heldIn}
+use Rattle.bits.specs.Bits.{bitsOf}
+use Rattle.hand_record.specs.laws.Read.{held-made}
 use Rattle.hand_record.proofs.held_in.Statement.{statement}
 use Rattle.hand_record.proofs.held_in.Tie as tie
 
 pub held-in-spec : {M : Type 1} → statement M
-unfolding heldIn tilesOf
 held-in-spec =
     tie.close
-    (tie.spec (λ c κs. search needs)
-    (λ c. search needs) (λ c. search needs) (λ c. search needs) (λ c. search needs) (λ c κs. search needs)
-    (λ c. rw (c .tiles-in .ensures, c .before .melds-in .ensures)))
+    (tie.spec (λ c. search needs)
+    (λ c κs. search needs)
+    (λ c. search needs) (λ c. search needs) (λ c. search needs) (λ c. search needs)
+    (λ c. search needs)
+    (λ c κs. search needs)
+    (λ c.
+    let a = c .before .before .before .before .before .before .before in
+    held-made (a .args .at) (a .args .m) (bitsOf (a .args .s .now)) _ _ (a .pre .0) (c .before .before .before .before .run-into .ensures)
+    (c .before .run-into2 .ensures)))

@@ -1,29 +1,33 @@
 -- What `readOf` comes to, case by case.
-use Prim.Native.Nat.{ℕ, zero, suc, _+_, _*_, _-_, _≤_}
+use Prim.Native.Nat.{ℕ, zero, suc, _+_, _*_, _-_, _≤_, _<_}
 use mathlib.Core.Path.{_≡_, refl, sym, ap, _∙_}
 use mathlib.Core.Bool.{Bool, true, false, _||_, not}
-use mathlib.Core.List.{List, [], _∷_}
+use mathlib.Core.List.{List}
 use native.Mathlib.Omega.{arith}
 use borrow.Author.Tests.{ltb-false, le-ltb, eqb-true, eq-eqb, not-false}
 use lib.Dec.{ltb, eqb}
-use lib.ListN.{length, getD}
+use lib.ListN.{length, take, drop, replicate, length-replicate}
+use lib.Seq.{drop-drop, sets}
 use Rattle.tiles.specs.laws.Below.{or-both}
-use Rattle.bits.specs.Bits.{eights, bitsOf, fill}
-use Rattle.bits.specs.laws.Pack.{length-bitsOf, part-fill, sum-replicate}
+use Rattle.bits.specs.Bits.{val, unpack, eights, bitsOf, fill}
+use Rattle.bits.specs.laws.Pack.{sets-fill, length-unpack}
+use Rattle.hand.specs.declared.Fields.{Fields}
+use Rattle.hand.specs.declared.Held.{Held}
+use Rattle.hand.specs.Refusals.{refusalOf}
 use Rattle.hand_record.specs.declared.Head.{Head}
-use Rattle.hand_record.specs.Record.{head, headBy, sixes, lengthOf, padOf, headOf, meldsOf, tilesOf, heldIn, paddingAfter, paddingOf, handIn, refusedWith, wrongLength, countIn, judged, readOf}
+use Rattle.hand_record.specs.Record.{head, headBy, sixes, lengthOf, padOf, headOf, meldsOf, tilesOf, heldIn, paddingAfter, paddingOf, handIn, refusedWith, wrongLength, countIn, answerBy, judged, readOf}
 
 pub bool-true : (b : Bool) → (b ≡ false → ⊥) → b ≡ true
 bool-true true h = refl
 bool-true false h = absurd (h refl)
 
 -- the widths of a record fill its bytes
-pub whole : (m : ℕ) → m ≤ 4 → (25 + 8 * m + 6 * (13 - 3 * m) + padOf m ≡ 8 * lengthOf m) × (padOf m ≤ 8) × (lengthOf m ≤ 13) × (4 ≤ lengthOf m)
-whole zero h = (refl, omega arith, omega arith, omega arith)
-whole (suc zero) h = (refl, omega arith, omega arith, omega arith)
-whole (suc (suc zero)) h = (refl, omega arith, omega arith, omega arith)
-whole (suc (suc (suc zero))) h = (refl, omega arith, omega arith, omega arith)
-whole (suc (suc (suc (suc zero)))) h = (refl, omega arith, omega arith, omega arith)
+pub whole : (m : ℕ) → m ≤ 4 → (25 + 8 * m + 6 * (13 - 3 * m) + padOf m ≡ 8 * lengthOf m) × (padOf m ≤ 8) × (lengthOf m ≤ 13) × (4 ≤ lengthOf m) × (0 < padOf m)
+whole zero h = (refl, omega arith, omega arith, omega arith, omega arith)
+whole (suc zero) h = (refl, omega arith, omega arith, omega arith, omega arith)
+whole (suc (suc zero)) h = (refl, omega arith, omega arith, omega arith, omega arith)
+whole (suc (suc (suc zero))) h = (refl, omega arith, omega arith, omega arith, omega arith)
+whole (suc (suc (suc (suc zero)))) h = (refl, omega arith, omega arith, omega arith, omega arith)
 whole (suc (suc (suc (suc (suc m))))) h = absurd (omega arith)
 
 -- a length of n bytes is right for m melds
@@ -46,34 +50,60 @@ pub read-not : (s : List ℕ) → (RightLength (length s) (countIn s) → ⊥) �
 unfolding readOf
 read-not s h = rw (bool-true (wrongLength (length s) (countIn s)) (λ e. h (length-of _ _ e)))
 
--- a record of the right length, read from its bits with zeros after them
-pub head-fill : (s : List ℕ) → 4 ≤ length s → headOf (fill 104 (bitsOf s)) ≡ headOf (bitsOf s)
-unfolding headOf
-head-fill s h = ap headBy (part-fill 104 0 head (bitsOf s) (omega (arith, length-bitsOf s)))
-
-module _ (s : List ℕ) (m : ℕ) (f : RightLength (length s) m) where
-  melds-fill : meldsOf 25 m (fill 104 (bitsOf s)) ≡ meldsOf 25 m (bitsOf s)
-  unfolding meldsOf
-  melds-fill = part-fill 104 25 (eights m) (bitsOf s) (omega (arith, sum-replicate m 8, whole m (f .few), length-bitsOf s))
-
-  tiles-fill : tilesOf 25 m (fill 104 (bitsOf s)) ≡ tilesOf 25 m (bitsOf s)
-  unfolding tilesOf
-  tiles-fill =
-      part-fill 104 (25 + 8 * m) (sixes (13 - 3 * m)) (bitsOf s) (omega (arith, sum-replicate (13 - 3 * m) 6, whole m (f .few), length-bitsOf s))
-
-  padding-fill : paddingOf m (fill 104 (bitsOf s)) ≡ paddingOf m (bitsOf s)
-  unfolding paddingAfter
-  padding-fill =
-      ap (λ (l : List ℕ). getD l 0 0)
-      (part-fill 104 (25 + 8 * m + 6 * (13 - 3 * m)) (padOf m ∷ []) (bitsOf s) (omega (arith, whole m (f .few), length-bitsOf s)))
-
-  judged-fill : judged m (fill 104 (bitsOf s)) ≡ judged m (bitsOf s)
-  unfolding judged handIn heldIn
-  judged-fill = rw (head-fill s (f .four), melds-fill, tiles-fill, padding-fill)
-
--- over what a reader's calls gave
-pub read-by : (s b : List ℕ) (m : ℕ) → b ≡ fill 104 (bitsOf s) → m ≡ headOf b .m → RightLength (length s) m → judged m b ≡ readOf s
+-- a record of the right length
+pub read-as : (s : List ℕ) (m : ℕ) → countIn s ≡ m → RightLength (length s) m → judged m (bitsOf s) ≡ readOf s
 unfolding readOf
-read-by s b m eb em r =
-    let e : countIn s ≡ m = sym (em ∙ ap (λ (l : List ℕ). headOf l .m) eb ∙ ap (λ (h : Head). h .m) (head-fill s (r .four))) in
-    rw (eb, e, length-right (length s) m r) (judged-fill s m r)
+read-as s m e r = rw (e, length-right (length s) m r)
+
+-- the eight fields of a head, each by where it starts
+pub head-at : (b : List ℕ) → headBy (unpack head b) ≡ record {
+  fields = record {
+    how = val 0 (take 1 (drop 0 b));
+    winner = val 0 (take 2 (drop 1 b));
+    discarder = val 0 (take 2 (drop 3 b));
+    riichi = val 0 (take 2 (drop 5 b));
+    situation = val 0 (take 3 (drop 7 b));
+    indicator = val 0 (take 6 (drop 10 b));
+    winning = val 0 (take 6 (drop 16 b));
+  };
+  m = val 0 (take 3 (drop 22 b));
+}
+head-at b =
+    let d3 : drop 2 (drop 1 b) ≡ drop 3 b = drop-drop 2 1 b in
+    let d5 : drop 2 (drop 3 b) ≡ drop 5 b = drop-drop 2 3 b in
+    let d7 : drop 2 (drop 5 b) ≡ drop 7 b = drop-drop 2 5 b in
+    let d10 : drop 3 (drop 7 b) ≡ drop 10 b = drop-drop 3 7 b in
+    let d16 : drop 6 (drop 10 b) ≡ drop 16 b = drop-drop 6 10 b in
+    let d22 : drop 6 (drop 16 b) ≡ drop 22 b = drop-drop 6 16 b in
+    rw (d3, d5, d7, d10, d16, d22)
+
+-- and the meld count alone
+pub count-at : (s : List ℕ) → val 0 (take 3 (drop 22 (bitsOf s))) ≡ countIn s
+unfolding headOf
+count-at s = ap (λ (h : Head). h .m) (sym (head-at (bitsOf s)))
+
+-- n fields of one width w, stored in k zeros
+run-filled : (n k w : ℕ) (l out : List ℕ) → n ≤ k → out ≡ sets (replicate k 0) 0 (unpack (replicate n w) l) → out ≡ fill k (unpack (replicate n w) l)
+run-filled n k w l out h e = e ∙ sets-fill k (unpack (replicate n w) l) (omega (arith, length-unpack (replicate n w) l, length-replicate {A = ℕ} n w))
+
+-- the tiles held, by what the two runs of fields stored
+pub held-made : (at m : ℕ) (b x y : List ℕ) → m ≤ 4
+    → x ≡ sets (replicate 4 0) 0 (unpack (eights m) (drop at b))
+    → y ≡ sets (replicate 13 0) 0 (unpack (sixes (13 - 3 * m)) (drop (at + 8 * m) b))
+    → record { m = m; melds = x; concealed = y } ≡ heldIn at m b
+unfolding heldIn meldsOf tilesOf
+held-made at m b x y h p q = rw (run-filled m 4 8 (drop at b) x h p, run-filled (13 - 3 * m) 13 6 (drop (at + 8 * m) b) y (omega arith) q)
+
+-- the padding, by where it ends
+pub padding-last : (at m n : ℕ) (s : List ℕ) → at + 8 * m + 6 * (13 - 3 * m) + n ≡ 8 * length s
+    → val 0 (take n (drop (8 * length s - n) (bitsOf s))) ≡ paddingAfter at m n (bitsOf s)
+unfolding paddingAfter
+padding-last at m n s e =
+    let k : 8 * length s - n ≡ at + 8 * m + 6 * (13 - 3 * m) = omega arith in
+    ap (λ (i : ℕ). val 0 (take n (drop i (bitsOf s)))) k
+
+-- a record of the right length, by what the calls of its reader gave
+pub judged-by : (m : ℕ) (b : List ℕ) (f : Fields) (x : Held) (p j : ℕ) → f ≡ headOf b .fields → x ≡ heldIn 25 m b → p ≡ paddingOf m b
+    → j ≡ refusalOf (record { fields = f; held = x }) p → answerBy (record { fields = f; held = x }) j ≡ judged m b
+unfolding judged handIn
+judged-by m b f x p j ef ex ep ej = rw (ej, ep, ex, ef)

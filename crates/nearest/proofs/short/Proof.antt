@@ -21,17 +21,23 @@ short-spec =
     tie.close
     (tie.spec Inv-loop μ-loop
     (λ c. (omega arith, refl, λ j l. absurd (omega arith)))
+    (λ c. omega (arith, c .before .before .pre .0))
     (λ c. omega arith)
     (λ c. omega arith)
+    (λ c. rw (c .before .before .before .loop .inv .1) (omega arith))
     (λ c. omega arith)
-    (λ c. rw (c .before .before .loop .inv .1) (omega arith))
+    (λ c. let i = c .before .before in record {
+      kind = i .before .loop .k;
+      low = i .loop-test .taken;
+      lack = c .if1 .taken;
+      less-one = rw
+          (i .before .loop .inv .1);
+    })
     (λ c. omega arith)
-    (λ c. record { kind = c .before .before .loop .k; low = c .before .loop-test .taken; lack = c .if1 .taken; less-one = rw (c .before .before .loop .inv .1) })
     (λ c. omega arith)
-    (λ c. omega arith)
-    (λ c. (omega arith, c .before .before .loop .inv .1, below-more _ _ (c .before .before .loop .inv .2) (c .if1 .left)))
+    (λ c. let l = c .before .before .before .loop in (omega arith, l .inv .1, below-more _ _ (l .inv .2) (c .if1 .left)))
     (λ c.
-    let t = c .before .before .args .t1 in
+    let t = c .before .before .args .t .now in
     let w = c .before .before .args .t2 in
     let h = total-le-of (λ k. getD w k 0) (λ k. getD t k 0) 34 (λ j l. c .before .loop .inv .2 j (omega arith)) in
-    absurd (omega (arith, c .before .before .pre))))
+    absurd (omega (arith, c .before .before .pre .1))))

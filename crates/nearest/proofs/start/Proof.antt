@@ -8,7 +8,8 @@ use Rattle.nearest.proofs.start.Statement.{statement}
 use Rattle.nearest.proofs.start.Tie as tie
 
 -- after the first two starts
-leads : (c : tie.Joined2) → Leads (c .before .before .before .before .before .args .t) (c .before .before .before .before .before .args .d) (c .before .before .before .before .before .args .m) (c .if2 .s)
+leads : (c : tie.Joined2) → Leads (c .before .before .before .before .before .args .t .now) (c .before .before .before .before .before .args .d .now)
+    (c .before .before .before .before .before .args .m) (c .if2 .s)
 leads c =
     ⊎-elim
     (λ w. rw (w .1) (leads-seven _ _ _ _ (c .before .before .before .before .before .pre .1) (c .before .before .before .before .before .pre .0) (c .before .before .before .if1 .left) _ (c .before .before .before .before .state .ensures (4 - c .before .before .before .before .before .args .m) (omega arith)) (w .0 .taken)))
@@ -20,7 +21,7 @@ start-spec =
     tie.close
     (tie.spec (λ c. search needs) (λ c κs. search needs)
     (λ c. rw (c .before .state .ensures (4 - c .before .before .args .m) (omega arith)) (top-melded _ _ _ (c .before .before .pre .0) (c .if1 .taken)))
+    (λ c. search needs) (λ c. search needs) (λ c. search needs) (λ c. search needs)
     (λ c. search needs) (λ c. search needs) (λ c. search needs)
-    (λ c. search needs) (λ c. search needs)
     (λ c. top-orphans _ _ _ _ (c .before .before .before .before .before .before .before .before .before .pre .1) (c .before .before .before .before .before .before .before .before .before .pre .0) (c .before .before .before .before .before .before .before .if1 .left) _ (leads (c .before .before .before .before)) (c .if3 .taken))
     (λ c. top-leads _ _ _ _ (c .before .before .before .before .before .before .before .before .before .pre .1) (c .before .before .before .before .before .before .before .before .before .pre .0) (c .before .before .before .before .before .before .before .if1 .left) _ (leads (c .before .before .before .before)) (c .if3 .left)))

@@ -97,14 +97,14 @@ module _ (have room : ℕ) (later : ℕ → ℕ) (k s : ℕ) where
     }
 
 -- ---- choices that cannot be made are passed over
-may-not : (k s e : ℕ) → s < 70 → (xOf e + yOf e ≤ gOf s → zOf e ≤ pOf s → (0 < xOf e → isRunStart k ≡ true) → ⊥) → may k s e ≡ false
+pub may-not : (k s e : ℕ) → s < 70 → (xOf e + yOf e ≤ gOf s → zOf e ≤ pOf s → (0 < xOf e → isRunStart k ≡ true) → ⊥) → may k s e ≡ false
 may-not k s e l h = go (may k s e) refl
   where
     go : (b : Bool) → may k s e ≡ b → may k s e ≡ false
     go true q = let (x, y, z) = may-parts k s e l q in absurd (h x y z)
     go false q = q
 
-special-may : (k s e : ℕ) → 70 ≤ s → 2 ≤ e → may k s e ≡ false
+pub special-may : (k s e : ℕ) → 70 ≤ s → 2 ≤ e → may k s e ≡ false
 unfolding may
 special-may k s e l h = rw (le-ltb s 70 l, lt-leb e 1 h) (either (ltb s 78))
   where
@@ -121,22 +121,18 @@ module _ (have room : ℕ) (later : ℕ → ℕ) (k s : ℕ) where
       go true = rw h
       go false = refl
 
-  pass-one : (e : ℕ) (b : Choice) → may k s e ≡ false → Chose have room later k s e b → Chose have room later k s (e + 1) b
-  pass-one e b h c = record { value = rw (most-more (worth have room later k s) e) (omega (arith, worth-none e h, c .value)); got = c .got; low = c .low }
-
-  pass-n : (n i : ℕ) (b : Choice) → ((e : ℕ) → i ≤ e → e < i + n → may k s e ≡ false) → Chose have room later k s i b → Chose have room later k s (i + n) b
-  pass-n zero i b h c = let q : i + 0 ≡ i = omega arith in rw q c
-  pass-n (suc n) i b h c =
+  pass-n : (n i : ℕ) → ((e : ℕ) → i ≤ e → e < i + n → may k s e ≡ false) → most i (worth have room later k s) ≡ most (i + n) (worth have room later k s)
+  pass-n zero i h = let q : i + 0 ≡ i = omega arith in rw q
+  pass-n (suc n) i h =
       let q : i + suc n ≡ i + n + 1 = omega arith in
-      rw q (pass-one (i + n) b (h (i + n) (omega arith) (omega arith)) (pass-n n i b (λ e x y. h e x (omega arith)) c))
+      let x = worth-none (i + n) (h (i + n) (omega arith) (omega arith)) in
+      rw (q, most-more (worth have room later k s) (i + n)) (omega (arith, pass-n n i (λ e a b. h e a (omega arith))))
 
-  pass : (i j : ℕ) (b : Choice) → i ≤ j → ((e : ℕ) → i ≤ e → e < j → may k s e ≡ false) → Chose have room later k s i b → Chose have room later k s j b
-  pass i j b l h c =
+  -- choices that cannot be made are worth nothing
+  pub pass : (i j : ℕ) → i ≤ j → ((e : ℕ) → i ≤ e → e < j → may k s e ≡ false) → most i (worth have room later k s) ≡ most j (worth have room later k s)
+  pass i j l h =
       let q : i + (j - i) ≡ j = omega arith in
-      subst (λ (x : ℕ). Chose have room later k s x b) q (pass-n (j - i) i b (λ e x y. h e x (omega arith)) c)
-
-  pub pass-special : (b : Choice) → 70 ≤ s → Chose have room later k s 2 b → Chose have room later k s 10 b
-  pass-special b l c = pass 2 10 b (omega arith) (λ e x y. special-may k s e l x) c
+      subst (λ (x : ℕ). most i (worth have room later k s) ≡ most x (worth have room later k s)) q (pass-n (j - i) i (λ e x y. h e x (omega arith)))
 
 -- past the choices that the groups left allow, and past the first three where no run begins
 more-groups : ℕ → Bool
@@ -146,7 +142,7 @@ more-all : every 50 more-groups ≡ true
 unfolding every more-groups choices xOf yOf
 more-all = refl
 
-over-groups : (g e : ℕ) → g ≤ 4 → e < 10 → choices g ≤ e → g < xOf e + yOf e
+pub over-groups : (g e : ℕ) → g ≤ 4 → e < 10 → choices g ≤ e → g < xOf e + yOf e
 unfolding more-groups
 over-groups g e h l i =
     let c = 10 * g + e in
@@ -162,7 +158,7 @@ begins-all : every 10 begins ≡ true
 unfolding every begins xOf
 begins-all = refl
 
-begins-run : (e : ℕ) → e < 10 → 3 ≤ e → 0 < xOf e
+pub begins-run : (e : ℕ) → e < 10 → 3 ≤ e → 0 < xOf e
 unfolding begins
 begins-run e l h = ltb-true _ _ (rw (le-leb 3 e h) at (every-at begins 10 e begins-all l))
 
@@ -221,4 +217,4 @@ module _ (have room : ℕ) (later : ℕ → ℕ) (k s n : ℕ) (u : Parts) (b : 
           special-may k s e l (omega arith)
 
   pub tries-done : Chose have room later k s n b → Chose have room later k s 10 b
-  tries-done = pass have room later k s n 10 b tries-low none-later
+  tries-done h = record { value = h .value ∙ pass have room later k s n 10 tries-low none-later; got = h .got; low = h .low }

@@ -13,7 +13,7 @@ use lib.Seq.{getD-set-same, getD-set-other}
 use Rattle.tiles.specs.Below.{total}
 use Rattle.nearest.specs.declared.Choice.{Choice}
 use Rattle.choices.specs.search.Moves.{may, taken, next, fine, ended, most, kept, worth, best, state, aOf, gOf, pOf, xOf, yOf, zOf}
-use Rattle.nearest.specs.search.Found.{Got, Chose, after, bestAt, Fours, Filled, Walked, Topmost}
+use Rattle.nearest.specs.search.Found.{Got, Chose, after, bestAt, Small, Fours, Filled, Walked, Topmost}
 use Rattle.choices.specs.laws.Sums.{total-suc, total-zero, total-cong}
 use Rattle.choices.specs.laws.Most.{most-cong, most-le}
 use Rattle.choices.specs.laws.Reach.{Reach, begin, move, both, fine-parts, reach-cong}
@@ -71,12 +71,12 @@ unfolding best
 best-suc-is t d n k s = refl
 
 module _ (t d table : List ℕ) (k s : ℕ) (lk : k < 34) (ls : s < 80) (later : (r : ℕ) → r < 80 → after table k r ≡ best t d (33 - k) (suc k) r) where
-  -- what is chosen by a table that has the later values is the value
-  pub chose-best : (c : Choice) → Chose (getD t k 0) (4 - getD d k 0) (after table k) k s 10 c → c .value ≡ best t d (34 - k) k s
-  chose-best c h =
+  -- the most by a table that has the later values is the value
+  pub most-best : (v : ℕ) → v ≡ most 10 (worth (getD t k 0) (4 - getD d k 0) (after table k) k s) → v ≡ best t d (34 - k) k s
+  most-best v h =
       let n : 34 - k ≡ suc (33 - k) = omega arith in
       rw n
-      (h .value
+      (h
       ∙ most-cong (worth (getD t k 0) (4 - getD d k 0) (after table k) k s) (worth (getD t k 0) (4 - getD d k 0) (best t d (33 - k) (suc k)) k s) 10
       (λ e l. worth-cong (getD t k 0) (4 - getD d k 0) (after table k) (best t d (33 - k) (suc k)) k s e ls later)
       ∙ sym (best-suc-is t d (33 - k) k s))
@@ -92,12 +92,14 @@ later-of t d table i k lk li h r lr =
     let n : 34 - suc k ≡ 33 - k = omega arith in
     h j (omega arith) (omega arith) ∙ rw (q, m, n)
 
--- the value at the place i
-pub place-value : (t d table : List ℕ) (i : ℕ) (c : Choice) → i < 2720 → ((j : ℕ) → i + 1 ≤ j → j < 2800 → getD table j 0 ≡ bestAt t d j) →
-    Chose (getD t (i / 80) 0) (4 - getD d (i / 80) 0) (after table (i / 80)) (i / 80) (i % 80) 10 c → c .value ≡ bestAt t d i
+-- the value at the place of the state s at the kind k
+pub place-value : (t d table : List ℕ) (k s v : ℕ) → k < 34 → s < 80 → ((j : ℕ) → 80 * k + s + 1 ≤ j → j < 2800 → getD table j 0 ≡ bestAt t d j) →
+    v ≡ most 10 (worth (getD t k 0) (4 - getD d k 0) (after table k) k s) → v ≡ bestAt t d (80 * k + s)
 unfolding bestAt
-place-value t d table i c l h p =
-    chose-best t d table (i / 80) (i % 80) (omega arith) (omega arith) (later-of t d table (i + 1) (i / 80) (omega arith) (omega arith) h) c p
+place-value t d table k s v lk ls h p =
+    let q : (80 * k + s) / 80 ≡ k = omega arith in
+    let m : (80 * k + s) % 80 ≡ s = omega arith in
+    rw (q, m) (most-best t d table k s lk ls (later-of t d table (80 * k + s + 1) k lk (omega arith) h) v p)
 
 pub best-small : (t d : List ℕ) (j : ℕ) → Fours t → bestAt t d j ≤ 200
 unfolding bestAt
@@ -109,7 +111,7 @@ pub record Filling (t d : List ℕ) (i : ℕ) (table : List ℕ) : Type 0 where
   pub low : i ≤ 2720
   pub long : length table ≡ 2800
   pub values : (j : ℕ) → i ≤ j → j < 2800 → getD table j 0 ≡ bestAt t d j
-  pub small : (j : ℕ) → getD table j 0 ≤ 200
+  pub small : Small table
 
 -- the last row: nothing is left to do in three states
 module _ (t d : List ℕ) (z : List ℕ) (l : length z ≡ 2800) (e : (j : ℕ) → getD z j 0 ≡ 0) where
@@ -170,25 +172,27 @@ module _ (t d : List ℕ) (z : List ℕ) (l : length z ≡ 2800) (e : (j : ℕ) 
   }
 
 -- one place more
-pub filling-more : (t d table : List ℕ) (i : ℕ) (c : Choice) → Fours t → i < 2720 → Filling t d (i + 1) table →
-    Chose (getD t (i / 80) 0) (4 - getD d (i / 80) 0) (after table (i / 80)) (i / 80) (i % 80) 10 c → Filling t d i (set table i (c .value))
-filling-more t d table i c f h p q =
+pub filling-more : (t d table : List ℕ) (k s v : ℕ) → Fours t → k < 34 → s < 80 → Filling t d (80 * k + s + 1) table →
+    v ≡ most 10 (worth (getD t k 0) (4 - getD d k 0) (after table k) k s) → Filling t d (80 * k + s) (set table (80 * k + s) v)
+filling-more t d table k s v f lk ls p q =
+    let i = 80 * k + s in
     let l : length table ≡ 2800 = p .long in
-    let v : c .value ≡ bestAt t d i = place-value t d table i c h (p .values) q in
+    let o : v ≡ bestAt t d i = place-value t d table k s v lk ls (p .values) q in
     record {
       low = omega arith;
       long = rw length-set l;
-      values = λ j a b. at l v j a b (eqb j i) refl;
-      small = λ j. under l v j (eqb j i) refl;
+      values = λ j a b. at i l o (omega arith) (p .values) j a b (eqb j i) refl;
+      small = λ j. under i l o (omega arith) j (eqb j i) refl;
     }
   where
-    at : length table ≡ 2800 → c .value ≡ bestAt t d i → (j : ℕ) → i ≤ j → j < 2800 → (b : Bool) → eqb j i ≡ b → getD (set table i (c .value)) j 0 ≡ bestAt t d j
-    at l v j lo hi true e = let o : j ≡ i = eqb-true j i e in rw o (getD-set-same table i (c .value) 0 (omega arith) ∙ v)
-    at l v j lo hi false e = let o : j ≡ i → ⊥ = eqb-false j i e in getD-set-other table i j (c .value) 0 o ∙ p .values j (omega arith) hi
+    at : (i : ℕ) → length table ≡ 2800 → v ≡ bestAt t d i → i < 2800 → ((j : ℕ) → i + 1 ≤ j → j < 2800 → getD table j 0 ≡ bestAt t d j) →
+        (j : ℕ) → i ≤ j → j < 2800 → (b : Bool) → eqb j i ≡ b → getD (set table i v) j 0 ≡ bestAt t d j
+    at i l o u h j lo hi true e = let w : j ≡ i = eqb-true j i e in rw w (getD-set-same table i v 0 (omega arith) ∙ o)
+    at i l o u h j lo hi false e = let w : j ≡ i → ⊥ = eqb-false j i e in getD-set-other table i j v 0 w ∙ h j (omega arith) hi
 
-    under : length table ≡ 2800 → c .value ≡ bestAt t d i → (j : ℕ) → (b : Bool) → eqb j i ≡ b → getD (set table i (c .value)) j 0 ≤ 200
-    under l v j true e = let o : j ≡ i = eqb-true j i e in rw o (rw (getD-set-same table i (c .value) 0 (omega arith), v) (best-small t d i f))
-    under l v j false e = rw (getD-set-other table i j (c .value) 0 (eqb-false j i e)) (p .small j)
+    under : (i : ℕ) → length table ≡ 2800 → v ≡ bestAt t d i → i < 2800 → (j : ℕ) → (b : Bool) → eqb j i ≡ b → getD (set table i v) j 0 ≤ 200
+    under i l o u j true e = let w : j ≡ i = eqb-true j i e in rw w (rw (getD-set-same table i v 0 (omega arith), o) (best-small t d i f))
+    under i l o u j false e = rw (getD-set-other table i j v 0 (eqb-false j i e)) (p .small j)
 
 pub filling-done : (t d table : List ℕ) (i : ℕ) → i ≡ 0 → Filling t d i table → Filled t d table
 filling-done t d table i e f = record { values = λ j l. f .values j (omega arith) l; small = f .small }
@@ -220,7 +224,7 @@ module _ (t d table w : List ℕ) (start k s : ℕ) (c : Choice) (l : k < 34) (f
   v = set w k (c .tiles)
 
   worth-it : c .value ≡ best t d (34 - k) k s
-  worth-it = chose-best t d table k s l (h .state-low) (filled-later t d table k l f) c p
+  worth-it = most-best t d table k s l (h .state-low) (filled-later t d table k l f) (c .value) (p .value)
 
   got : Got (getD t k 0) (4 - getD d k 0) (after table k) k s c
   got = p .got (rw worth-it (h .more))

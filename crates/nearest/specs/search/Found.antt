@@ -7,7 +7,7 @@ use lib.ListN.{length, getD}
 use Rattle.tiles.specs.Below.{total}
 use Rattle.reading.specs.search.Readings.{less}
 use Rattle.nearest.specs.declared.Choice.{Choice}
-use Rattle.choices.specs.search.Moves.{taken, next, fine, ended, most, worth, best}
+use Rattle.choices.specs.search.Moves.{xOf, yOf, zOf, taken, next, fine, ended, most, worth, best}
 use Rattle.choices.specs.laws.Reach.{Reach, both}
 use Rattle.choices.specs.laws.Near.{Start}
 
@@ -27,6 +27,13 @@ pub record Chose (have room : ℕ) (later : ℕ → ℕ) (k s i : ℕ) (c : Choi
   pub got : 1 ≤ c .value → Got have room later k s c
   pub low : c .to < 80
 
+-- the choices e and e + 1 are x runs without a pair and with one
+pub record Pairs (e x : ℕ) : Type 0 where
+  pub low : e + 2 ≤ 10
+  pub runs : (xOf e ≡ x) × (xOf (e + 1) ≡ x)
+  pub triplets : (yOf e ≡ 0) × (yOf (e + 1) ≡ 0)
+  pub pair : (zOf e ≡ 0) × (zOf (e + 1) ≡ 1)
+
 -- the values of the states at the kind after k, in a table
 abbrev pub after : List ℕ → ℕ → ℕ → ℕ
 after table k r = getD table (80 * (k + 1) + r) 0
@@ -35,6 +42,10 @@ after table k r = getD table (80 * (k + 1) + r) 0
 unfoldable pub bestAt : List ℕ → List ℕ → ℕ → ℕ
 bestAt t d j = best t d (34 - j / 80) (j / 80) (j % 80)
 
+-- no value is over 200
+abbrev pub Small : List ℕ → Type 0
+Small table = (j : ℕ) → getD table j 0 ≤ 200
+
 -- no kind over four
 abbrev pub Fours : List ℕ → Type 0
 Fours t = (k : ℕ) → getD t k 0 ≤ 4
@@ -42,7 +53,7 @@ Fours t = (k : ℕ) → getD t k 0 ≤ 4
 -- the table has the values
 pub record Filled (t d table : List ℕ) : Type 0 where
   pub values : (j : ℕ) → j < 2800 → getD table j 0 ≡ bestAt t d j
-  pub small : (j : ℕ) → getD table j 0 ≤ 200
+  pub small : Small table
 
 -- w takes the best choices from the state start
 pub record Walked (t d : List ℕ) (start : ℕ) (w : List ℕ) : Type 0 where

@@ -1,24 +1,27 @@
--- The equations of a search that judges readings as it finds them, for any judge: the loops over places, over codes with a recursion for
--- each group that is taken, and over pairs. In each, what is left to do gives the target.
+-- The equations of a search that judges readings as it finds them, for any judge: the loops over places, over the splittings that are stored, and
+-- over pairs. In each, what is left to do gives the target.
 use mathlib.Core.Path.{_≡_, refl, sym, ap, _∙_}
-use mathlib.Core.Bool.{Bool, true, false, cond}
-use mathlib.Core.List.{List, [], _∷_, _++_, map, append-nil}
+use mathlib.Core.Bool.{Bool, true, false}
+use mathlib.Core.List.{List, [], _∷_, _++_, map}
 use Prim.Native.Nat.{ℕ, zero, suc, _+_, _-_, _≤_, _<_}
-use native.Mathlib.Nat.{sub-self}
+use native.Mathlib.Nat.{sub-self, add-zero, add-suc, suc-add}
 use native.Mathlib.Numerals.{add-one}
 use native.Mathlib.Omega.{arith}
-use borrow.Author.Tests.{le-leb, lt-leb, ne-eqb}
-use lib.Dec.{leb, eqb}
-use lib.ListN.{length, getD, set, drop, replicate}
+use borrow.Author.Tests.{le-leb, lt-leb, leb-true, ltb-true, ltb-false, ne-eqb}
+use lib.Dec.{ltb, leb, eqb}
+use lib.ListN.{length, getD, drop, replicate, List·getD-append}
 use lib.Seq.{sets, sets-eq}
 use Rattle.tiles.specs.Below.{tabulate}
 use Rattle.reading.specs.declared.Reading.{Reading}
 use Rattle.reading.specs.Reading.{isSevenPairs, isOrphans, ofShape}
 use Rattle.reading.specs.search.Judged.{judged}
-use Rattle.reading.specs.search.Readings.{when, concatMap, isEmpty, less, fits, without, passes, step, splits, placedAt, placed, paired, shaped, readings}
-use Rattle.reading.specs.laws.Lists.{each-imp, concat-cong, concat-append, concat-map}
+use Rattle.reading.specs.search.Readings.{when, concatMap, less, splits, placedAt, placed, paired, shaped, readings}
+use Rattle.reading.specs.laws.Lists.{each-imp, concat-cong, concat-map}
 use Rattle.reading.specs.laws.Groups.{less-long}
 use Rattle.reading.specs.laws.Splits.{splits-sound}
+use Rattle.reading.specs.search.Pairs.{Among, OnlyPairs}
+use Rattle.reading.specs.laws.Pairs.{no-splits}
+use Rattle.reading.specs.laws.Found.{Stored, behind, behind-three}
 
 drop-replicate : (a j m n : ℕ) → j + m ≡ n → drop j (replicate n a) ≡ replicate m a
 drop-replicate a zero m n e = let q : m ≡ n = omega arith in rw q
@@ -29,6 +32,18 @@ drop-replicate a (suc j) m (suc n) e = drop-replicate a j m n (omega arith)
 sets-nones : (gs : List ℕ) (m : ℕ) → m ≤ 4 → length gs ≡ 4 - m → sets (68 ∷ 68 ∷ 68 ∷ 68 ∷ []) 0 gs ≡ gs ++ replicate m 68
 sets-nones gs m h e =
     sets-eq gs (68 ∷ 68 ∷ 68 ∷ 68 ∷ []) 0 (omega (arith, e)) ∙ ap (λ (l : List ℕ). gs ++ l) (drop-replicate 68 (0 + length gs) m 4 (omega (arith, e)))
+
+-- the items that are stored, one after the other
+getD-stored : (ls old : List (List ℕ)) (i : ℕ) → i < length ls → length ls ≤ length old → getD (sets old 0 ls) (0 + i) [] ≡ getD ls i []
+getD-stored ls old i h l = let e : 0 + i ≡ i = omega arith in rw (e, sets-eq ls old 0 (omega arith)) (List·getD-append ls (drop (0 + length ls) old) [] i h)
+
+listed : (f : List ℕ → List Reading) (ls out : List (List ℕ)) (i : ℕ) → ((j : ℕ) → j < length ls → getD out (i + j) [] ≡ getD ls j []) →
+    concatMap (λ j. f (getD out j [])) (tabulate (length ls) i (λ j. j)) ≡ concatMap f ls
+unfolding concatMap
+listed f [] out i h = refl
+listed f (x ∷ ls) out i h =
+    let e : getD out i [] ≡ x = rw (← add-zero i) (h 0 (omega arith)) in
+    rw (e, listed f ls out (suc i) (λ j l. rw (suc-add, ← add-suc) (h (suc j) (omega arith))))
 
 module _ {B : Type 0} (judge : B → Reading → B) where
   pub judged-append : (b : B) (x y : List Reading) → judged judge b (x ++ y) ≡ judged judge (judged judge b x) y
@@ -72,125 +87,63 @@ module _ {B : Type 0} (judge : B → Reading → B) where
   unfolding ranged
   ranged-still f n i b s = judged-still b s (concatMap f (tabulate (n - i) i (λ k. k)))
 
+  ranged-next : (f : ℕ → List Reading) (n i : ℕ) (b : B) → (i < n → b ≡ judged judge b (f i)) → ranged f n (i + 1) b ≡ ranged f n i b
+  ranged-next f n i b h = go (ltb i n) refl
+    where
+      go : (e : Bool) → ltb i n ≡ e → ranged f n (i + 1) b ≡ ranged f n i b
+      go true e = let l = ltb-true i n e in ranged-turn f n i b b l (h l)
+      go false e = let l = ltb-false i n e in sym (ranged-done f n (i + 1) b (omega arith)) ∙ ranged-done f n i b l
+
+  -- the numbers from i to j give nothing
+  pub ranged-skip : (f : ℕ → List Reading) (n i j : ℕ) (b : B) → i ≤ j → ((k : ℕ) → i ≤ k → k < j → b ≡ judged judge b (f k)) → ranged f n j b ≡ ranged f n i b
+  ranged-skip f n i j b l h = go (j - i) i (omega arith) h
+    where
+      go : (d i : ℕ) → i + d ≡ j → ((k : ℕ) → i ≤ k → k < j → b ≡ judged judge b (f k)) → ranged f n j b ≡ ranged f n i b
+      go zero i e h = let q : j ≡ i = omega arith in ap (λ (x : ℕ). ranged f n x b) q
+      go (suc d) i e h = go d (i + 1) (omega arith) (λ k u v. h k (omega arith) v) ∙ ranged-next f n i b (λ u. h i (omega arith) (omega arith))
+
   -- ---- the places of a pair and groups
   pub placed-all : (n win pair : ℕ) (gs : List ℕ) (b : B) → ranged (placedAt win pair gs) (n + 1) 0 b ≡ judged judge b (placed n win pair gs)
   unfolding ranged placed
   placed-all n win pair gs b = let s : n + 1 - 0 ≡ suc n = omega arith in rw s
 
-  -- ---- the search for groups: a pair, the size of a splitting and the winning kind stay
-  module _ (size win pair : ℕ) where
-    -- what is kept after each of the lists, stored from place i of so on
-    unfoldable pub judgedAll : List ℕ → ℕ → B → List (List ℕ) → B
-    judgedAll so i b gss = judged judge b (concatMap (λ (gs : List ℕ). placed size win pair (sets so i gs)) gss)
-
-    -- what is kept after all splittings of t into n groups from the code c on, each behind the size - n groups that so has
-    unfoldable pub searched : List ℕ → ℕ → ℕ → List ℕ → B → B
-    searched so n c t b = judgedAll so (size - n) b (splits n (68 - c) c t)
-
-    searched-same : (so : List ℕ) (n c : ℕ) (t : List ℕ) (b : B) → Still b → b ≡ searched so n c t b
-    unfolding searched judgedAll
-    searched-same so n c t b s = judged-still b s (concatMap (λ (gs : List ℕ). placed size win pair (sets so (size - n) gs)) (splits n (68 - c) c t))
-
-    judgedAll-taken : (so : List ℕ) (i : ℕ) (b : B) (c : ℕ) (x : List (List ℕ)) (f : Bool) →
-        judgedAll so i b (when f (λ _. map (λ (gs : List ℕ). c ∷ gs) x)) ≡ cond f (judgedAll (set so i c) (suc i) b x) b
-    unfolding judgedAll concatMap judged
-    judgedAll-taken so i b c x true = ap (judged judge b) (concat-map (λ (gs : List ℕ). placed size win pair (sets so i gs)) (λ (gs : List ℕ). c ∷ gs) x)
-    judgedAll-taken so i b c x false = refl
-
-    judgedAll-passed : (so : List ℕ) (i : ℕ) (b : B) (y : List (List ℕ)) (p : Bool) → judgedAll so i b (when p (λ _. y)) ≡ cond p (judgedAll so i b y) b
-    unfolding judgedAll concatMap judged
-    judgedAll-passed so i b y true = refl
-    judgedAll-passed so i b y false = refl
-
-    judgedAll-append : (so : List ℕ) (i : ℕ) (b : B) (x y : List (List ℕ)) → judgedAll so i b (x ++ y) ≡ judgedAll so i (judgedAll so i b x) y
-    unfolding judgedAll
-    judgedAll-append so i b x y =
-        let f : List ℕ → List Reading = λ gs. placed size win pair (sets so i gs) in
-        ap (judged judge b) (concat-append f x y) ∙ judged-append b (concatMap f x) (concatMap f y)
-
-    judgedAll-step : (so : List ℕ) (i n m c : ℕ) (t : List ℕ) (b : B) →
-        let found = cond (fits t c) (judgedAll (set so i c) (suc i) b (splits n (suc m) c (without t c))) b in
-        judgedAll so i b (splits (suc n) (suc m) c t) ≡ cond (passes t c) (judgedAll so i found (splits (suc n) m (c + 1) t)) found
-    unfolding splits step
-    judgedAll-step so i n m c t b =
-        let x = splits n (suc m) c (without t c) in
-        let y = step (splits n) m (c + 1) t in
-        judgedAll-append so i b (when (fits t c) (λ _. map (λ (gs : List ℕ). c ∷ gs) x)) (when (passes t c) (λ _. y))
-        ∙ judgedAll-passed so i _ y (passes t c)
-        ∙ ap (λ (z : B). cond (passes t c) (judgedAll so i z y) z) (judgedAll-taken so i b c x (fits t c))
-
-    -- no group is left to take
-    pub searched-leaf : (so : List ℕ) (n c : ℕ) (t : List ℕ) (b : B) → n ≡ 0 → isEmpty t ≡ true → judged judge b (placed size win pair so) ≡ searched so n c t b
-    unfolding searched judgedAll splits concatMap
-    searched-leaf so n c t b z e = rw (z, e, append-nil)
-
-    pub searched-over : (so : List ℕ) (n c : ℕ) (t : List ℕ) (b : B) → n ≡ 0 → isEmpty t ≡ false → b ≡ searched so n c t b
-    unfolding searched judgedAll splits concatMap judged
-    searched-over so n c t b z e = rw (z, e)
-
-    -- past the last code
-    pub searched-end : (so : List ℕ) (n c : ℕ) (t : List ℕ) (b : B) → (n ≡ 0 → ⊥) → 68 ≤ c → b ≡ searched so n c t b
-    unfolding searched judgedAll splits step concatMap judged
-    searched-end so zero c t b h e = absurd (h refl)
-    searched-end so (suc n) c t b h e = let s : 68 - c ≡ 0 = omega arith in rw s
-
-    -- what is kept once the code c is done with
-    unfoldable pub foundAt : List ℕ → ℕ → ℕ → List ℕ → B → B
-    foundAt so n c t b = cond (fits t c) (searched (set so (size - n) c) (n - 1) c (without t c) b) b
-
-    -- its group fits, and is taken; or it does not
-    pub found-with : (so : List ℕ) (n c : ℕ) (t u : List ℕ) (b r : B) → fits t c ≡ true → u ≡ without t c → r ≡ searched (set so (size - n) c) (n - 1) c u b → r ≡ foundAt so n c t b
-    unfolding foundAt
-    found-with so n c t u b r f e h = rw (f, ← e) h
-
-    pub found-none : (so : List ℕ) (n c : ℕ) (t : List ℕ) (b : B) → fits t c ≡ false → b ≡ foundAt so n c t b
-    unfolding foundAt
-    found-none so n c t b f = rw f
-
-    -- at a code: with its group, where it fits, and then past it
-    searched-step : (so : List ℕ) (n c : ℕ) (t : List ℕ) (b : B) → (n ≡ 0 → ⊥) → n ≤ size → c < 68 →
-        searched so n c t b ≡ cond (passes t c) (searched so n (c + 1) t (foundAt so n c t b)) (foundAt so n c t b)
-    unfolding searched foundAt
-    searched-step so zero c t b h l k = absurd (h refl)
-    searched-step so (suc n) c t b h l k =
-        let e1 : suc n - 1 ≡ n = omega arith in
-        let e2 : size - n ≡ suc (size - suc n) = omega arith in
-        let e3 : 68 - c ≡ suc (67 - c) = omega arith in
-        let e4 : 68 - (c + 1) ≡ 67 - c = omega arith in
-        rw (e1, e2, e3, e4) (judgedAll-step so (size - suc n) n (67 - c) c t b)
-
-    -- the next code
-    pub searched-next : (so : List ℕ) (n c : ℕ) (t : List ℕ) (b found : B) → (n ≡ 0 → ⊥) → n ≤ size → c < 68 →
-        passes t c ≡ true → found ≡ foundAt so n c t b → searched so n (c + 1) t found ≡ searched so n c t b
-    searched-next so n c t b found h l k e q = rw (q, searched-step so n c t b h l k, e)
-
-    -- no later code can take what is left
-    pub searched-stop : (so : List ℕ) (n c : ℕ) (t : List ℕ) (b found : B) → (n ≡ 0 → ⊥) → n ≤ size → c < 68 →
-        passes t c ≡ false → found ≡ foundAt so n c t b → found ≡ searched so n c t b
-    searched-stop so n c t b found h l k e q = rw (q, searched-step so n c t b h l k, e)
-
-    -- no later reading moves what is found
-    pub searched-still : (so : List ℕ) (n c : ℕ) (t : List ℕ) (b found : B) → (n ≡ 0 → ⊥) → n ≤ size → c < 68 →
-        found ≡ foundAt so n c t b → Still found → found ≡ searched so n c t b
-    searched-still so n c t b found h l k q s = go (passes t c) refl
-      where
-        go : (p : Bool) → passes t c ≡ p → found ≡ searched so n c t b
-        go true e = searched-same so n (c + 1) t found s ∙ searched-next so n c t b found h l k e q
-        go false e = searched-stop so n c t b found h l k e q
-
   -- ---- the pairs
   module _ (t : List ℕ) (m win k : ℕ) where
-    pub paired-with : (u : List ℕ) (b x : B) → length t ≡ 34 → m ≤ 4 → 2 ≤ getD t k 0 → u ≡ less t k 2 →
-        x ≡ searched (4 - m) win k (68 ∷ 68 ∷ 68 ∷ 68 ∷ []) (4 - m) 0 u b → x ≡ judged judge b (paired t m win k)
-    unfolding paired searched judgedAll
-    paired-with u b x l h two e q =
-        rw (le-leb 2 (getD t k 0) two, q, e)
-        (ap (judged judge b) (concat-cong _ (λ (gs : List ℕ). placed (4 - m) win k (gs ++ replicate m 68))
-        (each-imp (λ gs s. rw (sub-self (4 - m)) (ap (placed (4 - m) win k) (sets-nones gs m h (s .size)))) (splits-sound (4 - m) 68 0 (less t k 2) (less-long t k 2 l)))))
+    -- each of the splittings that are stored
+    pub paired-with : (u : List ℕ) (old out : List (List ℕ)) (n : ℕ) (b x : B) → length t ≡ 34 → m ≤ 4 → 2 ≤ getD t k 0 → u ≡ less t k 2 → length old ≡ 3 →
+        Stored old 0 (behind (4 - m) (68 ∷ 68 ∷ 68 ∷ 68 ∷ []) (4 - m) 0 u) out n →
+        x ≡ ranged (λ i. placed (4 - m) win k (getD out i [])) n 0 b → x ≡ judged judge b (paired t m win k)
+    unfolding paired ranged behind
+    paired-with u old out n b x l h two e long s q =
+        let v = less t k 2 in
+        let nones : List ℕ = 68 ∷ 68 ∷ 68 ∷ 68 ∷ [] in
+        let f : List ℕ → List Reading = placed (4 - m) win k in
+        let xs = splits (4 - m) 68 0 v in
+        let ls = map (sets nones (4 - m - (4 - m))) xs in
+        let few : length ls ≤ 3 = behind-three (4 - m) nones (4 - m) 0 v (omega arith) (less-long t k 2 l) in
+        let w : Stored old 0 ls out n = rw e at s in
+        let c : n - 0 ≡ length ls = omega (arith, w .place) in
+        rw (le-leb 2 (getD t k 0) two, q)
+        (ap (judged judge b)
+        (ap (λ (i : ℕ). concatMap (λ j. f (getD out j [])) (tabulate i 0 (λ j. j))) c
+        ∙ ap (λ (o : List (List ℕ)). concatMap (λ j. f (getD o j [])) (tabulate (length ls) 0 (λ j. j))) (w .items)
+        ∙ listed f ls (sets old 0 ls) 0 (λ i z. getD-stored ls old i z (omega arith))
+        ∙ concat-map f (sets nones (4 - m - (4 - m))) xs
+        ∙ concat-cong (λ gs. f (sets nones (4 - m - (4 - m)) gs)) (λ (gs : List ℕ). f (gs ++ replicate m 68))
+        (each-imp (λ gs z. rw (sub-self (4 - m)) (ap f (sets-nones gs m h (z .size)))) (splits-sound (4 - m) 68 0 v (less-long t k 2 l)))))
 
     pub paired-none : (b : B) → getD t k 0 < 2 → b ≡ judged judge b (paired t m win k)
     unfolding paired
     paired-none b h = judged-none b _ (leb 2 (getD t k 0)) (lt-leb 2 (getD t k 0) h)
+
+    -- a kind outside those that can be the pair gives no reading
+    pub paired-out : (first last : ℕ) (b : B) → length t ≡ 34 → OnlyPairs t first last → (Among first last k → ⊥) → b ≡ judged judge b (paired t m win k)
+    unfolding paired concatMap judged
+    paired-out first last b l only out = go (leb 2 (getD t k 0)) refl
+      where
+        go : (e : Bool) → leb 2 (getD t k 0) ≡ e → b ≡ judged judge b (paired t m win k)
+        go true e = rw (e, no-splits t first last k l only out (leb-true 2 (getD t k 0) e) (4 - m))
+        go false e = rw e
 
   -- ---- the whole: the pairs, then the other shapes
   module _ (t : List ℕ) (m : ℕ) where

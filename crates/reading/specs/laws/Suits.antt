@@ -29,7 +29,7 @@ unfolding suitOf
 suit-triplet c h = rw (le-ltb c 34 h)
 
 -- 1 for a group of the suit s
-abbrev one : ℕ → ℕ → ℕ
+abbrev pub one : ℕ → ℕ → ℕ
 one s c = cond (eqb (suitOf c) s) 1 0
 
 -- how many groups are of the suit s
@@ -39,7 +39,7 @@ ofSuit s l = sumOver (one s) l
 -- ---- tiles of a suit are three for each of its groups
 
 -- of the nine kinds of a suit
-nine : (a n s : ℕ) → sum 9 (λ i. at a n (9 * s + i)) ≡ cond (eqb (a / 9) s) n 0
+pub nine : (a n s : ℕ) → sum 9 (λ i. at a n (9 * s + i)) ≡ cond (eqb (a / 9) s) n 0
 unfolding at
 nine a n s = go (eqb (a / 9) s) refl
   where
@@ -61,7 +61,7 @@ threes : (b : Bool) → cond b 3 0 ≡ 3 * cond b 1 0
 threes true = refl
 threes false = refl
 
-group-tiles : (c s : ℕ) → isGroup c ≡ true → sum 9 (λ i. uses c (9 * s + i)) ≡ 3 * one s c
+pub group-tiles : (c s : ℕ) → isGroup c ≡ true → sum 9 (λ i. uses c (9 * s + i)) ≡ 3 * one s c
 unfolding uses
 group-tiles c s g =
     run-or c
@@ -117,7 +117,7 @@ at-shift : (a j n k : ℕ) → at (a + j) n (k + j) ≡ at a n k
 unfolding at
 at-shift a j n k = rw (same-test (a + j) (k + j) a k (λ e. omega arith) (λ e. omega arith))
 
-three-at : (c k : ℕ) → 34 ≤ c → at (c - 34) 3 k ≡ 3 * at c 1 (34 + k)
+pub three-at : (c k : ℕ) → 34 ≤ c → at (c - 34) 3 k ≡ 3 * at c 1 (34 + k)
 unfolding at
 three-at c k l = rw (same-test c (34 + k) (c - 34) k (λ z. omega arith) (λ z. omega arith)) (threes (eqb (c - 34) k))
 

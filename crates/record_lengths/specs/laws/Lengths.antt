@@ -3,30 +3,17 @@ use mathlib.Core.Path.{_≡_, refl, sym, ap, _∙_}
 use mathlib.Core.Bool.{Bool, true, false, _||_, cond}
 use mathlib.Core.Logic.{_⊎_, inl, inr}
 use mathlib.Core.List.{List, [], _∷_}
-use Prim.Native.Nat.{ℕ, zero, suc, _+_, _*_, _/_, _%_, _≤_, _<_}
-use native.Mathlib.Nat.{div-one, div-div-eq-div-mul}
+use Prim.Native.Nat.{ℕ, zero, suc, _≤_, _<_}
 use native.Mathlib.Omega.{arith}
 use borrow.Author.Tests.{ltb-false, lt-ltb, le-ltb}
 use lib.Dec.{ltb}
-use lib.ListN.{length, getD, take, length-take}
+use lib.ListN.{length, take, length-take}
 use lib.Seq.{length-take-le, take-all}
 use Rattle.tiles.specs.laws.Below.{or-both}
 use Rattle.hand_record.specs.declared.HandRead.{HandRead}
 use Rattle.hand_record.specs.Record.{headOf, countIn, lengthOf, wrongLength, refusedWith, refusalIn, readOf}
 use Rattle.hand_record.specs.laws.Read.{whole, RightLength, length-right, read-not}
 use Rattle.record_lengths.specs.Lengths.{isBroken, recordLength}
-
--- m by its two bytes
-count-bytes : (a b c d : ℕ) (s : List ℕ) → d < 256 → c % 4 * 2 + d / 128 ≡ countIn (a ∷ b ∷ c ∷ d ∷ s)
-unfolding headOf
-count-bytes a b c d s h = omega (arith, div-div-eq-div-mul c 2 2, div-one c)
-
-pub count-in : (s : List ℕ) → 4 ≤ length s → getD s 3 0 < 256 → getD s 2 0 % 4 * 2 + getD s 3 0 / 128 ≡ countIn s
-count-in [] h l = absurd (omega arith)
-count-in (a ∷ []) h l = absurd (omega arith)
-count-in (a ∷ b ∷ []) h l = absurd (omega arith)
-count-in (a ∷ b ∷ c ∷ []) h l = absurd (omega arith)
-count-in (a ∷ b ∷ c ∷ d ∷ s) h l = count-bytes a b c d s l
 
 module _ (s : List ℕ) where
   -- its length, where bytes are missing, m is over 4, and where it is whole

@@ -1,5 +1,5 @@
 -- `records::first_after` meets its contract, return by return.
-use native.Mathlib.Omega.{arith}
+use mathlib.Core.Path.{sym, _∙_}
 use borrow.Author.Needs.{needs}
 use Rattle.records.proofs.first_after.Statement.{statement}
 use Rattle.records.proofs.first_after.Tie as tie
@@ -9,12 +9,16 @@ first-after-spec =
     tie.close
     (tie.spec
     (λ c. search needs)
+    (λ c κs. search needs)
+    (λ c rs e. rw (sym (c .before .is-winner .ensures rs e) ∙ c .if1 .taken))
     (λ c. search needs)
+    (λ c κs. search needs)
+    (λ c rs e.
+    let second = c .before in
+    let first = second .before in
+    rw (sym (first .before .is-winner .ensures rs e) ∙ first .if1 .left, sym (second .is-winner2 .ensures rs e) ∙ c .if2 .taken))
     (λ c. search needs)
-    (λ c. search needs)
-    (λ c. search needs)
-    (λ c. (rw (c .if1 .taken), omega arith))
-    (λ c. search needs)
-    (λ c. (rw (c .before .if1 .left, c .if2 .taken), omega arith))
-    (λ c. search needs)
-    (λ c. (rw (c .before .if1 .left, c .if2 .left), omega arith)))
+    (λ c rs e.
+    let second = c .before in
+    let first = second .before in
+    rw (sym (first .before .is-winner .ensures rs e) ∙ first .if1 .left, sym (second .is-winner2 .ensures rs e) ∙ c .if2 .left)))

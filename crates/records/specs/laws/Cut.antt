@@ -1,33 +1,30 @@
 -- Where the first of several records ends, and what the records are by it.
 use mathlib.Core.Path.{_≡_, refl, sym, ap, _∙_}
-use mathlib.Core.Bool.{Bool, true, false, not, _||_, cond}
+use mathlib.Core.Bool.{Bool, true, false, cond}
 use mathlib.Core.List.{List, [], _∷_}
 use Prim.Native.Nat.{ℕ, zero, suc, _-_, _≤_, _<_}
 use native.Mathlib.Omega.{arith}
 use borrow.Author.Tests.{lt-ltb, eq-eqb, ne-eqb}
 use lib.Dec.{eqb}
-use lib.ListN.{length, getD, replicate, take, drop, length-drop}
-use lib.Seq.{take-all, length-take-le}
-use Rattle.tiles.specs.Below.{tabulate}
-use Rattle.hand.specs.declared.Fields.{Fields}
-use Rattle.hand.specs.Hand.{isRon}
-use Rattle.hand_record.specs.declared.ReadHand.{ReadHand}
-use Rattle.hand_record.specs.Record.{lengthOf, countIn, refusalIn, readOf, readHandOf}
-use Rattle.hand_record.specs.laws.Bounds.{flat-refusal, flat-hand}
+use lib.ListN.{length, take, drop}
+use lib.Seq.{take-all}
+use Rattle.hand.specs.declared.Hand.{Hand}
+use Rattle.hand_record.specs.Record.{lengthOf, countIn, refusalIn, readOf}
 use Rattle.record_lengths.specs.Lengths.{recordLength}
 use Rattle.record_lengths.specs.laws.Lengths.{record-short, record-inside, whole-length, broken-unread, broken-left}
-use Rattle.records.specs.Records.{handFor, recordsOf, firstUnread, clash, clashes, noSet, isWinner}
-use Rattle.records.specs.laws.Sets.{own-zero}
+use Rattle.records.specs.declared.First.{First}
+use Rattle.records.specs.Records.{handFor, recordsOf, firstUnread}
+use Rattle.records.specs.laws.Sets.{Read}
 
 -- of n records the last is all that is left, another as long as its m says; 0 where it is broken
 unfoldable pub cutOf : ℕ → List ℕ → ℕ
 cutOf n s = cond (eqb n 1) (length s) (recordLength s)
 
 -- the first record, and the bytes of the others
-abbrev pub firstOf : ℕ → List ℕ → List ℕ
+abbrev firstOf : ℕ → List ℕ → List ℕ
 firstOf n s = take (cutOf n s) s
 
-abbrev pub othersOf : ℕ → List ℕ → List ℕ
+abbrev othersOf : ℕ → List ℕ → List ℕ
 othersOf n s = drop (cutOf n s) s
 
 -- where it ends: the last one, another, and inside the bytes
@@ -40,7 +37,7 @@ module _ (n : ℕ) (s : List ℕ) where
   unfolding cutOf
   cut-more k = rw (ne-eqb n 1 k)
 
-pub cut-inside : (n : ℕ) (s : List ℕ) → cutOf n s ≤ length s
+cut-inside : (n : ℕ) (s : List ℕ) → cutOf n s ≤ length s
 unfolding cutOf
 cut-inside n s = go (eqb n 1)
   where
@@ -48,30 +45,10 @@ cut-inside n s = go (eqb n 1)
     go true = omega arith
     go false = record-inside s .1
 
--- the parts as the code takes them
-module _ (n k : ℕ) (s : List ℕ) (e : k ≡ cutOf n s) where
-  pub part-inside : k ≤ length s
-  part-inside = omega (arith, e, cut-inside n s)
-
-  pub first-length : k ≡ length (take k s)
-  first-length = sym (length-take-le k s part-inside)
-
-  pub first-part : take k s ≡ firstOf n s
-  first-part = ap (λ (i : ℕ). take i s) e
-
-  pub first-refusal : (r : ReadHand) → r ≡ readHandOf (take k s) → refusalIn (readOf (firstOf n s) .answer) ≡ r .refusal
-  first-refusal r q = ap (λ (l : List ℕ). refusalIn (readOf l .answer)) (sym first-part) ∙ flat-refusal (take k s) r q
-
-  pub first-hand : (r : ReadHand) → r ≡ readHandOf (take k s) → r .hand ≡ handFor (firstOf n s)
-  first-hand r q = flat-hand (take k s) r q ∙ ap handFor first-part
-
-  pub others-part : take (length s - k) (drop k s) ≡ othersOf n s
-  others-part = take-all (length s - k) (drop k s) (omega (arith, length-drop k s)) ∙ ap (λ (i : ℕ). drop i s) e
-
 -- ---- the first record, and the others
 
 -- records of which the first is whole
-pub records-step : (n : ℕ) (s : List ℕ) → 0 < n → 0 < cutOf n s → recordsOf n s ≡ firstOf n s ∷ recordsOf (n - 1) (othersOf n s)
+records-step : (n : ℕ) (s : List ℕ) → 0 < n → 0 < cutOf n s → recordsOf n s ≡ firstOf n s ∷ recordsOf (n - 1) (othersOf n s)
 unfolding recordsOf
 records-step zero s p h = absurd (omega arith)
 records-step (suc zero) s p h = ap (λ (l : List ℕ). l ∷ []) (sym (take-all (cutOf 1 s) s (omega (arith, cut-last 1 s refl))))
@@ -82,85 +59,53 @@ records-step (suc (suc n)) s p h =
     ap (λ (k : ℕ). take k s ∷ recordsOf (suc n) (drop k s)) e ∙ ap (λ (k : ℕ). firstOf (suc (suc n)) s ∷ recordsOf k (othersOf (suc (suc n)) s)) o
 
 -- "what doesn't fit is Read's 1 of that record"
-pub cut-unread : (n : ℕ) (s : List ℕ) → 0 < n → cutOf n s ≡ 0 → firstUnread (recordsOf n s) ≡ 1
+cut-unread : (n : ℕ) (s : List ℕ) → 0 < n → cutOf n s ≡ 0 → firstUnread (recordsOf n s) ≡ 1
 unfolding recordsOf firstUnread
 cut-unread zero s p z = absurd (omega arith)
 cut-unread (suc zero) s p z = rw (broken-left s (record-short s (omega (arith, cut-last 1 s refl))))
 cut-unread (suc (suc n)) s p z = rw (broken-unread s (omega (arith, cut-more (suc (suc n)) s (λ z. omega arith))))
 
--- the first one's refusal comes first, then the others'
-module _ (n k : ℕ) (s : List ℕ) (e : k ≡ cutOf n s) (p : 0 < n) (h : 0 < k) (r : ReadHand) (q : r ≡ readHandOf (take k s)) where
-  step : recordsOf n s ≡ firstOf n s ∷ recordsOf (n - 1) (othersOf n s)
-  step = records-step n s p (omega (arith, e))
+-- no bytes are Read's 1
+none-unread : (s : List ℕ) (k : ℕ) → k ≡ 0 → refusalIn (readOf (take k s) .answer) ≡ 1
+none-unread s k z = ap (λ (i : ℕ). refusalIn (readOf (take i s) .answer)) z ∙ broken-left [] (record-short [] (omega arith))
 
-  pub unread-first : 0 < r .refusal → r .refusal ≡ firstUnread (recordsOf n s)
+-- the first of n records and where it ends, or its refusal
+pub record IsFirst (n : ℕ) (s : List ℕ) (r : First) : Type 0 where
+  pub refused : 0 < r .refusal → firstUnread (recordsOf n s) ≡ r .refusal
+  pub inside : r .end ≤ length s
+  pub reads : r .refusal ≡ 0 → Read (take (r .end) s)
+  pub hand : r .refusal ≡ 0 → r .hand ≡ handFor (take (r .end) s)
+  pub others : r .refusal ≡ 0 → recordsOf n s ≡ take (r .end) s ∷ recordsOf (n - 1) (drop (r .end) s)
+
+-- so many records, the first of them k bytes long
+module _ (n : ℕ) (s : List ℕ) (p : 0 < n) (k : ℕ) (e : k ≡ cutOf n s) where
+  pub first-inside : k ≤ length s
+  first-inside = omega (arith, e, cut-inside n s)
+
+  -- it does not read
+  unread : (m : ℕ) → refusalIn (readOf (take k s) .answer) ≡ m → 0 < m → firstUnread (recordsOf n s) ≡ m
   unfolding firstUnread
-  unread-first l = rw (step, first-refusal n k s e r q, lt-ltb 0 (r .refusal) l)
-
-  pub unread-others : r .refusal ≡ 0 → firstUnread (recordsOf (n - 1) (take (length s - k) (drop k s))) ≡ firstUnread (recordsOf n s)
-  unfolding firstUnread
-  unread-others z = rw (step, first-refusal n k s e r q ∙ z) (ap (λ (l : List ℕ). firstUnread (recordsOf (n - 1) l)) (others-part n k s e))
-
--- ---- no records
-
-module _ (n : ℕ) (s : List ℕ) (z : n ≡ 0) where
-  none : recordsOf n s ≡ []
-  unfolding recordsOf
-  none = ap (λ (k : ℕ). recordsOf k s) z
-
-  pub unread-none : firstUnread (recordsOf n s) ≡ 0
-  unfolding firstUnread
-  unread-none = ap firstUnread none
-
-  pub clashes-none : (f : Fields) → clashes f (recordsOf n s) ≡ false
-  unfolding clashes
-  clashes-none f = ap (clashes f) none
-
-  pub no-set-none : noSet (recordsOf n s) ≡ false
-  unfolding noSet
-  no-set-none = ap noSet none
-
-  pub winners-none : tabulate 4 0 (isWinner (recordsOf n s)) ≡ replicate 4 false
-  unfolding isWinner
-  winners-none = ap (λ (rs : List (List ℕ)). tabulate 4 0 (isWinner rs)) none
-
--- ---- records that all read
-
-module _ (n : ℕ) (s : List ℕ) (p : 0 < n) (all : firstUnread (recordsOf n s) ≡ 0) where
-  pub read-cut : 0 < cutOf n s
-  read-cut = go (cutOf n s) refl
+  unread m q l = go k refl
     where
-      go : (k : ℕ) → cutOf n s ≡ k → 0 < k
-      go zero z = let o = cut-unread n s p z in absurd (omega (arith, o, all))
-      go (suc k) z = omega arith
+      go : (i : ℕ) → k ≡ i → firstUnread (recordsOf n s) ≡ m
+      go zero z = cut-unread n s p (sym e ∙ z) ∙ sym (none-unread s k z) ∙ q
+      go (suc i) z =
+          let f : refusalIn (readOf (firstOf n s) .answer) ≡ m = ap (λ (j : ℕ). refusalIn (readOf (take j s) .answer)) (sym e) ∙ q in
+          rw (records-step n s p (omega (arith, e, z)), f, lt-ltb 0 m l)
 
-  pub read-step : recordsOf n s ≡ firstOf n s ∷ recordsOf (n - 1) (othersOf n s)
-  read-step = records-step n s p read-cut
+  pub first-unread : (m : ℕ) (h : Hand) → (refusalIn (readOf (take k s) .answer) ≡ m) × (0 < m) → IsFirst n s (record { refusal = m; end = 0; hand = h })
+  first-unread m h q = record {
+    refused = λ y. unread m (q .0) y;
+    inside = omega arith;
+    reads = λ z. absurd (omega arith);
+    hand = λ z. absurd (omega arith);
+    others = λ z. absurd (omega arith);
+  }
 
-  pub read-first : (refusalIn (readOf (firstOf n s) .answer) ≡ 0) × (firstUnread (recordsOf (n - 1) (othersOf n s)) ≡ 0)
-  unfolding firstUnread
-  read-first = own-zero (refusalIn (readOf (firstOf n s) .answer)) (firstUnread (recordsOf (n - 1) (othersOf n s))) (ap firstUnread (sym read-step) ∙ all)
-
-  -- by the parts: the others read too; one of them clashes, they are no set, who wins them
-  module _ (k : ℕ) (e : k ≡ cutOf n s) where
-    abbrev rest : List (List ℕ)
-    rest = recordsOf (n - 1) (take (length s - k) (drop k s))
-
-    parts : firstOf n s ∷ rest ≡ recordsOf n s
-    parts = ap (λ (l : List ℕ). firstOf n s ∷ recordsOf (n - 1) l) (others-part n k s e) ∙ sym read-step
-
-    pub read-others : firstUnread rest ≡ 0
-    read-others = ap (λ (l : List ℕ). firstUnread (recordsOf (n - 1) l)) (others-part n k s e) ∙ read-first .1
-
-    module _ (f : Fields) (q : f ≡ handFor (firstOf n s) .fields) where
-      pub clashes-turn : (g : Fields) (a b : Bool) → a ≡ clash g f → b ≡ clashes g rest → a || b ≡ clashes g (recordsOf n s)
-      unfolding clashes
-      clashes-turn g a b x y = rw (x, y, q) (ap (clashes g) parts)
-
-      pub no-set-turn : (a b : Bool) → a ≡ clashes f rest → b ≡ noSet rest → not (isRon f) || a || b ≡ noSet (recordsOf n s)
-      unfolding noSet
-      no-set-turn a b x y = rw (x, y, q) (ap noSet parts)
-
-      pub winners-turn : (w : List Bool) → w ≡ tabulate 4 0 (isWinner rest) → tabulate 4 0 (λ i. eqb (f .winner) i || getD w i false) ≡ tabulate 4 0 (isWinner (recordsOf n s))
-      unfolding isWinner
-      winners-turn w x = rw (x, q) (ap (λ (rs : List (List ℕ)). tabulate 4 0 (isWinner rs)) parts)
+  -- it reads
+  pub first-read : (h : Hand) → Read (take k s) → h ≡ handFor (take k s) → IsFirst n s (record { refusal = 0; end = k; hand = h })
+  first-read h q x = record { refused = λ l. absurd (omega arith); inside = first-inside; reads = λ z. q; hand = λ z. x; others = λ z. go k refl }
+    where
+      go : (i : ℕ) → k ≡ i → recordsOf n s ≡ take k s ∷ recordsOf (n - 1) (drop k s)
+      go zero z = let o = none-unread s k z in absurd (omega (arith, o, q))
+      go (suc i) z = records-step n s p (omega (arith, e, z)) ∙ ap (λ (j : ℕ). take j s ∷ recordsOf (n - 1) (drop j s)) (sym e)

@@ -10,8 +10,10 @@ use lib.ListN.{length, take, drop}
 use Rattle.tiles.specs.laws.Below.{or-both}
 use Rattle.hand.specs.declared.Fields.{Fields}
 use Rattle.hand.specs.Hand.{isRon}
+use Rattle.hand_record.specs.declared.Answer.the-variants.{Refused}
+use Rattle.hand_record.specs.declared.HandRead.{HandRead}
 use Rattle.hand_record.specs.Record.{lengthOf, countIn, refusalIn, readOf}
-use Rattle.hand_record.specs.laws.Bounds.{other-seat, read-bounds}
+use Rattle.hand_record.specs.laws.Bounds.{answer-is, other-seat, read-bounds, refused-number}
 use Rattle.records.specs.Records.{handFor, recordsOf, firstUnread, clash, clashes, noSet, isWinner, discarderOf, firstAfter, firstWinner}
 
 -- ---- records that read
@@ -22,6 +24,14 @@ Read s = refusalIn (readOf s .answer) ≡ 0
 abbrev pub AllRead : List (List ℕ) → Type 0
 AllRead [] = Unit {0}
 AllRead (s ∷ ss) = Read s × AllRead ss
+
+-- as a reader sees one that does not: r is what Read gave, w its refusal
+pub refused-read : (s : List ℕ) (r : HandRead) → r ≡ readOf s → (m w : ℕ) → r .answer ≡ Refused m → w ≡ refusalIn (r .answer)
+    → (refusalIn (readOf s .answer) ≡ w) × (0 < w)
+refused-read s r e m w told q =
+    let a = answer-is s r e told in
+    let z : w ≡ m = q ∙ ap refusalIn told in
+    (ap refusalIn a ∙ sym z, omega (arith, z, refused-number s m a))
 
 pub own-zero : (n m : ℕ) → cond (ltb 0 n) n m ≡ 0 → (n ≡ 0) × (m ≡ 0)
 own-zero n m e = go (ltb 0 n) refl e

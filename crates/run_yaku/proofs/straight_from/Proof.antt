@@ -1,5 +1,6 @@
 -- `run_yaku::straight_from` meets its contract.
 use borrow.Author.Needs.{needs}
+use mathlib.Core.Path.{sym, _∙_}
 use Rattle.run_yaku.proofs.straight_from.Statement.{statement}
 use Rattle.run_yaku.proofs.straight_from.Tie as tie
 
@@ -7,4 +8,7 @@ pub straight-from-spec : {M : Type 1} → statement M
 straight-from-spec =
     tie.close
     (tie.spec (λ c κs. search needs) (λ c. search needs) (λ c κs. search needs) (λ c. search needs) (λ c κs. search needs)
-    (λ c. rw (c .has3 .ensures, c .before .has2 .ensures, c .before .before .has .ensures)))
+    (λ c.
+    let t = c .before .before in
+    rw (sym (t .before .has .ensures) ∙ t .if1 .taken, c .has3 .ensures, c .before .has2 .ensures))
+    (λ c. rw (sym (c .before .has .ensures) ∙ c .if1 .left)))

@@ -15,25 +15,26 @@ use Rattle.search.proofs.places.Statement.{statement}
 use Rattle.search.proofs.places.Tie as tie
 
 abbrev Inv-loop : tie.InvT-loop
-Inv-loop h pair groups size win b₀ p₀ b p = (p ≤ size + 1) × (b .done ≡ false) × (ranged (judgeOf (worthIn h)) (placedAt win pair groups) (size + 1) p b ≡ judged (judgeOf (worthIn h)) b₀ (placed size win pair groups))
+Inv-loop h pair groups size win k b₀ p₀ b p = (p ≤ size + 1) × (b .done ≡ false) × (ranged (judgeOf (worthIn h)) (placedAt win pair groups) (size + 1) p b ≡ judged (judgeOf (worthIn h)) b₀ (placed size win pair groups))
 
 abbrev μ-loop : tie.MeasureT-loop
-μ-loop h pair groups size win b₀ p₀ b p = size + 1 - p
+μ-loop h pair groups size win k b₀ p₀ b p = size + 1 - p
 
 pub places-spec : {M : Type 1} → statement M
 unfolding placedAt
 places-spec =
     tie.close
     (tie.spec Inv-loop μ-loop
-    (λ c. (search needs, c .pre .2, placed-all (judgeOf _) _ _ _ _ _))
+    (λ c κs. c .pre .0)
+    (λ c. (search needs, c .before .pre .2, placed-all (judgeOf _) _ _ _ _ _))
     (λ c κs. omega arith)
     (λ c κs.
     let on = c .before .before .before in
-    (on .before .pre .0, omega (arith, on .before .pre .1), on .loop .inv .1))
+    (on .before .common-of .ensures, omega (arith, on .before .before .pre .1), on .loop .inv .1))
     (λ c.
     let on = c .before .before .before in
     ranged-still (judgeOf _) _ _ _ _ (done-still _ _ _ (c .if2 .taken))
-    ∙ ranged-turn (judgeOf _) _ _ _ _ _ (omega arith) (judged-with (judgeOf _) _ _ _ _ (sym (on .holds .ensures) ∙ c .before .before .if1 .taken) (c .before .judge .ensures))
+    ∙ ranged-turn (judgeOf _) _ _ _ _ _ (omega arith) (judged-with (judgeOf _) _ _ _ _ (sym (on .holds .ensures) ∙ c .before .before .if1 .taken) (c .before .judge-at .ensures))
     ∙ on .before .before .loop .inv .2)
     (λ c. omega arith)
     (λ c. omega arith)

@@ -1,114 +1,177 @@
--- What the settling of several records comes to, record by record, and that this is the ledger's booking.
-use mathlib.Core.Path.{_≡_, refl, sym, ap, _∙_, subst}
+-- What the settling of several hands comes to, one after the other, for each list of records that reads as them, and that this is the ledger's booking.
+use mathlib.Core.Path.{_≡_, refl, sym, ap, _∙_}
 use mathlib.Core.Bool.{Bool, true, false, not, _||_, cond}
-use mathlib.Core.List.{List, [], _∷_}
-use Prim.Native.Nat.{ℕ, zero, suc, _+_, _-_, _*_, _%_, _≤_, _<_}
+use mathlib.Core.List.{List, [], _∷_, map}
+use Prim.Native.Nat.{ℕ, zero, suc, _+_, _*_, _≤_, _<_}
 use native.Mathlib.Omega.{arith}
 use borrow.Author.Tests.{lt-ltb, ltb-false, eqb-false}
 use lib.Dec.{ltb, eqb}
-use lib.IntN.{ℤ, pos}
+use lib.IntN.{ℤ, pos, _+ℤ_, +ℤ-idl, +ℤ-idr, +ℤ-assoc}
 use lib.ListN.{length, getD, take, drop}
+use lib.Seq.{drop-cons, drop-length}
 use Rattle.tiles.specs.Below.{tabulate}
 use Rattle.tiles.specs.laws.Below.{or-both}
-use Rattle.tiles.specs.laws.Tabulate.{getD-tabulate}
-use Rattle.hand.specs.declared.Fields.{Fields}
+use Rattle.hand.specs.declared.Hand.{Hand}
+use Rattle.hand_record.specs.laws.Bounds.{Bounds, read-bounds}
 use Rattle.score.specs.laws.Z.{Within}
 use Rattle.records.specs.Records.{handFor, recordsOf, firstUnread, isWinner, discarderOf, firstAfter, firstWinner}
-use Rattle.records.specs.laws.Cut.{cutOf, firstOf, first-part, others-part, read-step}
+use Rattle.records.specs.laws.Sets.{Read, AllRead}
+use Rattle.records.specs.laws.Hands.{blank, so-many, hand-at}
 use Rattle.ledger.specs.declared.Game.{Game}
 use Rattle.ledger.specs.Booking.{many}
-use Rattle.ledger.specs.Ledger.{winRefusal, firstRefused, refusalFor, setGives, effectOf, applied, after, BookedIn}
+use Rattle.ledger.specs.Ledger.{winRefusal, winGives, firstRefused, refusalFor, setGives, effectOf, applied, after, BookedIn}
 use Rattle.ledger.specs.laws.Bounds.{mostGift}
-use Rattle.ledger.specs.laws.Sums.{Small, paid, paid-within}
+use Rattle.ledger.specs.laws.Sums.{Small, Gifts, paid, paid-within}
 use Rattle.moves.specs.laws.Steps.{finished}
 use Rattle.wins.specs.declared.Settled.{Settled}
-use Rattle.wins.specs.laws.Won.{nothing, IsSettled}
+use Rattle.wins.specs.laws.Won.{IsSettled}
 
--- ---- records, one after the other
+-- ---- hands of records that read
+
+-- the first n of the hands hs are within Read's ranges
+abbrev pub AllBounds : ℕ → List Hand → Type 0
+AllBounds n hs = (i : ℕ) → i < n → Bounds (getD hs i blank)
+
+pub read-at : (rs : List (List ℕ)) → AllRead rs → (i : ℕ) → i < length rs → Read (getD rs i [])
+read-at [] r i l = absurd (omega arith)
+read-at (s ∷ rs) r zero l = r .0
+read-at (s ∷ rs) r (suc i) l = read-at rs (r .1) i (omega arith)
+
+module _ (n : ℕ) (hs : List Hand) (room : n ≤ length hs) (rs : List (List ℕ)) (e : map handFor rs ≡ take n hs) where
+  pub all-bounds : AllRead rs → AllBounds n hs
+  all-bounds r i l = rw (hand-at n hs room rs e i l) (read-bounds (getD rs i []) (read-at rs r i (omega (arith, so-many n hs room rs e))))
+
+  -- the first hand's discarder is the records'
+  pub first-discarder : 0 < n → getD hs 0 blank .fields .discarder ≡ discarderOf rs
+  first-discarder l = ap (λ (h : Hand). h .fields .discarder) (hand-at n hs room rs e 0 l) ∙ go rs (omega (arith, l, so-many n hs room rs e))
+    where
+      go : (ss : List (List ℕ)) → 0 < length ss → handFor (getD ss 0 []) .fields .discarder ≡ discarderOf ss
+      go [] p = absurd (omega arith)
+      go (s ∷ ss) p = refl
+
+-- ---- what is given in all
+
+-- nothing before, and nothing after
+paid-none : (f : ℕ → ℤ) → tabulate 4 0 f ≡ paid (pos 0 ∷ pos 0 ∷ pos 0 ∷ pos 0 ∷ []) (tabulate 4 0 f)
+paid-none f = rw (+ℤ-idl (f 0), +ℤ-idl (f 1), +ℤ-idl (f 2), +ℤ-idl (f 3))
+
+paid-last : (l : List ℤ) → length l ≡ 4 → paid l (tabulate 4 0 (λ i. pos 0)) ≡ l
+paid-last (a ∷ b ∷ c ∷ d ∷ []) e = rw (+ℤ-idr a, +ℤ-idr b, +ℤ-idr c, +ℤ-idr d)
+paid-last [] e = absurd (omega arith)
+paid-last (a ∷ []) e = absurd (omega arith)
+paid-last (a ∷ b ∷ []) e = absurd (omega arith)
+paid-last (a ∷ b ∷ c ∷ []) e = absurd (omega arith)
+paid-last (a ∷ b ∷ c ∷ d ∷ x ∷ l) e = absurd (omega arith)
+
+paid-next : (l : List ℤ) (f h : ℕ → ℤ) → paid l (tabulate 4 0 (λ i. f i +ℤ h i)) ≡ paid (paid l (tabulate 4 0 f)) (tabulate 4 0 h)
+paid-next l f h =
+    let at : ℕ → ℤ = λ i. getD l i (pos 0) in
+    rw (+ℤ-assoc (at 0) (f 0) (h 0), +ℤ-assoc (at 1) (f 1) (h 1), +ℤ-assoc (at 2) (f 2) (h 2), +ℤ-assoc (at 3) (f 3) (h 3))
+
+-- ---- hands, one after the other
 
 module _ (g : Game) (x : ℕ) where
-  -- what records rs come to, n of them at most
-  abbrev pub Settles : List (List ℕ) → ℕ → Settled → Type 0
-  Settles rs n r = (r .refusal ≡ firstRefused g rs) × (r .refusal ≡ 0 → r .gives ≡ tabulate 4 0 (setGives g x rs)) × ((i : ℕ) → Within (getD (r .gives) i (pos 0)) (mostGift * n))
+  -- what records rs come to
+  abbrev pub Settles : List (List ℕ) → Settled → Type 0
+  Settles rs r = (r .refusal ≡ firstRefused g rs) × (r .refusal ≡ 0 → r .gives ≡ tabulate 4 0 (setGives g x rs))
 
-  abbrev pub AllSettled : ℕ → List ℕ → Settled → Type 0
-  AllSettled number s = Settles (recordsOf number s) number
+  -- after i of n hands, none refused, that give `by`
+  pub record Given (n : ℕ) (hs : List Hand) (by : List ℤ) (i : ℕ) : Type 0 where
+    pub inside : i ≤ n
+    pub four : length by ≡ 4
+    pub within : (j : ℕ) → Within (getD by j (pos 0)) (mostGift * i)
+    pub refusal : (rs : List (List ℕ)) → AllRead rs → map handFor rs ≡ take n hs → firstRefused g rs ≡ firstRefused g (drop i rs)
+    pub gives : (rs : List (List ℕ)) → AllRead rs → map handFor rs ≡ take n hs
+        → tabulate 4 0 (setGives g x rs) ≡ paid by (tabulate 4 0 (setGives g x (drop i rs)))
 
-  pub settles-none : Settles [] 0 (nothing 0)
-  unfolding firstRefused setGives
-  settles-none = (refl, λ e. refl, zeros-none)
+  pub given-none : (n : ℕ) (hs : List Hand) → Given n hs (pos 0 ∷ pos 0 ∷ pos 0 ∷ pos 0 ∷ []) 0
+  given-none n hs = record {
+    inside = omega arith;
+    four = refl;
+    within = zeros;
+    refusal = λ rs r e. refl;
+    gives = λ rs r e. paid-none (setGives g x rs);
+  }
     where
-      zeros-none : (i : ℕ) → Within (getD (pos 0 ∷ pos 0 ∷ pos 0 ∷ pos 0 ∷ []) i (pos 0)) (mostGift * 0)
-      zeros-none zero = (omega arith, omega arith)
-      zeros-none (suc zero) = (omega arith, omega arith)
-      zeros-none (suc (suc zero)) = (omega arith, omega arith)
-      zeros-none (suc (suc (suc zero))) = (omega arith, omega arith)
-      zeros-none (suc (suc (suc (suc i)))) = (omega arith, omega arith)
+      zeros : (i : ℕ) → Within (getD (pos 0 ∷ pos 0 ∷ pos 0 ∷ pos 0 ∷ []) i (pos 0)) (mostGift * 0)
+      zeros zero = (omega arith, omega arith)
+      zeros (suc zero) = (omega arith, omega arith)
+      zeros (suc (suc zero)) = (omega arith, omega arith)
+      zeros (suc (suc (suc zero))) = (omega arith, omega arith)
+      zeros (suc (suc (suc (suc i)))) = (omega arith, omega arith)
 
-  pub no-records : (n : ℕ) (s : List ℕ) (r : Settled) → n ≡ 0 → r ≡ nothing 0 → AllSettled n s r
-  unfolding recordsOf
-  no-records n s r z e = rw (z, e) settles-none
+  module _ (n : ℕ) (hs : List Hand) (by : List ℤ) (i : ℕ) (few : n ≤ 3) (room : n ≤ length hs) (w : Given n hs by i) where
+    -- what up to three hands give is small
+    pub given-small : Small by
+    given-small j l = let y = w .within j in let m = w .inside in (omega arith, omega arith)
 
-  -- what up to three records give is small
-  pub settles-small : (rs : List (List ℕ)) (n : ℕ) (r : Settled) → n ≤ 3 → Settles rs n r → Small (r .gives)
-  settles-small rs n r l w i h = let y = w .2 i in (omega arith, omega arith)
+    -- all are settled
+    pub given-all : n ≤ i → (rs : List (List ℕ)) → AllRead rs → map handFor rs ≡ take n hs → Settles rs (record { refusal = 0; winner = x; gives = by })
+    unfolding firstRefused setGives
+    given-all l rs r e =
+        let m : i ≡ length rs = omega (arith, w .inside, so-many n hs room rs e) in
+        let none : drop i rs ≡ [] = ap (λ (k : ℕ). drop k rs) m ∙ drop-length rs in (
+          sym (w .refusal rs r e ∙ ap (firstRefused g) none),
+          λ z. sym (w .gives rs r e ∙ ap (λ (ss : List (List ℕ)). paid by (tabulate 4 0 (setGives g x ss))) none ∙ paid-last by (w .four)),
+        )
 
-  module _ (s : List ℕ) (ss : List (List ℕ)) (n : ℕ) where
-    abbrev pub takes : Bool
-    takes = eqb (handFor s .fields .winner) x
+    -- the next hand, that the settling t is of
+    abbrev takes : Bool
+    takes = eqb (getD hs i blank .fields .winner) x
 
-    -- the first record is refused
-    pub settles-refused : (t : Settled) → IsSettled g s (cond takes (g .counter) 0) (cond takes (g .sticks) 0) t → 0 < t .refusal → Settles (s ∷ ss) (n + 1) t
-    unfolding firstRefused
-    settles-refused t w l =
-        let e = w .0 in
-        let h = w .2 in
-        (e ∙ sym (rw (lt-ltb 0 (winRefusal g s) (omega arith))), λ z. absurd (omega arith), λ i. let y = h i in (omega arith, omega arith))
+    module _ (l : i < n) (a b : ℕ) (ea : a ≡ cond takes (g .counter) 0) (eb : b ≡ cond takes (g .sticks) 0) (t : Settled)
+        (v : (s : List ℕ) → Read s → getD hs i blank ≡ handFor s → IsSettled g s a b t) where
+      module _ (rs : List (List ℕ)) (r : AllRead rs) (e : map handFor rs ≡ take n hs) where
+        inside-records : i < length rs
+        inside-records = omega (arith, l, so-many n hs room rs e)
 
-    module _ (t u : Settled) (w : IsSettled g s (cond takes (g .counter) 0) (cond takes (g .sticks) 0) t) (z : t .refusal ≡ 0) (v : Settles ss n u) where
-      none : winRefusal g s ≡ 0
-      none = sym (w .0) ∙ z
+        next : drop i rs ≡ getD rs i [] ∷ drop (suc i) rs
+        next = drop-cons rs i [] inside-records
 
-      next : firstRefused g (s ∷ ss) ≡ firstRefused g ss
-      unfolding firstRefused
-      next = rw none
+        settled : IsSettled g (getD rs i []) a b t
+        settled = v (getD rs i []) (read-at rs r i inside-records) (hand-at n hs room rs e i l)
 
-      -- another is
-      pub settles-later : 0 < u .refusal → Settles (s ∷ ss) (n + 1) u
-      settles-later l = let h = v .2 in (v .0 ∙ sym next, λ y. absurd (omega arith), λ i. let y = h i in (omega arith, omega arith))
+        -- it is refused
+        pub given-refused : 0 < t .refusal → Settles rs t
+        unfolding firstRefused
+        given-refused p =
+            let q : winRefusal g (getD rs i []) ≡ t .refusal = sym (settled .0) in
+            (sym (w .refusal rs r e ∙ ap (firstRefused g) next ∙ rw (q, lt-ltb 0 (t .refusal) p)), λ z. absurd (omega arith))
 
-      -- none is
-      pub settles-both : u .refusal ≡ 0 → (by : List ℤ) → by ≡ paid (t .gives) (u .gives) → Settles (s ∷ ss) (n + 1) (record { refusal = 0; winner = x; gives = by })
-      unfolding setGives
-      settles-both y by e =
-          let a = w .1 z .1 in
-          let b = v .1 y in
-          let m = paid-within (t .gives) (u .gives) mostGift (mostGift * n) (w .2) (v .2) in
-          (sym (next ∙ sym (v .0) ∙ y), λ q. e ∙ rw (a, b), λ i. let k = m i in rw e (omega arith, omega arith))
+        next-refusal : t .refusal ≡ 0 → firstRefused g rs ≡ firstRefused g (drop (suc i) rs)
+        unfolding firstRefused
+        next-refusal z = w .refusal rs r e ∙ ap (firstRefused g) next ∙ rw (sym (settled .0) ∙ z)
 
--- ---- as the code has it: so many records that all read, the first of them k bytes long
+        next-gives : t .refusal ≡ 0 → tabulate 4 0 (setGives g x rs) ≡ paid (paid by (t .gives)) (tabulate 4 0 (setGives g x (drop (suc i) rs)))
+        unfolding setGives
+        next-gives z =
+            let s = getD rs i [] in
+            let own : Bool = eqb (handFor s .fields .winner) x in
+            let h : getD hs i blank ≡ handFor s = hand-at n hs room rs e i l in
+            let ca : a ≡ cond own (g .counter) 0 = ea ∙ ap (λ (y : Hand). cond (eqb (y .fields .winner) x) (g .counter) 0) h in
+            let cb : b ≡ cond own (g .sticks) 0 = eb ∙ ap (λ (y : Hand). cond (eqb (y .fields .winner) x) (g .sticks) 0) h in
+            let f : ℕ → ℤ = winGives g s (cond own (g .counter) 0) (cond own (g .sticks) 0) in
+            let given : t .gives ≡ tabulate 4 0 f = settled .1 z .1 ∙ rw (ca, cb) in
+            let k : ℕ → ℤ = setGives g x (drop (suc i) rs) in
+            w .gives rs r e
+            ∙ ap (λ (ss : List (List ℕ)). paid by (tabulate 4 0 (setGives g x ss))) next
+            ∙ paid-next by f k
+            ∙ ap (λ (y : List ℤ). paid (paid by y) (tabulate 4 0 k)) (sym given)
 
-module _ (g : Game) (x number k : ℕ) (s : List ℕ) (p : 0 < number) (all : firstUnread (recordsOf number s) ≡ 0) (e : k ≡ cutOf number s) where
-  abbrev pub rest : List (List ℕ)
-  rest = recordsOf (number - 1) (take (length s - k) (drop k s))
-
-  parts : firstOf number s ∷ rest ≡ recordsOf number s
-  parts = ap (λ (l : List ℕ). firstOf number s ∷ recordsOf (number - 1) l) (others-part number k s e) ∙ sym (read-step number s p all)
-
-  pub all-settled : (r : Settled) → Settles g x (firstOf number s ∷ rest) (number - 1 + 1) r → AllSettled g x number s r
-  all-settled r w =
-      let one : number - 1 + 1 ≡ number = omega arith in
-      subst (λ (n : ℕ). Settles g x (recordsOf number s) n r) one (subst (λ (l : List (List ℕ)). Settles g x l (number - 1 + 1) r) parts w)
-
-  -- the first one's settling, by its fields f
-  pub first-settled : (f : Fields) (a b : ℕ) (t : Settled) → f ≡ handFor (firstOf number s) .fields → a ≡ cond (eqb (f .winner) x) (g .counter) 0 → b ≡ cond (eqb (f .winner) x) (g .sticks) 0
-      → IsSettled g (take k s) a b t
-      → IsSettled g (firstOf number s) (cond (takes g x (firstOf number s) rest number) (g .counter) 0) (cond (takes g x (firstOf number s) rest number) (g .sticks) 0) t
-  first-settled f a b t q ea eb w =
-      let h : Fields → Type 0 = λ y. IsSettled g (firstOf number s) (cond (eqb (y .winner) x) (g .counter) 0) (cond (eqb (y .winner) x) (g .sticks) 0) t in
-      subst h q
-      (subst (λ (m : ℕ). IsSettled g (firstOf number s) (cond (eqb (f .winner) x) (g .counter) 0) m t) eb
-      (subst (λ (m : ℕ). IsSettled g (firstOf number s) m b t) ea (subst (λ (l : List ℕ). IsSettled g l a b t) (first-part number k s e) w)))
+      -- it is not
+      pub given-more : t .refusal ≡ 0 → Gifts (t .gives) → (by′ : List ℤ) → by′ ≡ paid by (t .gives) → Given n hs by′ (i + 1)
+      given-more z p by′ q =
+          let one : suc i ≡ i + 1 = omega arith in
+          let m = paid-within by (t .gives) (mostGift * i) mostGift (w .within) p in
+          record {
+            inside = omega arith;
+            four = ap (λ (y : List ℤ). length y) q;
+            within = λ j. let y = m j in rw q (omega arith, omega arith);
+            refusal = λ rs r e. next-refusal rs r e z ∙ ap (λ (j : ℕ). firstRefused g (drop j rs)) one;
+            gives = λ rs r e.
+                next-gives rs r e z ∙ ap (λ (y : List ℤ). paid y (tabulate 4 0 (setGives g x (drop (suc i) rs)))) (sym q)
+                ∙ ap (λ (j : ℕ). paid by′ (tabulate 4 0 (setGives g x (drop j rs)))) one;
+          }
 
 -- ---- the booking
 
@@ -126,25 +189,22 @@ module _ (g : Game) (number : ℕ) (s : List ℕ) where
   pub set-accepted : (k : Game) → firstRefused g rs ≡ 0 → k ≡ applied g (effectOf g (many number s)) → SetBooked 0 k
   set-accepted k e q = (sym e, rw e q)
 
-  -- w who wins one, d the discarder
-  module _ (w : List Bool) (d : ℕ) (e : w ≡ tabulate 4 0 (isWinner rs)) (p : d ≡ discarderOf rs) where
-    wins-at : (i : ℕ) → i < 4 → getD w i false ≡ isWinner rs i
-    wins-at i l = ap (λ (x : List Bool). getD x i false) e ∙ getD-tabulate false 4 (isWinner rs) i l
-
-    first-is : firstAfter d (λ i. getD w i false) ≡ firstWinner rs
-    first-is = rw (wins-at ((d + 1) % 4) (omega arith), wins-at ((d + 2) % 4) (omega arith), p)
-
-    pub set-applied : (x : ℕ) (by : List ℤ) (m : ℕ) → g .dealer ≤ 3 → x ≡ firstAfter d (λ i. getD w i false) → by ≡ tabulate 4 0 (setGives g x rs)
-        → m ≡ cond (getD w (g .dealer) false) (g .counter + 1) 0 → finished g by 0 (not (getD w (g .dealer) false)) m ≡ applied g (effectOf g (many number s))
-    unfolding finished applied effectOf
-    set-applied x by m h q b c =
-        let z : x ≡ firstWinner rs = q ∙ first-is in
-        rw (c, b, z, wins-at (g .dealer) (omega (arith, h)))
+  -- x the first winner, dealers whether the dealer is one
+  pub set-applied : (d x : ℕ) (by : List ℤ) (dealers : Bool) (m : ℕ) → d ≡ discarderOf rs → x ≡ firstAfter d (isWinner rs)
+      → by ≡ tabulate 4 0 (setGives g x rs) → dealers ≡ isWinner rs (g .dealer) → m ≡ cond dealers (g .counter + 1) 0 → finished g by 0 (not dealers) m ≡ applied g (effectOf g (many number s))
+  unfolding finished applied effectOf
+  set-applied d x by dealers m p q b w c =
+      let z : x ≡ firstWinner rs = q ∙ ap (λ (k : ℕ). firstAfter k (isWinner rs)) p in
+      rw (c, b, w, z)
 
   -- a set that is booked is the booking
   pub set-booked : (n : ℕ) (k : Game) → refusalFor g (many number s) ≡ firstRefused g rs → SetBooked n k → BookedIn g (many number s) n k
   unfolding after
   set-booked n k q w = rw q (w .0, w .1)
+
+-- of each list of bytes whose records read as the hands hs
+abbrev pub BooksHands : Game → ℕ → List Hand → ℕ → Game → Type 0
+BooksHands g number hs n k = (s : List ℕ) → firstUnread (recordsOf number s) ≡ 0 → map handFor (recordsOf number s) ≡ take number hs → SetBooked g number s n k
 
 -- one to three
 pub some-few : (n : ℕ) → eqb n 0 || ltb 3 n ≡ false → (1 ≤ n) × (n ≤ 3)

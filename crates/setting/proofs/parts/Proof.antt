@@ -6,4 +6,4 @@ use Rattle.setting.proofs.parts.Tie as tie
 
 pub parts-spec : {M : Type 1} → statement M
 unfolding partsIn
-parts-spec = tie.close (tie.spec (λ c κs. search needs) (λ c κs. search needs) (λ c. rw (c .ways-at .ensures, c .before .joined .ensures)))
+parts-spec = tie.close (tie.spec (λ c κs. search needs) (λ c. rw (c .ways-at .ensures, c .before .before .before .pre .0)))

@@ -12,6 +12,8 @@ use Rattle.groups.specs.search.Ways.{waysAt}
 use Rattle.yaku.specs.declared.Parts.{Parts}
 use Rattle.tile_yaku.specs.search.TileTests.{tileTestsOf}
 use Rattle.value.specs.declared.Value.{Value}
+use Rattle.value.specs.declared.Common.{Common}
+use Rattle.value.specs.search.Common.{IsCommon}
 use Rattle.value.specs.Value.{valueOf}
 use Rattle.setting.specs.declared.Setting.{Setting}
 
@@ -39,3 +41,7 @@ pub record Ready (t : Setting) : Type 0 where
   pub round : t .won .round < 34
   pub own : t .won .own < 34
   pub dora : t .dora < 34
+
+-- k is what the code keeps of a reading's pair and groups for all places
+abbrev pub IsCommonIn : Setting → ℕ → ℕ → List ℕ → Common → Type 0
+IsCommonIn t shape pair groups k = IsCommon (t .won) (t .dora) shape pair (joined groups (t .codes)) (t .ways) k

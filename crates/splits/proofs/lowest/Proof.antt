@@ -1,6 +1,7 @@
 -- `splits::lowest` meets its contract: what is left to look through has the same lowest kind.
 use mathlib.Core.Path.{_≡_, refl, _∙_}
 use Prim.Native.Nat.{_≤_, _-_}
+use native.Mathlib.Omega.{arith}
 use borrow.Author.Needs.{needs}
 use Rattle.splits.specs.search.Parts.{lowest}
 use Rattle.splits.specs.laws.Parts.{lowest-found, lowest-turn, lowest-none}
@@ -8,20 +9,21 @@ use Rattle.splits.proofs.lowest.Statement.{statement}
 use Rattle.splits.proofs.lowest.Tie as tie
 
 abbrev Inv-loop : tie.InvT-loop
-Inv-loop from t k₀ k = (k ≤ 34) × (lowest (34 - k) k t ≡ lowest (34 - from) from t)
+Inv-loop t from k₀ k = (k ≤ 34) × (lowest (34 - k) k t ≡ lowest (34 - from) from t)
 
 abbrev μ-loop : tie.MeasureT-loop
-μ-loop from t k₀ k = 34 - k
+μ-loop t from k₀ k = 34 - k
 
 pub lowest-spec : {M : Type 1} → statement M
 lowest-spec =
     tie.close
     (tie.spec Inv-loop μ-loop
-    (λ c. (search needs, refl))
+    (λ c. (c .pre .0, refl))
+    (λ c. search needs)
+    (λ c. omega (arith, c .before .before .pre .1))
+    (λ c. let i = c .before .before in (lowest-found _ _ (i .loop-test .taken) (c .if1 .taken) ∙ i .before .loop .inv .1, search needs))
     (λ c. search needs)
     (λ c. search needs)
-    (λ c. (lowest-found _ _ (c .before .loop-test .taken) (c .if1 .taken) ∙ c .before .before .loop .inv .1, search needs))
-    (λ c. search needs)
-    (λ c. search needs)
-    (λ c. (search needs, lowest-turn (c .before .before .before .args .t1) _ (c .before .loop-test .taken) (c .if1 .left) ∙ c .before .before .loop .inv .1))
+    (λ c. let i = c .before .before in
+    (search needs, lowest-turn (i .before .before .args .t .now) _ (i .loop-test .taken) (c .if1 .left) ∙ i .before .loop .inv .1))
     (λ c. (lowest-none _ _ (c .loop-test .left) ∙ c .before .loop .inv .1, search needs)))

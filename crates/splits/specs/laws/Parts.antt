@@ -28,7 +28,7 @@ pub record Parts (parts : ℕ) (two : Bool) (f : ℕ → ℕ) : Type 0 where
   pub tiles : (k : ℕ) → f k ≡ cond two (at pair 2 k) 0 + usedBy groups k
 
 -- ---- tests
-also-of : (b : Bool) (f : Unit {0} → Bool) → also b f ≡ true → (b ≡ true) × (f tt ≡ true)
+pub also-of : (b : Bool) (f : Unit {0} → Bool) → also b f ≡ true → (b ≡ true) × (f tt ≡ true)
 also-of true f e = (refl, e)
 also-of false f e = absurd (false≢true e)
 
@@ -81,7 +81,7 @@ lowest-none t k h = let s : 34 - k ≡ 0 = omega arith in rw s
 
 module _ (t : List ℕ) where
   -- none below it is held
-  lowest-below : (j k i : ℕ) → k ≤ i → i < lowest j k t → getD t i 0 ≡ 0
+  pub lowest-below : (j k i : ℕ) → k ≤ i → i < lowest j k t → getD t i 0 ≡ 0
   unfolding lowest
   lowest-below zero k i h l = absurd (omega arith)
   lowest-below (suc j) k i h l =
@@ -108,14 +108,11 @@ module _ (t u : List ℕ) (k : ℕ) (e : k ≡ lowest 34 0 t) (h : k ≤ 34) whe
   fewer-from : ((i : ℕ) → getD u i 0 ≤ getD t i 0) → lowest (34 - k) k u ≡ lowest 34 0 u
   fewer-from l = lowest-from u k h (λ i g. omega (arith, l i, lowest-below t 34 0 i (omega arith) (rw (← e) g)))
 
-  pub less-from : u ≡ less t k 2 → 2 ≤ getD t k 0 → lowest (34 - k) k u ≡ lowest 34 0 u
-  less-from q g = fewer-from (λ i. rw q (omega (arith, less-at t k 2 (omega arith) g i)))
-
   pub without-from : (c : ℕ) → u ≡ without t c → fits t c ≡ true → lowest (34 - k) k u ≡ lowest 34 0 u
   without-from c q f = fewer-from (λ i. rw q (omega (arith, without-at t c f i)))
 
 -- ---- each tally that passes the test is parts
-add-pair : (n k : ℕ) (t : List ℕ) → 2 ≤ getD t k 0 → Parts n false (λ i. getD (less t k 2) i 0) → Parts (suc n) true (λ i. getD t i 0)
+pub add-pair : (n k : ℕ) (t : List ℕ) → 2 ≤ getD t k 0 → Parts n false (λ i. getD (less t k 2) i 0) → Parts (suc n) true (λ i. getD t i 0)
 add-pair n k t h s =
     record {
       pair = k;
@@ -166,16 +163,16 @@ parts-sound (suc n) two t l e =
 -- ---- each tally that is parts passes the test
 
 -- a group of a list that has a tile of the kind k, and the others
-record Taken (gs : List ℕ) (k : ℕ) : Type 0 where
-  code : ℕ
-  others : List ℕ
-  number : length gs ≡ suc (length others)
-  group : isGroup code ≡ true
-  codes : Each (λ g. isGroup g ≡ true) others
-  tiles : (i : ℕ) → usedBy gs i ≡ uses code i + usedBy others i
-  has : 0 < uses code k
+pub record Taken (gs : List ℕ) (k : ℕ) : Type 0 where
+  pub code : ℕ
+  pub others : List ℕ
+  pub number : length gs ≡ suc (length others)
+  pub group : isGroup code ≡ true
+  pub codes : Each (λ g. isGroup g ≡ true) others
+  pub tiles : (i : ℕ) → usedBy gs i ≡ uses code i + usedBy others i
+  pub has : 0 < uses code k
 
-take-group : (gs : List ℕ) (k : ℕ) → Each (λ g. isGroup g ≡ true) gs → 0 < usedBy gs k → Taken gs k
+pub take-group : (gs : List ℕ) (k : ℕ) → Each (λ g. isGroup g ≡ true) gs → 0 < usedBy gs k → Taken gs k
 unfolding usedBy
 take-group [] k o h = absurd (omega arith)
 take-group (g ∷ gs) k (each p o) h =
@@ -194,7 +191,7 @@ take-group (g ∷ gs) k (each p o) h =
     (λ q. record { code = g; others = gs; number = refl; group = p; codes = o; tiles = λ i. refl; has = q })
 
 -- a group that has a tile of the kind k, and none below, is k's triplet or the run from k
-lowest-code : (c k : ℕ) → 0 < uses c k → ((i : ℕ) → i < k → uses c i ≡ 0) → (c ≡ 34 + k) ⊎ (c ≡ k)
+pub lowest-code : (c k : ℕ) → 0 < uses c k → ((i : ℕ) → i < k → uses c i ≡ 0) → (c ≡ 34 + k) ⊎ (c ≡ k)
 unfolding uses
 lowest-code c k h z =
     run-or c
@@ -263,7 +260,8 @@ without-part n c two t k s r e =
       },
     )
 
-without-two : (n k : ℕ) (t : List ℕ) (s : Parts (suc n) true (λ i. getD t i 0)) → s .pair ≡ k → (2 ≤ getD t k 0) × Parts n false (λ i. getD (less t k 2) i 0)
+pub without-two : (n k : ℕ) (t : List ℕ) (s : Parts (suc n) true (λ i. getD t i 0)) → s .pair ≡ k → (2 ≤ getD t k 0) × Parts n false (λ i. getD
+    (less t k 2) i 0)
 without-two n k t s e =
     let u : (i : ℕ) → at (s .pair) 2 i ≡ at k 2 i = λ i. ap (λ (x : ℕ). at x 2 i) e in
     let h : 2 ≤ getD t k 0 = omega (arith, s .tiles k, u k, at-same k 2) in (
@@ -336,7 +334,7 @@ splits-test n m t r l q e =
     let d : r ≡ isParts (suc n) true t = rw (← q) e in
     (rw d (splits-exactly n t l), d)
 
--- ---- the test as the code makes it: no part is left, no tile is there, the lowest tile in each part that can have it
+-- ---- the test step by step: no part is left, no tile is there, the lowest tile in each part that can have it
 pub also-with : (b : Bool) (n : ℕ) (two : Bool) (u v : List ℕ) (x : Bool) → b ≡ true → x ≡ isParts n two u → u ≡ v → x ≡ also b (λ _. isParts n two v)
 also-with b n two u v x e h q = rw (e, ← q) h
 

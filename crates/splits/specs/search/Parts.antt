@@ -1,5 +1,5 @@
--- How the code finds out whether a tally splits: the lowest tile is in a part, and what is left splits in turn. Nobody has to believe it:
--- that the test holds exactly where the tally splits is the contract of `splits`.
+-- A test whether a tally splits: the lowest tile is in a part, and what is left splits in turn. The code tries fewer parts (laws/Groups). Nobody has
+-- to believe it: that the test holds exactly where the tally splits is the contract of `splits`.
 use mathlib.Core.Bool.{Bool, true, false, _&&_, _||_, not, cond}
 use mathlib.Core.List.{List}
 use Prim.Native.Nat.{ℕ, zero, suc, _+_}

@@ -1,33 +1,45 @@
--- `tile_yaku::gates` meets its contract: the sets are the suits.
+-- `tile_yaku::gates` meets its contract: where no suit has all tiles, no suit is asked.
 use borrow.Author.Needs.{needs}
-use mathlib.Core.Path.{refl, _∙_}
-use Rattle.tiles.specs.Below.{every}
+use borrow.Author.Tests.{not-true, not-false}
+use mathlib.Core.Path.{_≡_, refl, sym, _∙_}
+use mathlib.Core.Bool.{Bool, true, false, _&&_, _||_}
+use mathlib.Core.List.{List}
+use Prim.Native.Nat.{ℕ}
 use Rattle.tiles.specs.Kinds.{inSuit}
-use Rattle.tile_yaku.specs.laws.Sets.{only-alike}
-use Rattle.tile_yaku.specs.OfTiles.{gates}
+use Rattle.tile_yaku.specs.OfTiles.{only, gatesOf, gates}
 use Rattle.tile_yaku.proofs.gates.Statement.{statement}
 use Rattle.tile_yaku.proofs.gates.Tie as tie
 
-returns : tie.Need-returns
-unfolding gates every
-returns c =
-    let c1 = c .before in
-    let c2 = c1 .before in
-    let c3 = c2 .before in
-    let c4 = c3 .before in
-    let c5 = c4 .before in
-    rw (
-      c5 .only .ensures ∙ only-alike _ _ (inSuit 0) refl,
-      c3 .only2 .ensures ∙ only-alike _ _ (inSuit 1) refl,
-      c1 .only3 .ensures ∙ only-alike _ _ (inSuit 2) refl,
-      c4 .gates-of .ensures,
-      c2 .gates-of2 .ensures,
-      c .gates-of3 .ensures,
-    )
+by-suits : (t : List ℕ) (bare m p s : Bool) → (m ≡ only t (inSuit 0)) × (p ≡ only t (inSuit 1)) × (s ≡ only t (inSuit 2))
+    → (bare && ((m && gatesOf t 0 || p && gatesOf t 1) || s && gatesOf t 2)) ≡ gates t bare
+unfolding gates
+by-suits t bare m p s e = rw (e .0, e .1, e .2)
+
+none : (b m p s x y z : Bool) → b && ((m || p) || s) ≡ false → false ≡ (b && ((m && x || p && y) || s && z))
+none false m p s x y z e = refl
+none true false false false x y z e = refl
+none true true p s x y z e = absurd (mathlib.Core.Bool.false≢true (sym e))
+none true false true s x y z e = absurd (mathlib.Core.Bool.false≢true (sym e))
+none true false false true x y z e = absurd (mathlib.Core.Bool.false≢true (sym e))
+
+one : (b c r : Bool) → b && c ≡ true → r ≡ (b && r)
+one true c r e = refl
+one false c r e = absurd (mathlib.Core.Bool.false≢true e)
 
 pub gates-spec : {M : Type 1} → statement M
 gates-spec =
     tie.close
     (tie.spec
-    (λ c κs. search needs) (λ c κs. search needs) (λ c κs. search needs) (λ c κs. search needs)
-    (λ c κs. search needs) (λ c κs. search needs) returns)
+    (λ c.
+    let a = c .before in
+    let x = a .args in
+    none (x .bare) (x .man) (x .pin) (x .sou) (gatesOf (x .t) 0) (gatesOf (x .t) 1) (gatesOf (x .t) 2) (not-true _ (c .if1 .taken))
+    ∙ by-suits (x .t) (x .bare) (x .man) (x .pin) (x .sou) (a .pre))
+    (λ c κs. search needs) (λ c κs. search needs) (λ c κs. search needs)
+    (λ c.
+    let two = c .before in
+    let first = two .before in
+    let a = first .before .before in
+    let x = a .args in
+    rw (first .gates-of .ensures, two .gates-of2 .ensures, c .gates-of3 .ensures)
+    (one (x .bare) ((x .man || x .pin) || x .sou) _ (not-false _ (first .before .if1 .left)) ∙ by-suits (x .t) (x .bare) (x .man) (x .pin) (x .sou) (a .pre))))

@@ -1,27 +1,62 @@
--- `tile_yaku::tile_tests` meets its contract: each set is the sort that its name says.
+-- `tile_yaku::tile_tests` meets its contract: each set of sorts is what its name says.
 use borrow.Author.Needs.{needs}
+use mathlib.Core.Bool.{_||_}
 use mathlib.Core.Path.{refl, _∙_}
 use Rattle.tiles.specs.Below.{every}
-use Rattle.tiles.specs.Kinds.{isNumber, isHonour, isTerminal, isYaochu, isSimple}
-use Rattle.tile_yaku.specs.laws.Sets.{only-alike}
-use Rattle.tile_yaku.specs.OfTiles.{isGreen}
+use Rattle.tiles.specs.Kinds.{inSuit, isNumber, isHonour, isTerminal, isYaochu, isSimple}
+use Rattle.tile_yaku.specs.OfTiles.{isGreen, halfFlush, flush}
 use Rattle.tile_yaku.specs.search.TileTests.{tileTestsOf}
+use Rattle.tile_yaku.specs.laws.Sorts.{only-within}
 use Rattle.tile_yaku.proofs.tile_tests.Statement.{statement}
 use Rattle.tile_yaku.proofs.tile_tests.Tie as tie
 
+-- the suits that are given to `gates`
+suits : tie.Need-gates-requires
+unfolding every
+suits c κs =
+    let number = c .before .before .before .before .before .before .before .before in
+    let sou = number .before in
+    let pin = sou .before in
+    let man = pin .before in
+    let t = man .before .before .args .t in
+    let x = man .before .sorts .result in
+    let s = man .before .sorts .ensures in (
+      man .only .ensures ∙ only-within t x (inSuit 0) s refl,
+      pin .only2 .ensures ∙ only-within t x (inSuit 1) s refl,
+      sou .only3 .ensures ∙ only-within t x (inSuit 2) s refl,
+    )
+
 returns : tie.Need-returns
-unfolding tileTestsOf every
+unfolding tileTestsOf halfFlush flush every
 returns c =
-    let d = c .before .before .before .before in
+    let green = c .before in
+    let terminal = green .before in
+    let yaochu = terminal .before in
+    let simple = yaochu .before in
+    let sou-honour = simple .before in
+    let pin-honour = sou-honour .before in
+    let man-honour = pin-honour .before in
+    let honour = man-honour .before in
+    let number = honour .before in
+    let sou = number .before in
+    let pin = sou .before in
+    let man = pin .before in
+    let t = man .before .before .args .t in
+    let x = man .before .sorts .result in
+    let s = man .before .sorts .ensures in
     rw (
-      d .before .before .before .before .only .ensures ∙ only-alike _ _ isNumber refl,
-      d .before .before .before .only2 .ensures ∙ only-alike _ _ isSimple refl,
-      d .before .before .only3 .ensures ∙ only-alike _ _ isYaochu refl,
-      d .before .half-flush .ensures,
-      d .flush .ensures,
-      c .before .before .before .only4 .ensures ∙ only-alike _ _ isHonour refl,
-      c .before .before .only5 .ensures ∙ only-alike _ _ isTerminal refl,
-      c .before .only6 .ensures ∙ only-alike _ _ isGreen refl,
+      man .only .ensures ∙ only-within t x (inSuit 0) s refl,
+      pin .only2 .ensures ∙ only-within t x (inSuit 1) s refl,
+      sou .only3 .ensures ∙ only-within t x (inSuit 2) s refl,
+      number .only4 .ensures ∙ only-within t x isNumber s refl,
+      honour .only5 .ensures ∙ only-within t x isHonour s refl,
+      man-honour .only6 .ensures ∙ only-within t x (λ k. inSuit 0 k || isHonour k) s refl,
+      pin-honour .only7 .ensures ∙ only-within t x (λ k. inSuit 1 k || isHonour k) s refl,
+      sou-honour .only8 .ensures ∙ only-within t x (λ k. inSuit 2 k || isHonour k) s refl,
+      simple .only9 .ensures ∙ only-within t x isSimple s refl,
+      yaochu .only10 .ensures ∙ only-within t x isYaochu s refl,
+      terminal .only11 .ensures ∙ only-within t x isTerminal s refl,
+      green .only12 .ensures ∙ only-within t x isGreen s refl,
       c .gates .ensures,
     )
 
@@ -31,4 +66,5 @@ tile-tests-spec =
     (tie.spec
     (λ c κs. search needs) (λ c κs. search needs) (λ c κs. search needs) (λ c κs. search needs)
     (λ c κs. search needs) (λ c κs. search needs) (λ c κs. search needs) (λ c κs. search needs)
-    (λ c κs. search needs) returns)
+    (λ c κs. search needs) (λ c κs. search needs) (λ c κs. search needs) (λ c κs. search needs)
+    (λ c κs. search needs) suits returns)

@@ -1,20 +1,19 @@
 -- What `readOf` comes to, case by case.
 use Prim.Native.Nat.{ℕ, zero, suc, _+_, _*_, _-_, _≤_, _<_}
-use mathlib.Core.Path.{_≡_, refl, ap}
+use mathlib.Core.Path.{_≡_, refl}
 use mathlib.Core.Bool.{false, _||_, cond, not}
-use mathlib.Core.List.{List, [], _∷_}
+use mathlib.Core.List.{List}
 use native.Mathlib.Omega.{arith}
 use borrow.Author.Tests.{ltb-false, le-ltb, eqb-true, eqb-false, eq-eqb, ne-eqb, not-false}
 use lib.Dec.{ltb, eqb}
-use lib.ListN.{length, getD, take}
+use lib.ListN.{length}
 use Rattle.tiles.specs.laws.Below.{or-both}
-use Rattle.bits.specs.Bits.{eights, bitsOf, val, fill}
-use Rattle.bits.specs.laws.Pack.{length-bitsOf, part-fill, sum-replicate}
+use Rattle.bits.specs.Bits.{bitsOf}
 use Rattle.hand.specs.declared.Held.{Held}
-use Rattle.hand_record.specs.Record.{sixes, meldsOf, tilesOf, heldIn, paddingAfter, noneHeld}
+use Rattle.hand_record.specs.Record.{heldIn, paddingAfter, noneHeld}
 use Rattle.hand_record.specs.laws.Read.{bool-true}
 use Rattle.unfinished.specs.declared.Unfinished.{Unfinished}
-use Rattle.unfinished.specs.Unfinished.{lengthOf, padOf, countIn, heldOf, paddingOf, wrongLength, heldRefusal, refusalOf, readOf}
+use Rattle.unfinished.specs.Unfinished.{lengthOf, padOf, countIn, wrongLength, heldRefusal, refusalOf, readOf}
 
 -- a refused input
 abbrev pub refusedWith : ℕ → Unfinished
@@ -58,42 +57,7 @@ unfolding readOf refusalOf
 read-not s h = rw (bool-true (wrongLength (length s) (countIn s)) (λ e. h (length-of _ _ e)))
 
 -- an input of the right length
-by-bits : (s : List ℕ) → RightLength (length s) (countIn s) → givenBy (heldOf s) (paddingOf s) ≡ readOf s
+pub read-as : (s : List ℕ) (m : ℕ) → m ≡ countIn s → RightLength (length s) m
+    → givenBy (heldIn 3 m (bitsOf s)) (paddingAfter 3 m (padOf m) (bitsOf s)) ≡ readOf s
 unfolding readOf refusalOf givenBy
-by-bits s f = rw (length-right (length s) (countIn s) f)
-
--- from its bits with zeros after them
-module _ (s b : List ℕ) (e : b ≡ fill 104 (bitsOf s)) where
-  pub count-fill : 0 < length s → val 0 (take 3 b) ≡ countIn s
-  unfolding countIn
-  count-fill h = rw e (ap (λ (l : List ℕ). getD l 0 0) (part-fill 104 0 (3 ∷ []) (bitsOf s) (omega (arith, length-bitsOf s))))
-
-  module _ (m : ℕ) (f : RightLength (length s) m) where
-    melds-fill : meldsOf 3 m b ≡ meldsOf 3 m (bitsOf s)
-    unfolding meldsOf
-    melds-fill = rw e (part-fill 104 3 (eights m) (bitsOf s) (omega (arith, sum-replicate m 8, whole m (f .few), length-bitsOf s, f .right)))
-
-    tiles-fill : tilesOf 3 m b ≡ tilesOf 3 m (bitsOf s)
-    unfolding tilesOf
-    tiles-fill =
-        rw e
-        (part-fill 104 (3 + 8 * m) (sixes (13 - 3 * m)) (bitsOf s)
-        (omega (arith, sum-replicate (13 - 3 * m) 6, whole m (f .few), length-bitsOf s, f .right)))
-
-    held-fill : heldIn 3 m b ≡ heldIn 3 m (bitsOf s)
-    unfolding heldIn
-    held-fill = rw (melds-fill, tiles-fill)
-
-    padding-fill : paddingAfter 3 m (padOf m) b ≡ paddingAfter 3 m (padOf m) (bitsOf s)
-    unfolding paddingAfter
-    padding-fill =
-        rw e
-        (ap (λ (l : List ℕ). getD l 0 0)
-        (part-fill 104 (3 + 8 * m + 6 * (13 - 3 * m)) (padOf m ∷ []) (bitsOf s) (omega (arith, whole m (f .few), length-bitsOf s, f .right))))
-
-    -- over what the reader's calls gave
-    pub read-by : m ≡ countIn s → givenBy (heldIn 3 m b) (paddingAfter 3 m (padOf m) b) ≡ readOf s
-    read-by em = rw (held-fill, padding-fill) (whole-read em)
-      where
-        whole-read : m ≡ countIn s → givenBy (heldIn 3 m (bitsOf s)) (paddingAfter 3 m (padOf m) (bitsOf s)) ≡ readOf s
-        whole-read em = rw em (by-bits s (rw em at f))
+read-as s m e f = rw (← e, length-right (length s) m f)

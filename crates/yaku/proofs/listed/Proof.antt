@@ -10,10 +10,10 @@ unfolding listed
 listed-spec =
     tie.close
     (tie.spec
-    (λ c κs. search needs) (λ c. search needs) (λ c. search needs) (λ c. search needs) (λ c. search needs)
+    (λ c. search needs) (λ c. search needs) (λ c. search needs) (λ c. search needs)
     (λ c. search needs) (λ c. search needs) (λ c. search needs) (λ c. search needs) (λ c. search needs)
     (λ c. search needs) (λ c. search needs) (λ c. search needs) (λ c. search needs) (λ c. search needs)
     (λ c. search needs) (λ c. search needs) (λ c. search needs) (λ c. search needs) (λ c. search needs)
     (λ c. search needs) (λ c. search needs) (λ c. search needs)
-    (λ c. rw (sym (c .before .is-yakuman .ensures) ∙ c .if1 .taken))
-    (λ c. rw (sym (c .before .is-yakuman .ensures) ∙ c .if1 .left)))
+    (λ c. rw (sym (c .before .pre) ∙ c .if1 .taken))
+    (λ c. rw (sym (c .before .pre) ∙ c .if1 .left)))
