@@ -1,4 +1,5 @@
-/* The scoring core of the table handset, as firmware links it (libhandset.a, x86-64). Words in quotes are documents 01's and 02's.
+/* The scoring core of the table handset, as firmware links it (libhandset.a, x86-64). Words in quotes are documents 01's and 02's,
+ * and of what is said our own paper's.
  *
  * Every call takes all input. A refused call gives its number with all else zero and changes
  * no byte of the lent book or buffer. Bytes past what a call writes stay.
@@ -36,7 +37,7 @@ enum {
     HB_REFUSAL_NO_READING = 6,  /* "no reading" */
     HB_REFUSAL_NO_YAKU = 7,     /* "readings but none with a yaku" */
     HB_REFUSAL_ARGUMENT = 8,    /* Score "dealer over 3 or wind over 1"; Riichi, Chombo "seat over 3"; Draw "over 15"; Feed "a seat
-                                   over 3" */
+                                   over 3"; of what is said "a language that is not 1 to 4 (or a number over 22 to be said)" */
     HB_REFUSAL_NOT_OPEN = 9,    /* "over (marked so, or 200 hands finished), or out of form (dealer over 3, wind over 1, over
                                    200 hands, fewer sticks than declared seats, a score under the floor below, or scores
                                    plus 1,000 times sticks not 120,000)"; "The counter never exceeds the hands finished, and a
@@ -46,7 +47,7 @@ enum {
     HB_REFUSAL_DECLARED = 10,   /* "declared already this hand" */
     HB_REFUSAL_RIICHI = 11,     /* "riichi field non-zero and winner not declared, or the reverse" */
     HB_REFUSAL_NOT_READY = 12,  /* "12 is never given now": a name for lines of older logs, "a declared seat not ready" */
-    HB_REFUSAL_BUFFER = 13,     /* "buffer shorter than the record" */
+    HB_REFUSAL_BUFFER = 13,     /* "buffer shorter than the record"; "a buffer shorter than the message" */
     HB_REFUSAL_ENTRY = 14,      /* "kind over 3, win argument not 0, m over 4, or bytes missing"; kind 4 is an entry too: "an
                                    argument of 0 or over 3, a record with m over 4, or missing bytes, is 14"; and kind 5:
                                    "argument 0, then a byte: holder 2 bits, feeder 2, yaku 1 (0 for 28), three zero bits; any
@@ -142,6 +143,63 @@ enum {
     HB_LETTER_CORRECTION = 'X'
 };
 
+/* Languages of what is said. */
+enum { HB_JAPANESE = 1, HB_ENGLISH = 2, HB_KOREAN = 3, HB_MANDARIN = 4 };
+
+/* Clips: the recordings that a unit holds, "one set a language, the same clip numbers in every set"; docs/CLIPS.md has the words. A name with
+ * "+ a to b" beside it is a base: HB_CLIP_TENS + 2 is twenty, HB_CLIP_TILE + HB_EAST the east wind. */
+enum {
+    HB_CLIP_ZERO = 0,              /* zero */
+    HB_CLIP_ONES = 0,              /* + 1 to 9: one to nine */
+    HB_CLIP_TENS = 9,              /* + 1 to 9: ten, twenty, .. ninety */
+    HB_CLIP_HUNDREDS = 18,         /* + 1 to 9: one hundred .. nine hundred */
+    HB_CLIP_THOUSANDS = 27,        /* + 1 to 9: one thousand .. nine thousand; not English */
+    HB_CLIP_TEN_THOUSAND = 37,     /* ten thousand as a scale; not English */
+    HB_CLIP_HUNDRED_MILLION = 38,  /* a hundred million as a scale; not English */
+    HB_CLIP_ISSEN = 39,            /* one thousand before a scale; Japanese alone */
+    HB_CLIP_YISHI = 40,            /* ten inside a number; Mandarin alone */
+    HB_CLIP_LIANG = 41,            /* two before a scale; Mandarin alone */
+    HB_CLIP_TEENS = 31,            /* + 11 to 19: eleven .. nineteen; English alone */
+    HB_CLIP_THOUSAND = 51,         /* thousand as a scale; English alone */
+    HB_CLIP_MILLION = 52,          /* million as a scale; English alone */
+    HB_CLIP_BILLION = 53,          /* billion as a scale; English alone */
+    HB_CLIP_EAST = 60,             /* East as a player */
+    HB_CLIP_SOUTH = 61,            /* South as a player */
+    HB_CLIP_WEST = 62,             /* West as a player */
+    HB_CLIP_NORTH = 63,            /* North as a player */
+    HB_CLIP_RON = 64,              /* wins by ron */
+    HB_CLIP_TSUMO = 65,            /* wins by tsumo */
+    HB_CLIP_PAYS = 66,             /* pays */
+    HB_CLIP_GETS = 67,             /* gets */
+    HB_CLIP_POINTS = 68,           /* points */
+    HB_CLIP_HAN = 69,              /* han */
+    HB_CLIP_FU = 70,               /* fu */
+    HB_CLIP_MANGAN = 71,           /* mangan */
+    HB_CLIP_HANEMAN = 72,          /* haneman */
+    HB_CLIP_BAIMAN = 73,           /* baiman */
+    HB_CLIP_SANBAIMAN = 74,        /* sanbaiman */
+    HB_CLIP_YAKUMAN = 75,          /* yakuman */
+    HB_CLIP_MINUS = 76,            /* minus */
+    HB_CLIP_STICKS = 77,           /* sticks */
+    HB_CLIP_COUNTERS = 78,         /* counters */
+    HB_CLIP_WAITS = 79,            /* waits for */
+    HB_CLIP_NO_WAITS = 80,         /* waits for nothing */
+    HB_CLIP_FURITEN = 81,          /* furiten */
+    HB_CLIP_READY = 82,            /* ready */
+    HB_CLIP_FROM_READY = 83,       /* tiles from ready */
+    HB_CLIP_FU_BASE = 84,          /* base */
+    HB_CLIP_FU_RON = 85,           /* closed ron */
+    HB_CLIP_FU_PAIR = 86,          /* pair */
+    HB_CLIP_FU_GROUP = 87,         /* + 0 to 3: each of the four groups */
+    HB_CLIP_FU_WAIT = 91,          /* wait */
+    HB_CLIP_FU_TSUMO = 92,         /* tsumo, as an item of fu */
+    HB_CLIP_FU_ROUNDING = 93,      /* what rounding added */
+    HB_CLIP_IN_ALL = 94,           /* in all */
+    HB_CLIP_TILE = 100,            /* + 0 to 33: the tile of that kind */
+    HB_CLIP_YAKU = 140,            /* + 1 to 36: the yaku of that number */
+    HB_CLIP_REFUSAL = 200          /* + 0 to 22: accepted; the sentence for refusal 1 to 22 */
+};
+
 /* The length in bytes of a record with m melds, m at most 4: 13, 12, 11, 10, 8. */
 #define HB_RECORD_LENGTH(m) ((103 - 10 * (m) + 7) / 8)
 
@@ -153,6 +211,7 @@ enum {
     HB_SLIP_LENGTH = 150,  /* a slip has so many bytes */
     HB_CARDS_MAX = 7968,   /* a buffer of so many bytes holds every list of practice cards: 18 of 2 tiles, 675 of 5, 7968 of 8 */
     HB_CLAIM_MAX = 7,      /* no claim has more bytes: 7, 7, 6, 5, 4 for m = 0 to 4 melds, 3 for shapes 1 and 2 */
+    HB_MESSAGE_MAX = 155,  /* no message has more clips: a buffer of so many bytes holds every one, and never meets 13 */
     HB_LINE_MAX = 83,      /* a buffer of so many bytes holds every line of tally */
     HB_LOG_MAX = 65536     /* tally reads so many bytes of a log */
 };
@@ -240,6 +299,12 @@ enum {
     HB_VERDICT_GAIN = 3,     /* it "pays that gain" */
     HB_VERDICT_MORE = 4      /* "no other reading of them with a yaku pays more" */
 };
+
+/* What a call that says something gives: a refusal and 0, or 0 and how many clips; two numbers of 16 bits, so that there is no padding. */
+typedef struct {
+    uint16_t refusal;
+    uint16_t len;
+} HbSaid;
 
 /* The game. Any bytes are a game; an accepted booking sets declared and over to 0 or 1. */
 typedef struct {
@@ -396,6 +461,35 @@ HbPrinted hb_lines(HbWalk walk, const uint8_t *log, size_t log_len, uint8_t *buf
 /* A line of tally at the start of buf, its line feed included, no zero byte after it: entry (from 1), letter, refusal,
  * the game's four scores and its sticks. Gives its length, or 0 with buf unchanged where it does not fit. */
 size_t hb_line(const HbGame *game, uint8_t *buf, size_t buf_len, uint32_t entry, uint8_t letter, uint8_t refusal);
+
+/* What is said: "A message is a list of clips, one byte each, at the start of a lent buffer; the unit plays them in order." Each call gives
+ * how many clips, or its refusal with buf unchanged; "bytes past the message stay". Each refuses first with 8 "a language that is not 1 to 4",
+ * then as the call does whose answer is said, and last with 13 "a buffer shorter than the message". Numbers are said as each language
+ * has them; "A player is named by the seat's wind". */
+
+/* Score, said: "the winner; 64 or 65; each yaku of the set, ascending; with a yakuman 75, otherwise h, 69, fu, 70 and, where a limit is
+ * paid, its name (71 to 74); then of seats 0 to 3 each that pays: the player, 66, the amount, 68; then the winner, 67, the gain, 68".
+ * Refusals 8, 1 to 7, 13 in order: 8 for the language, then for the dealer or the wind. */
+HbSaid hb_say_score(uint8_t language, const uint8_t *record, size_t record_len, uint8_t dealer, uint8_t wind, uint8_t *buf, size_t buf_len);
+
+/* The fu of a record, said: "each item that is not 0: its clip (84 to 93) and its number; 94, the fu, 70. With a yakuman: 75".
+ * Refusals 8, 1 to 7, 13 in order. */
+HbSaid hb_say_fu(uint8_t language, const uint8_t *record, size_t record_len, uint8_t dealer, uint8_t wind, uint8_t *buf, size_t buf_len);
+
+/* The scores of a game, said: "of seats 0 to 3 the player, 76 where negative, the amount, 68; 77 and the sticks where there are any; 78 and
+ * the counters where there are any. Any value of the game may be given; a dealer over 3 counts as dealer mod 4."
+ * Refusals 8, 13 in order. */
+HbSaid hb_say_scores(uint8_t language, const HbGame *game, uint8_t *buf, size_t buf_len);
+
+/* A refusal, said, or 0, accepted: "clip 200 + n". Refusals 8, 13 in order: 8 for the language, then for "a number over 22". */
+HbSaid hb_say_refusal(uint8_t language, uint8_t number, uint8_t *buf, size_t buf_len);
+
+/* The waits of an unfinished hand with discards, as Waits takes them, said: "79 and the tiles ascending, or 80; 81 where it is in furiten".
+ * Refusals 8, 1 to 4, 15, 13 in order. */
+HbSaid hb_say_waits(uint8_t language, const uint8_t *hand, size_t hand_len, const uint8_t *discards, size_t discards_len, uint8_t *buf, size_t buf_len);
+
+/* How far an unfinished hand, as Ready takes it, is from ready, said: "82, or the swaps and 83". Refusals 8, 1 to 4, 13 in order. */
+HbSaid hb_say_ready(uint8_t language, const uint8_t *hand, size_t hand_len, uint8_t *buf, size_t buf_len);
 
 #ifdef __cplusplus
 }

@@ -1,6 +1,6 @@
 #!/usr/bin/env bash
 # Pages and header against the tree: check.sh [PAPER..]. Runs claims.py, lines.py (no meaning through a search), promises.py,
-# refusals.py (with the papers, if given) and layout.py;
+# refusals.py (with the papers, if given), clips.py and layout.py;
 # ends with `pages: all agree` or exits 1. Proves nothing and takes a second.
 tools=$(cd -- "$(dirname -- "${BASH_SOURCE[0]}")" && pwd)
 failed=0
@@ -10,6 +10,7 @@ python3 "$tools/claims.py" || failed=1
 python3 "$tools/lines.py" >"$made/lines" || { tail -5 "$made/lines"; failed=1; }
 python3 "$tools/promises.py" || failed=1
 python3 "$tools/refusals.py" "$@" || failed=1
+python3 "$tools/clips.py" || failed=1
 python3 "$tools/layout.py" >"$made/layout.c" && gcc -std=c11 -Wall -Wextra -Werror -I "$tools/../include" -fsyntax-only "$made/layout.c" || failed=1
 [[ $failed == 0 ]] && echo "header: $(grep -c _Static_assert "$made/layout.c") assertions on its structs, $(grep -c '^[A-Za-z].* hb_' "$made/layout.c") calls declared again"
 [[ $failed == 0 ]] && echo "pages: all agree" || exit 1

@@ -1,5 +1,5 @@
 #!/usr/bin/env python3
-"""cost.py [--PART ..]: what the calls cost; PART: stack, scores, slips, bookings, waits, ready, cards, judges; by default all of them.
+"""cost.py [--PART ..]: what the calls cost; PART: stack, scores, slips, bookings, waits, ready, cards, judges, messages; by default all of them.
 Instructions are counted (valgrind --tool=callgrind), bytes of stack read off the frames of the archive.
 
 Scores: the program `vectors` (made by `rt check vectors`) on hands of crates/vectors/stdin. A figure is that of one entry: reading
@@ -14,6 +14,8 @@ one tile short of groups, 1,000 each from a fixed seed, and over hands of 3 to 5
 over hands found. Ready: what hb_ready takes, over 100 of each of those sets, and its stack; what the C library takes is left out.
 Cards: what hb_cards takes, by another; its stack is read off a stack that was painted before the call, the caller's frame included.
 Judge: hb_judge on claims of the reported readings of those of the first 10,000 hands that score, made by the other scorer (`claims`), and hb_score of the same hands.
+Messages: what each hb_say_ call takes beyond the call whose answer it says, in each language, by another; their stack as above; and the bytes
+that they add to a program that links all other calls, functions that nothing calls left out (gcc -Wl,--gc-sections).
 """
 import os, random, re, subprocess, sys, tempfile
 here = os.path.join(os.path.dirname(os.path.abspath(__file__)), "..")
@@ -316,7 +318,64 @@ def scores():
     print(f"costliest found of {len(suit)} one-suit hands: {worst(suit, base, 20):.0f} instructions")
 
 
-PARTS = {"--stack": stack, "--scores": scores, "--slips": slips, "--bookings": bookings, "--waits": waits, "--ready": ready, "--cards": cards, "--judges": judges}
+SAYS = """#include <stdlib.h>
+#include <string.h>
+#include "herbassolh.h"
+int main(int argc, char **argv) {
+    uint8_t buf[HB_MESSAGE_MAX], b[13];
+    int what = atoi(argv[2]), l = atoi(argv[3]), len = strlen(argv[4]) / 2;
+    for (int i = 0; i < len; i++) { char two[3] = {argv[4][2 * i], argv[4][2 * i + 1]}; b[i] = strtol(two, 0, 16); }
+    HbGame game = {{-8200, 41300, 52900, 31000}, 3, {0}, 1, 0, 5, 0, 2, {0}};
+    for (int n = atoi(argv[1]); n > 0; n--)
+        if (what == 0   ? hb_score(b, len, 0, 0).refusal
+            : what == 1 ? hb_say_score(l, b, len, 0, 0, buf, sizeof buf).refusal
+            : what == 2 ? hb_say_fu(l, b, len, 0, 0, buf, sizeof buf).refusal
+            : what == 3 ? hb_say_scores(l, &game, buf, sizeof buf).refusal
+            : what == 4 ? hb_say_refusal(l, 7, buf, sizeof buf).refusal
+            : what == 5 ? hb_waits(b, len, b, 0).refusal
+            : what == 6 ? hb_say_waits(l, b, len, b, 0, buf, sizeof buf).refusal
+            : what == 7 ? hb_ready(b, len).refusal
+                        : hb_say_ready(l, b, len, buf, sizeof buf).refusal) return argc;
+    return 0;
+}
+"""
+
+
+def messages():
+    """What each message takes beyond the call whose answer it says, in the four languages; their stack; and their bytes of code."""
+    languages = (("Japanese", 1), ("English", 2), ("Korean", 3), ("Mandarin", 4))
+    one, nine = "b81e640210620a31661a9a6bb0", "201e60000005965acb2cc30d34"
+    gates, two_away = "000000210620a30e410400", "000000018630c51469a800"
+    with tempfile.TemporaryDirectory() as d:
+        program = compiled(d, SAYS)
+
+        def each(what, language, data, times):
+            return (counted(program, times + 1, what, language, data)[0] - counted(program, 1, what, language, data)[0]) // times
+        for name, what, beyond, data, times in (
+                ("Score of line 1", 1, (0, "Score"), one, 1000), ("Score of line 9", 1, (0, "Score"), nine, 1000),
+                ("Fu of line 1", 2, (0, "Score"), one, 1000), ("Fu of line 9", 2, (0, "Score"), nine, 1000),
+                ("Scores of a game", 3, None, "", 1000), ("Refusal 7", 4, None, "", 1000),
+                ("Waits of 1112345678999m, nine tiles", 6, (5, "Waits"), gates, 100),
+                ("Ready of 1112345678999m, ready", 8, (7, "Ready"), gates, 10), ("Ready of 11114477m22558p, two away", 8, (7, "Ready"), two_away, 10)):
+            base = each(beyond[0], 1, data, times) if beyond else 0
+            said = ", ".join(f"{language} {each(what, number, data, times) - base}" for language, number in languages)
+            print(f"message {name}: {said} instructions" + (f" beyond its {beyond[1]}, {base}" if beyond else ""))
+        stacks_of(program, [f"hb_say_{call}" for call in ("score", "fu", "scores", "refusal", "waits", "ready")])
+        header = open(os.path.join(here, "include/herbassolh.h")).read()
+        names = re.findall(r"^[\w ]+[ *](hb_\w+)\(", header, flags=re.M)
+
+        def code(wanted):
+            table = ", ".join(f"(void *){n}" for n in wanted)
+            source = f'#include "herbassolh.h"\nvoid *volatile all[] = {{{table}}};\nint main(void) {{ return all[0] == 0; }}\n'
+            subprocess.run(["gcc", "-O2", "-static", "-Wl,--gc-sections", "-x", "c", "-", "-x", "none", archive, "-I", os.path.join(here, "include"),
+                            "-o", f"{d}/code"], input=source.encode(), check=True)
+            return int(subprocess.run(["size", f"{d}/code"], capture_output=True, text=True, check=True).stdout.split("\n")[1].split()[0])
+        others = [n for n in names if not n.startswith("hb_say_")]
+        print(f"the six calls add {code(names) - code(others)} bytes of code and constants to the other {len(others)}")
+
+
+PARTS = {"--stack": stack, "--scores": scores, "--slips": slips, "--bookings": bookings, "--waits": waits, "--ready": ready, "--cards": cards, "--judges": judges,
+         "--messages": messages}
 
 
 def main():

@@ -1,4 +1,4 @@
-//! A second scorer, game and log for the table handset, written from documents 01 and 02 alone.
+//! A second scorer, game and log for the table handset, written from documents 01 and 02 alone, and what it says.
 //! Readings are found by always placing the lowest tile left, then sorted into document 01's order.
 
 pub mod cards;
@@ -28,6 +28,8 @@ pub mod game;
 pub mod ledger;
 pub mod log;
 pub mod set;
+
+pub mod say;
 
 pub mod cover;
 pub mod damage;

@@ -18,6 +18,11 @@ ghost use Rattle.ledger.specs.Booking as Booking;
 ghost use Rattle.book.specs.Book.{plain, correction, freshBook};
 ghost use Rattle.book.specs.Runs.{Booked};
 ghost use Rattle.play.specs.Play.{BookedPart, started, textLeft, linesOf};
+ghost use mathlib.Core.Bool.{cond};
+ghost use lib.Dec.{ltb};
+ghost use Rattle.speech_score.specs.Said.{Answers};
+ghost use Rattle.speech_told.specs.Messages.{scoreSaid, fuMessage, refusalMessage};
+ghost use Rattle.speech_table.specs.Messages.{waitsMessage, SaysReady, SaysScores};
 ghost use Rattle.handset.specs.Interface.{nextEntryOf, Lined};
 use book::Book;
 use card_writer::Cards;
@@ -30,6 +35,7 @@ use play::Printed;
 use play::Walk;
 use ready::Ready;
 use score::Scored;
+use speech_score::Said;
 use waits::Waits;
 
 // What Next entry gives: an entry with its letter in `tally` and its length, header included; the log's end; or refusal 14. Else all zero.
@@ -294,4 +300,53 @@ pub extern "C" fn hb_line(g: &Game, buf: &mut [u8], entry: u32, letter: u8, refu
     ensures { λ r. ⌜ Lined (now (g .entry)) (now (buf .entry)) entry letter refusal r (now (buf .exit)) ⌝ }
 {
     line_of(*g, buf, entry, letter, refusal)
+}
+
+// Score, said: the clips of what a record is worth and who pays what, in a language, at the start of a buffer, and how many they are; or the refusal, and the
+// buffer as it was.
+#[no_mangle]
+pub extern "C" fn hb_say_score(language: u8, s: &[u8], dealer: u8, wind: u8, buf: &mut [u8]) -> Said
+    ensures { λ r. ⌜ Answers language (scoreOf (now (s .entry)) dealer wind .refusal) (scoreSaid language (now (s .entry)) dealer wind) (now (buf .entry)) r (now (buf .exit)) ⌝ }
+{
+    speech_score::say_score(language, s, dealer, wind, buf)
+}
+
+// The fu of a record, said: each item and the sum; or the refusal.
+#[no_mangle]
+pub extern "C" fn hb_say_fu(language: u8, s: &[u8], dealer: u8, wind: u8, buf: &mut [u8]) -> Said
+    ensures { λ r. ⌜ Answers language (scoreOf (now (s .entry)) dealer wind .refusal) (fuMessage language (scoreOf (now (s .entry)) dealer wind)) (now (buf .entry)) r (now (buf .exit)) ⌝ }
+{
+    speech_fu::say_fu(language, s, dealer, wind, buf)
+}
+
+// The scores of a lent game, said, with its sticks and counters; or the refusal.
+#[no_mangle]
+pub extern "C" fn hb_say_scores(language: u8, g: &Game, buf: &mut [u8]) -> Said
+    ensures { λ r. ⌜ SaysScores language (now (g .entry)) (now (buf .entry)) r (now (buf .exit)) ⌝ }
+{
+    speech_table::say_scores(language, *g, buf)
+}
+
+// A refusal, said: the clip of its sentence, or that of 0, accepted; or the refusal of this call.
+#[no_mangle]
+pub extern "C" fn hb_say_refusal(language: u8, number: u8, buf: &mut [u8]) -> Said
+    ensures { λ r. ⌜ Answers language (cond (ltb 22 number) 8 0) (refusalMessage number) (now (buf .entry)) r (now (buf .exit)) ⌝ }
+{
+    speech_score::say_refusal(language, number, buf)
+}
+
+// The waits of an unfinished hand, said, and furiten by a list of discards; or the refusal.
+#[no_mangle]
+pub extern "C" fn hb_say_waits(language: u8, s: &[u8], discards: &[u8], buf: &mut [u8]) -> Said
+    ensures { λ r. ⌜ Answers language (waitsOf (now (s .entry)) (now (discards .entry)) .refusal) (waitsMessage (waitsOf (now (s .entry)) (now (discards .entry)))) (now (buf .entry)) r (now (buf .exit)) ⌝ }
+{
+    speech_table::say_waits(language, s, discards, buf)
+}
+
+// How far an unfinished hand is from ready, said; or the refusal.
+#[no_mangle]
+pub extern "C" fn hb_say_ready(language: u8, s: &[u8], buf: &mut [u8]) -> Said
+    ensures { λ r. ⌜ SaysReady language (now (s .entry)) (now (buf .entry)) r (now (buf .exit)) ⌝ }
+{
+    speech_table::say_ready(language, s, buf)
 }

@@ -10,3 +10,4 @@ pub mod Written
 pub mod Tried
 pub mod Z
 pub mod Changes
+pub mod Small

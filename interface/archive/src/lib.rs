@@ -151,6 +151,13 @@ pub struct Judged {
 
 #[repr(C)]
 #[derive(Clone, Copy, Debug, PartialEq, Eq)]
+pub struct Said {
+    pub refusal: u16,
+    pub len: u16,
+}
+
+#[repr(C)]
+#[derive(Clone, Copy, Debug, PartialEq, Eq)]
 pub struct Game {
     pub scores: [i32; 4],
     pub sticks: u32,
@@ -209,6 +216,9 @@ pub const SLIP_LENGTH: usize = 150;
 /// A buffer of so many bytes holds every list of practice cards (HB_CARDS_MAX).
 pub const CARDS_MAX: usize = 7968;
 
+/// A buffer of so many bytes holds every message (HB_MESSAGE_MAX).
+pub const MESSAGE_MAX: usize = 155;
+
 impl Hand {
     /// A hand from its 25 bytes as they lie in memory.
     pub fn of(bytes: [u8; 25]) -> Hand {
@@ -254,6 +264,20 @@ extern "C" {
     fn hb_start() -> Walk;
     fn hb_lines(walk: Walk, log: *const u8, log_len: usize, buffer: *mut u8, len: usize) -> Printed;
     fn hb_line(game: &Game, buffer: *mut u8, len: usize, entry: u32, letter: u8, refusal: u8) -> usize;
+    fn hb_say_score(language: u8, record: *const u8, record_len: usize, dealer: u8, wind: u8, buffer: *mut u8, len: usize) -> Said;
+    fn hb_say_fu(language: u8, record: *const u8, record_len: usize, dealer: u8, wind: u8, buffer: *mut u8, len: usize) -> Said;
+    fn hb_say_scores(language: u8, game: &Game, buffer: *mut u8, len: usize) -> Said;
+    fn hb_say_refusal(language: u8, number: u8, buffer: *mut u8, len: usize) -> Said;
+    fn hb_say_waits(
+        language: u8,
+        hand: *const u8,
+        hand_len: usize,
+        discards: *const u8,
+        discards_len: usize,
+        buffer: *mut u8,
+        len: usize,
+    ) -> Said;
+    fn hb_say_ready(language: u8, hand: *const u8, hand_len: usize, buffer: *mut u8, len: usize) -> Said;
 }
 
 // SAFETY, for every call below: the pointers and lengths are a slice's, which is never null; a book and a buffer that a
@@ -377,6 +401,37 @@ pub fn lines(walk: Walk, log: &[u8], buffer: &mut [u8]) -> Printed {
 /// A line of tally.
 pub fn line(game: &Game, buffer: &mut [u8], entry: u32, letter: u8, refusal: u8) -> usize {
     unsafe { hb_line(game, buffer.as_mut_ptr(), buffer.len(), entry, letter, refusal) }
+}
+
+/// The Score message.
+pub fn say_score(language: u8, record: &[u8], dealer: u8, wind: u8, buffer: &mut [u8]) -> Said {
+    unsafe { hb_say_score(language, record.as_ptr(), record.len(), dealer, wind, buffer.as_mut_ptr(), buffer.len()) }
+}
+
+/// The Fu message.
+pub fn say_fu(language: u8, record: &[u8], dealer: u8, wind: u8, buffer: &mut [u8]) -> Said {
+    unsafe { hb_say_fu(language, record.as_ptr(), record.len(), dealer, wind, buffer.as_mut_ptr(), buffer.len()) }
+}
+
+/// The Scores message.
+pub fn say_scores(language: u8, game: &Game, buffer: &mut [u8]) -> Said {
+    unsafe { hb_say_scores(language, game, buffer.as_mut_ptr(), buffer.len()) }
+}
+
+/// The sentence for a refusal.
+pub fn say_refusal(language: u8, number: u8, buffer: &mut [u8]) -> Said {
+    unsafe { hb_say_refusal(language, number, buffer.as_mut_ptr(), buffer.len()) }
+}
+
+/// The Waits message.
+pub fn say_waits(language: u8, hand: &[u8], discards: &[u8], buffer: &mut [u8]) -> Said {
+    let (discards, many) = (discards.as_ptr(), discards.len());
+    unsafe { hb_say_waits(language, hand.as_ptr(), hand.len(), discards, many, buffer.as_mut_ptr(), buffer.len()) }
+}
+
+/// The Ready message.
+pub fn say_ready(language: u8, hand: &[u8], buffer: &mut [u8]) -> Said {
+    unsafe { hb_say_ready(language, hand.as_ptr(), hand.len(), buffer.as_mut_ptr(), buffer.len()) }
 }
 
 /// All lines of a log, a buffer at a time. Each call that writes books an entry, so there are fewer of them than bytes.

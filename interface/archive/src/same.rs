@@ -4,6 +4,7 @@ use std::collections::BTreeMap;
 
 use other_scorer::log::{booking, letter, next, Next};
 use other_scorer::record::Meld;
+use other_scorer::say::calls::{put, Message};
 use other_scorer::turn::moved_changes;
 use other_scorer::Booking;
 
@@ -126,6 +127,12 @@ pub fn cards(suit: u8, size: u8, buffer: &mut [u8]) -> archive::Cards {
         Ok(count) => archive::Cards { refusal: 0, count },
         Err(refusal) => archive::Cards { refusal, count: 0 },
     }
+}
+
+/// What a call that says a message should give, with the buffer then (the paper on what the handset says, Calls).
+pub fn said(message: &Message, buffer: &mut [u8]) -> archive::Said {
+    let (refusal, len) = put(message, buffer);
+    archive::Said { refusal: refusal.into(), len }
 }
 
 /// A game in the archive's form.

@@ -1,4 +1,4 @@
-//! Random records and hands through Read, Write, Score, the slip, Waits, Ready and Judge.
+//! Random records and hands through Read, Write, Score, the slip, Waits, Ready and Judge, and what is said of them.
 
 use archive::same;
 use other_scorer::codec::{pack, unpack};
@@ -12,6 +12,7 @@ use other_scorer::score;
 use crate::claims;
 use crate::ready;
 use crate::report::Report;
+use crate::said;
 use crate::slips;
 use crate::turns;
 use crate::waits;
@@ -102,7 +103,7 @@ fn compare_write(report: &mut Report, rng: &mut Rng, hand: &archive::Hand) {
     }
 }
 
-/// Compares the seven calls for one input.
+/// Compares the seven calls, and the messages of those that have one, for one input.
 fn compare(report: &mut Report, rng: &mut Rng, index: usize) {
     let (record, dealer, wind, scored) = input(rng, index);
     let read = archive::read(&record);
@@ -132,6 +133,7 @@ fn compare(report: &mut Report, rng: &mut Rng, index: usize) {
 
     slips::compare(report, rng, &record, dealer, wind, &scored);
     claims::compare(report, rng, &record, dealer, wind);
+    said::of_record(report, rng, &record, dealer, wind, &scored);
 
     let hand = hand(rng, &record);
     compare_write(report, rng, &hand);

@@ -277,7 +277,7 @@ fn compare_lines(report: &mut Report, rng: &mut Rng, log: &[u8]) {
 }
 
 /// A game of any state, in form or not, its set marks any byte but 0.
-fn any_game(rng: &mut Rng) -> archive::Game {
+pub fn any_game(rng: &mut Rng) -> archive::Game {
     let mut game = same::game(&games::any(rng));
     if rng.percent(50) {
         let marks = game.declared.iter_mut().chain([&mut game.over]);
@@ -287,7 +287,7 @@ fn any_game(rng: &mut Rng) -> archive::Game {
 }
 
 /// A game of any bytes.
-fn any_bytes(rng: &mut Rng) -> archive::Game {
+pub fn any_bytes(rng: &mut Rng) -> archive::Game {
     let scores = [(); 4].map(|_| rng.next() as i32);
     let [dealer, wind, hands, over] = [(); 4].map(|_| rng.next() as u8);
     let (declared, feeders) = ([(); 4].map(|_| rng.next() as u8), [(); 8].map(|_| rng.next() as u8));

@@ -10,6 +10,7 @@ mod lines;
 mod logs;
 mod ready;
 mod report;
+mod said;
 mod slips;
 mod turns;
 mod waits;
@@ -36,6 +37,7 @@ fn run(count: usize, seed: u64, logs: usize) -> bool {
     let after_hands = start.elapsed();
     cards::run(&mut report, &mut rng);
     lines::run(&mut report, &mut rng, count / 10);
+    said::run(&mut report, &mut rng, count / 10);
     logs::run(&mut report, &mut rng, logs);
     let (hands, all) = (after_hands.as_secs(), start.elapsed().as_secs());
     println!("seed {seed}: {count} hands in {hands} s; with {logs} logs {all} s");

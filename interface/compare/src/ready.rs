@@ -5,9 +5,10 @@ use other_scorer::notation::hex::to_hex as hex;
 use other_scorer::rng::Rng;
 
 use crate::report::Report;
+use crate::said;
 use crate::waits::bytes;
 
-/// Compares Ready for one hand: the number, and that the hand given is one that many swaps away.
+/// Compares Ready for one hand: the number, and that the hand given is one that many swaps away; and its message.
 pub fn compare(report: &mut Report, rng: &mut Rng) {
     let bytes = bytes(rng);
     let got = archive::ready(&bytes);
@@ -17,4 +18,5 @@ pub fn compare(report: &mut Report, rng: &mut Rng) {
         report.count("Ready by swaps", wanted.swaps);
     }
     report.same("Ready", got, wanted, || hex(&bytes));
+    said::of_ready(report, rng, &bytes);
 }

@@ -7,6 +7,7 @@ use other_scorer::rng::Rng;
 use other_scorer::unfinished::{length, pack, Unfinished};
 
 use crate::report::Report;
+use crate::said;
 
 /// The bytes of a hand without its winning tile; of one suit at times.
 fn sound(rng: &mut Rng) -> Vec<u8> {
@@ -63,7 +64,7 @@ fn discards(rng: &mut Rng) -> Vec<u8> {
     discards
 }
 
-/// Compares Waits for one hand.
+/// Compares Waits for one hand, and its message.
 pub fn compare(report: &mut Report, rng: &mut Rng) {
     let (bytes, discards) = (bytes(rng), discards(rng));
     let (got, wanted) = (archive::waits(&bytes, &discards), same::waits(&bytes, &discards));
@@ -73,4 +74,5 @@ pub fn compare(report: &mut Report, rng: &mut Rng) {
         report.count("Waits in furiten", wanted.furiten);
     }
     report.same("Waits", got, wanted, || format!("{} discards {}", hex(&bytes), hex(&discards)));
+    said::of_waits(report, rng, &bytes, &discards);
 }

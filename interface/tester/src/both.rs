@@ -1,8 +1,9 @@
 //! The proved core, each answer compared with the other scorer's.
 
-use archive::{same, Cards, Differences, Judged, NextEntry, ReadHand, Ready, Scored, Waits, Written, RECORD_MAX};
+use archive::{same, Cards, Differences, Game, Judged, NextEntry, ReadHand, Ready, Said, Scored, Waits, Written, RECORD_MAX};
 use other_scorer::log::tally_lines;
 use other_scorer::notation::hex::to_hex;
+use other_scorer::say::calls::{self, Message};
 use other_scorer::{score, slip, Hand};
 
 use crate::answer::Answer;
@@ -87,6 +88,56 @@ impl Core {
         let input = || format!("{} claim {} dealer {dealer} wind {wind}", to_hex(record), to_hex(claim));
         self.differences.same("Judge", answer, same::judge(record, claim, dealer, wind), input);
         answer
+    }
+
+    /// A message in a buffer of a length, and its clips, by a call of the archive, compared with the other scorer's.
+    fn said(&mut self, wanted: &Message, length: usize, call: impl Fn(&mut [u8]) -> Said, input: impl Fn() -> String) -> (Said, Vec<u8>) {
+        let (mut core, mut other) = (vec![0; length], vec![0; length]);
+        let answer = call(&mut core);
+        let wanted = same::said(wanted, &mut other);
+        self.differences.same("a message", (answer, &core), (wanted, &other), || format!("{}, buffer of {length}", input()));
+        core.truncate(answer.len.into());
+        (answer, core)
+    }
+
+    /// The Score message.
+    pub fn say_score(&mut self, language: u8, record: &[u8], dealer: u8, wind: u8, length: usize) -> (Said, Vec<u8>) {
+        let wanted = calls::score(language, record, dealer, &score(record, dealer, wind));
+        let input = || format!("Score of {} dealer {dealer} wind {wind} language {language}", to_hex(record));
+        self.said(&wanted, length, |buf| archive::say_score(language, record, dealer, wind, buf), input)
+    }
+
+    /// The Fu message.
+    pub fn say_fu(&mut self, language: u8, record: &[u8], dealer: u8, wind: u8, length: usize) -> (Said, Vec<u8>) {
+        let wanted = calls::fu(language, &score(record, dealer, wind));
+        let input = || format!("Fu of {} dealer {dealer} wind {wind} language {language}", to_hex(record));
+        self.said(&wanted, length, |buf| archive::say_fu(language, record, dealer, wind, buf), input)
+    }
+
+    /// The Scores message.
+    pub fn say_scores(&mut self, language: u8, game: &Game, length: usize) -> (Said, Vec<u8>) {
+        let wanted = calls::scores(language, &same::to_other_game(game));
+        let input = || format!("Scores of {game:?} language {language}");
+        self.said(&wanted, length, |buf| archive::say_scores(language, game, buf), input)
+    }
+
+    /// The sentence for a refusal.
+    pub fn say_refusal(&mut self, language: u8, number: u8, length: usize) -> (Said, Vec<u8>) {
+        let input = || format!("Refusal {number} language {language}");
+        self.said(&calls::refusal(language, number), length, |buf| archive::say_refusal(language, number, buf), input)
+    }
+
+    /// The Waits message.
+    pub fn say_waits(&mut self, language: u8, bytes: &[u8], discards: &[u8], length: usize) -> (Said, Vec<u8>) {
+        let input = || format!("Waits of {} discards {} language {language}", to_hex(bytes), to_hex(discards));
+        let wanted = calls::waits(language, bytes, discards);
+        self.said(&wanted, length, |buf| archive::say_waits(language, bytes, discards, buf), input)
+    }
+
+    /// The Ready message.
+    pub fn say_ready(&mut self, language: u8, bytes: &[u8], length: usize) -> (Said, Vec<u8>) {
+        let input = || format!("Ready of {} language {language}", to_hex(bytes));
+        self.said(&calls::ready(language, bytes), length, |buf| archive::say_ready(language, bytes, buf), input)
     }
 
     /// Next entry.

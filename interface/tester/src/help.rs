@@ -13,6 +13,7 @@ tester COMMAND WORDS: asks the proved core, and compares every answer with the o
   ready      how many tiles of an unfinished hand must be swapped until it is ready, and a hand that near
   cards      the practice cards of a suit and a size
   judge      another scorer's claim for a hand: accepted, or what is false in it
+  say        what the handset says of a hand, its fu, an unfinished hand or a refusal, in words and as clips
   log        a text of bookings to the bytes of a log, or back
   tally      a log's bookings one after the other, and the game after each
   damage     a record or a log damaged in every way: refusals counted, both scorers compared
@@ -130,6 +131,26 @@ For scripts: the lines of `hand` up to why, claim, reading SHAPE PAIR GROUPS PLA
 fault, differences.
 ";
 
+pub const SAY: &str = "\
+tester say HAND [dealer=N] [wind=E|S] [--fu] language=L [WORDS]
+tester say waits HAND [discards=TILES] language=L [WORDS]
+tester say ready HAND language=L [WORDS]
+tester say refusal N language=L [WORDS]
+
+Prints the message that the core gives the handset to play: a line for each part, between which the handset pauses, with its clips and
+their words on the sheet (docs/CLIPS.md), Japanese with kana, Mandarin with pinyin. HAND as for `tester hand`, `tester waits` and
+`tester ready`; `tester tally --say` prints what is said of a game's scores.
+
+  language=L   ja, en, ko, zh, or 1 to 4 as the label has them
+  --fu         the items of the hand's fu instead of its score
+  buffer=N     lends a buffer of N bytes instead of one for every message
+  --wav FILE   writes the message as sound, spoken by the program espeak-ng; it has to be installed
+  --plain      for scripts
+
+For scripts: the lines of `hand` up to why (of waits and ready too; of a refusal number), language, said with its refusal and the number
+of clips, clips, words of each part, differences.
+";
+
 pub const LOG: &str = "\
 tester log FILE|-|HEX [to=FILE] [--bytes] [--plain]
 
@@ -152,7 +173,7 @@ For scripts: the hexadecimal digits in one line, or the text.
 ";
 
 pub const TALLY: &str = "\
-tester tally FILE|-|HEX [--words] [--bytes] [--plain]
+tester tally FILE|-|HEX [--words] [--say L] [--bytes] [--plain]
 
 The game of a log, text or bytes as for `tester log`: a line for each entry with the deal it was made in (E1 to S4),
 its refusal (0 accepted), the scores, sticks and counter after it, and the feeders named (3 to 1 28: seat 3 feeds yaku 28
@@ -160,9 +181,10 @@ to seat 1), if there are any. The deal of a correction is that of the result whi
 
   --words    why an entry was refused, which entry a correction supersedes, whose chombo a draw was, who fed a win
              and pays for it, or who takes sticks and counters of several rons, below it
+  --say L    what the handset says of the scores after it, in words and as clips, below it; L as for `tester say`
   --bytes    FILE holds the bytes of a log, even if they look like text
 
-For scripts: the lines of the program tally; with --words what it says at the end of a line.
+For scripts: the lines of the program tally; with --words what it says at the end of a line, with --say clips in a line below it.
 ";
 
 pub const DAMAGE: &str = "\

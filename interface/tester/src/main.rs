@@ -1,5 +1,5 @@
-//! `tester COMMAND WORDS`: hands, readings, tables turned, suits renamed, slips, unfinished hands, practice cards, claims, logs,
-//! games and damaged bytes, answered by the proved core and compared with the other scorer. Exit status 0: answered, refusals too;
+//! `tester COMMAND WORDS`: hands, readings, tables turned, suits renamed, slips, unfinished hands, practice cards, claims, messages,
+//! logs, games and damaged bytes, answered by the proved core and compared with the other scorer. Exit status 0: answered, refusals too;
 //! 1: the two differ; 2: bad input, told in one line.
 
 mod answer;
@@ -20,6 +20,8 @@ mod readings;
 mod ready;
 mod refusals;
 mod rename;
+mod say;
+mod sheet;
 mod sides;
 mod slip;
 mod tally;
@@ -27,6 +29,7 @@ mod text;
 mod turn;
 mod waits;
 mod walk;
+mod wav;
 mod words;
 
 use std::io::{self, Write};
@@ -39,7 +42,7 @@ use words::{Bad, Words};
 type Command = fn(&mut Core, Words) -> Result<String, Bad>;
 
 /// The commands by name, with their help.
-const COMMANDS: [(&str, Command, &str); 12] = [
+const COMMANDS: [(&str, Command, &str); 13] = [
     ("hand", hand::run, help::HAND),
     ("readings", readings::run, help::READINGS),
     ("turn", turn::run, help::TURN),
@@ -49,6 +52,7 @@ const COMMANDS: [(&str, Command, &str); 12] = [
     ("ready", ready::run, help::READY),
     ("cards", cards::run, help::CARDS),
     ("judge", judge::run, help::JUDGE),
+    ("say", say::run, help::SAY),
     ("log", log::run, help::LOG),
     ("tally", tally::run, help::TALLY),
     ("damage", damage::run, help::DAMAGE),
@@ -60,14 +64,14 @@ fn run(core: &mut Core, mut words: Words) -> Result<String, Bad> {
     let Some(name) = words.take_first() else {
         return match wants_help {
             true => Ok(help::TOOL.into()),
-            false => Err(Bad::new("no command: hand, readings, turn, rename, slip, waits, ready, cards, judge, log, tally or damage; --help says more")),
+            false => Err(Bad::new("no command: hand, readings, turn, rename, slip, waits, ready, cards, judge, say, log, tally or damage; --help says more")),
         };
     };
     match COMMANDS.iter().find(|(command, ..)| *command == name) {
         Some((.., help)) if wants_help => Ok(help.to_string()),
         Some((_, command, _)) => command(core, words),
         None => {
-            let why = "no command; there are hand, readings, turn, rename, slip, waits, ready, cards, judge, log, tally and damage";
+            let why = "no command; there are hand, readings, turn, rename, slip, waits, ready, cards, judge, say, log, tally and damage";
             Err(Bad::new(format!("word 1, \"{name}\": {why}")))
         }
     }

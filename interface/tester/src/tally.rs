@@ -1,5 +1,6 @@
 //! `tally`: a log's bookings one after the other, and the game after each.
 
+use archive::MESSAGE_MAX;
 use other_scorer::log::LONGEST;
 use other_scorer::{Booking, Game};
 
@@ -9,30 +10,38 @@ use crate::log::entries;
 use crate::names::{count, points, wind};
 use crate::page::{table, Page};
 use crate::refusals::{of_booking, of_draw, of_entry, of_wins, sentence};
+use crate::say::numbers;
+use crate::sheet::{self, parts};
 use crate::text;
 use crate::walk::{whole, Step, Walk};
 use crate::words::{Bad, Words};
 
 /// The game of a log, entry by entry; with --words also why an entry is refused, what a correction supersedes, that a draw was a
-/// chombo, that a win was fed, or who takes sticks and counters of several.
+/// chombo, that a win was fed, or who takes sticks and counters of several; with --say what the handset says of the scores.
 pub fn run(core: &mut Core, mut words: Words) -> Result<String, Bad> {
     let (plain, raw, why) = (words.take_flag("--plain"), words.take_flag("--bytes"), words.take_flag("--words"));
+    let language = language(&mut words)?;
     let log = input::log(core, &words, raw)?.bytes;
     let log = &log[..log.len().min(LONGEST)];
     let walk = whole(core, log);
-    let (lines, remarks) = (core.lines(log), remarks(&walk));
-    if plain {
-        let each = remarks.iter().zip(lines.split_inclusive('\n'));
-        return Ok(if why { each.map(|(remark, line)| worded(line, remark.as_deref())).collect() } else { lines });
-    }
+    let (lines, said) = (core.lines(log), said(core, &walk, language));
+    let remarks = if why { remarks(&walk) } else { vec![None; walk.steps.len()] };
     let mut page = Page::default();
+    if plain && !why && language.is_none() {
+        return Ok(lines);
+    }
+    if plain {
+        for ((remark, line), (clips, _)) in remarks.iter().zip(lines.lines()).zip(said) {
+            page.line(worded(line, remark.as_deref()));
+            clips.iter().for_each(|clips| page.plain("clips", [clips.replace(';', "")]));
+        }
+        return Ok(page.finish());
+    }
     let rows = listing(&walk);
     page.line(&rows[0]);
-    for (remark, row) in remarks.iter().zip(&rows[1..]) {
+    for ((remark, row), (clips, words)) in remarks.into_iter().zip(&rows[1..]).zip(said) {
         page.line(row);
-        if let Some(remark) = remark.as_ref().filter(|_| why) {
-            page.line(format!("      {remark}"));
-        }
+        remark.into_iter().chain(words).chain(clips).for_each(|text| page.line(format!("      {text}")));
     }
     page.line("");
     if let Some(at) = walk.stopped {
@@ -80,8 +89,29 @@ fn remarks(walk: &Walk) -> Vec<Option<String>> {
 fn worded(line: &str, remark: Option<&str>) -> String {
     match remark {
         None => line.into(),
-        Some(remark) => format!("{} {remark}\n", line.trim_end()),
+        Some(remark) => format!("{line} {remark}"),
     }
+}
+
+/// The language of --say.
+fn language(words: &mut Words) -> Result<Option<u8>, Bad> {
+    let language = words.take_after("--say", "the language is missing, such as ja")?;
+    let understood = language.map(|value| sheet::language(&value).map_err(|why| Bad::new(format!("--say {value}: {why}"))));
+    understood.transpose()
+}
+
+/// Of each step what the handset says of the scores then, as clips and in words, the parts between semicolons.
+fn said(core: &mut Core, walk: &Walk, language: Option<u8>) -> Vec<(Option<String>, Option<String>)> {
+    let mut of_step = |step: &Step| {
+        let Some(language) = language else { return (None, None) };
+        let (said, clips) = core.say_scores(language, &step.after.archive.game, MESSAGE_MAX);
+        if said.refusal != 0 {
+            return (None, Some(sentence(said.refusal as u8, &[])));
+        }
+        let each = |text: &dyn Fn(&[u8]) -> String| Some(parts(&clips).into_iter().map(text).collect::<Vec<_>>().join("; "));
+        (each(&numbers), each(&|part| sheet::words(language, part)))
+    };
+    walk.steps.iter().map(&mut of_step).collect()
 }
 
 /// The deal by its wind and the dealer's number from 1.

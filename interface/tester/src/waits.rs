@@ -26,7 +26,7 @@ pub fn bytes(words: &Words) -> Result<Vec<u8>, Bad> {
 }
 
 /// The discards of a word discards=TILES or kinds=HEX.
-fn discards(words: &mut Words) -> Result<Vec<u8>, Bad> {
+pub fn discards(words: &mut Words) -> Result<Vec<u8>, Bad> {
     let by_tiles = words.take("discards", tiles)?;
     let by_bytes = words.take("kinds", from_hex)?;
     match (by_tiles, by_bytes) {
@@ -51,33 +51,57 @@ pub fn fields(hand: &Unfinished) -> String {
     format!("m {}{}, concealed {}", hand.m, melds.concat(), tiles.join(" "))
 }
 
+/// An unfinished hand that was asked about, with its discards where they are asked for, and the refusal.
+pub struct Asked<'a> {
+    pub bytes: &'a [u8],
+    pub discards: Option<&'a [u8]>,
+    pub refusal: u8,
+}
+
+impl Asked<'_> {
+    /// The conditions that the refusal met.
+    fn met(&self) -> Vec<String> {
+        of_unfinished(self.refusal, self.bytes, self.discards.unwrap_or_default())
+    }
+
+    /// The hand, its discards and bytes, and whether it was accepted.
+    pub fn head(&self, page: &mut Page) {
+        let hand = unpack(self.bytes).ok().map(|(hand, _)| hand);
+        page.row("hand", hand.map_or("none".into(), |hand| unfinished::print(&hand).unwrap_or_else(|| fields(&hand))));
+        self.discards.iter().for_each(|discards| page.row("discards", kinds(discards)));
+        page.row("bytes", format!("{}, {}", to_hex(self.bytes), count(self.bytes.len(), "byte")));
+        page.row("answer", sentence(self.refusal, &self.met()));
+    }
+
+    /// The same for scripts.
+    pub fn plain_head(&self, page: &mut Page) {
+        let exact = unpack(self.bytes).ok().filter(|(_, padding)| !padding);
+        page.plain("notation", exact.and_then(|(hand, _)| unfinished::print(&hand)));
+        page.plain("bytes", [to_hex(self.bytes)]);
+        self.discards.iter().for_each(|discards| page.plain("discards", [to_hex(discards)]));
+        page.plain("refusal", [self.refusal]);
+        self.met().iter().for_each(|why| page.plain("why", [why]));
+    }
+}
+
 /// The waits and furiten, or why there is no answer.
 pub fn run(core: &mut Core, mut words: Words) -> Result<String, Bad> {
     let plain = words.take_flag("--plain");
     let discards = discards(&mut words)?;
     let bytes = bytes(&words)?;
     let answer = core.waits(&bytes, &discards);
-    let met = of_unfinished(answer.refusal, &bytes, &discards);
-    let hand = unpack(&bytes).ok().map(|(hand, _)| hand);
+    let asked = Asked { bytes: &bytes, discards: Some(&discards), refusal: answer.refusal };
     let waits = answer.waits.list();
 
     let mut page = Page::default();
     if plain {
-        let padding = unpack(&bytes).is_ok_and(|(_, padding)| padding);
-        page.plain("notation", hand.as_ref().filter(|_| !padding).and_then(unfinished::print));
-        page.plain("bytes", [to_hex(&bytes)]);
-        page.plain("discards", [to_hex(&discards)]);
-        page.plain("refusal", [answer.refusal]);
-        met.iter().for_each(|why| page.plain("why", [why]));
+        asked.plain_head(&mut page);
         page.plain("waits", (!waits.is_empty()).then(|| text(&waits)));
         page.plain("furiten", [answer.furiten]);
         page.plain("differences", [core.differences.count]);
         return Ok(page.finish());
     }
-    page.row("hand", hand.map_or("none".into(), |hand| unfinished::print(&hand).unwrap_or_else(|| fields(&hand))));
-    page.row("discards", kinds(&discards));
-    page.row("bytes", format!("{}, {}", to_hex(&bytes), count(bytes.len(), "byte")));
-    page.row("answer", sentence(answer.refusal, &met));
+    asked.head(&mut page);
     if answer.refusal == 0 {
         let mut by: Vec<u8> = discards.into_iter().filter(|kind| waits.contains(kind)).collect();
         by.sort();

@@ -80,6 +80,16 @@ impl Words {
         self.list.len() < before
     }
 
+    /// Takes a word such as --wav and the word after it.
+    pub fn take_after(&mut self, flag: &str, missing: &str) -> Result<Option<String>, Bad> {
+        let Some(at) = self.list.iter().position(|(_, text)| text == flag) else { return Ok(None) };
+        if at + 1 == self.list.len() {
+            return Err(self.bad(at + 1, missing));
+        }
+        self.list.remove(at);
+        Ok(Some(self.list.remove(at).1))
+    }
+
     /// Takes a word KEY=VALUE and understands its value.
     pub fn take<T>(&mut self, key: &str, understand: impl Fn(&str) -> Result<T, String>) -> Result<Option<T>, Bad> {
         let mut found = None;

@@ -640,7 +640,7 @@ fn damage_counts_refusals() {
 #[test]
 fn help_for_the_tool_and_each_command() {
     let tool = answer("--help");
-    for command in ["hand", "readings", "turn", "rename", "slip", "waits", "ready", "cards", "judge", "log", "tally", "damage"] {
+    for command in ["hand", "readings", "turn", "rename", "slip", "waits", "ready", "cards", "judge", "say", "log", "tally", "damage"] {
         assert!(tool.contains(&format!("\n  {command} ")));
         let help = answer(&format!("{command} --help"));
         assert!(help.starts_with(&format!("tester {command} ")) && help.contains("--plain"));

@@ -12,8 +12,8 @@ fn fails(line: &str, input: &str, message: &str) {
 
 #[test]
 fn of_the_tool() {
-    fails("", "", "no command: hand, readings, turn, rename, slip, waits, ready, cards, judge, log, tally or damage; --help says more");
-    fails("hands", "", "word 1, \"hands\": no command; there are hand, readings, turn, rename, slip, waits, ready, cards, judge, log, tally and damage");
+    fails("", "", "no command: hand, readings, turn, rename, slip, waits, ready, cards, judge, say, log, tally or damage; --help says more");
+    fails("hands", "", "word 1, \"hands\": no command; there are hand, readings, turn, rename, slip, waits, ready, cards, judge, say, log, tally and damage");
 }
 
 #[test]
@@ -87,6 +87,31 @@ fn of_an_unfinished_hand() {
     ] {
         fails(&format!("waits {words}"), "", &message);
     }
+}
+
+#[test]
+fn of_what_is_said() {
+    let hand = "234567m345p67s22s+8s seat=1 ron=3";
+    for (words, message) in [
+        ("", "after word 1, \"say\": the language is missing, such as language=ja".to_string()),
+        (hand, "after word 4, \"ron=3\": the language is missing, such as language=ja".into()),
+        ("language=ja", format!("after word 2, \"language=ja\": no hand, such as {hand}")),
+        ("language=fr", "word 2, \"language=fr\": ja, en, ko, zh or 1 to 4 is needed (a number up to 255 to see it refused)".into()),
+        ("language=256", "word 2, \"language=256\": ja, en, ko, zh or 1 to 4 is needed (a number up to 255 to see it refused)".into()),
+        ("language=ja buffer=x", "word 3, \"buffer=x\": a number 0 to 65536 is needed".into()),
+        (&format!("{hand} language=ja --wav"), "after word 6, \"--wav\": the name of a file is missing".into()),
+        (&format!("{hand} language=ja --loud"), "word 6, \"--loud\": no option here; --help lists them".into()),
+        ("refusal language=ja", "after word 3, \"language=ja\": the number of a refusal is missing, 0 to 22".into()),
+        ("refusal x language=ja", "word 3, \"x\": a number 0 to 22 is needed (up to 255 to see it refused)".into()),
+        ("refusal 1 2 language=ja", "word 4, \"2\": one number is enough".into()),
+        ("refusal 1 --fu language=ja", "word 4, \"--fu\": no option here; --help lists them".into()),
+        ("waits language=ja", "after word 3, \"language=ja\": no hand, such as 567m22456p67s chi=234m".into()),
+        ("ready 123m language=ja", "after word 4, \"language=ja\": 3 tiles, with 0 melds 13 are needed".into()),
+    ] {
+        fails(&format!("say {words}"), "", &message);
+    }
+    fails("tally 01 --say", "", "after word 3, \"--say\": the language is missing, such as ja");
+    fails("tally 01 --say fr", "", "--say fr: ja, en, ko, zh or 1 to 4 is needed (a number up to 255 to see it refused)");
 }
 
 #[test]

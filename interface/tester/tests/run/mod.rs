@@ -14,9 +14,18 @@ pub struct Ran {
 
 /// Runs a command line in a folder, with bytes on standard input.
 pub fn run_in(folder: &Path, line: &str, input: &[u8]) -> Ran {
-    let mut child = Command::new(env!("CARGO_BIN_EXE_tester"))
-        .args(line.split_whitespace())
-        .current_dir(folder)
+    run_by(Command::new(env!("CARGO_BIN_EXE_tester")).args(line.split_whitespace()).current_dir(folder), input)
+}
+
+/// Runs a command line where no other program is found.
+#[allow(dead_code)]
+pub fn run_alone(line: &str) -> Ran {
+    run_by(Command::new(env!("CARGO_BIN_EXE_tester")).args(line.split_whitespace()).env("PATH", ""), &[])
+}
+
+/// Runs a command with bytes on standard input.
+fn run_by(command: &mut Command, input: &[u8]) -> Ran {
+    let mut child = command
         .stdin(Stdio::piped())
         .stdout(Stdio::piped())
         .stderr(Stdio::piped())

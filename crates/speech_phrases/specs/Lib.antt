@@ -1,0 +1,2 @@
+-- laws  how the parts of a message are written
+pub mod laws

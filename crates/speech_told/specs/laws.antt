@@ -1,0 +1,6 @@
+pub mod Apart
+pub mod Lengths
+pub mod OnSheet
+pub mod Short
+pub mod Told
+pub mod Named

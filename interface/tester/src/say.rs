@@ -1,0 +1,147 @@
+//! `say`: what the handset says of a hand, its fu, an unfinished hand or a refusal, in words and as clips.
+
+use archive::{Said, MESSAGE_MAX};
+
+use crate::answer::Answer;
+use crate::both::Core;
+use crate::names::count;
+use crate::page::{table, Page};
+use crate::refusals::{refusal, sentence};
+use crate::sheet::{self, parts};
+use crate::waits::{bytes, discards, Asked};
+use crate::wav;
+use crate::words::{Bad, Words};
+
+/// The longest buffer that is lent.
+const LONGEST: usize = 65_536;
+
+/// What is asked besides the thing that is said.
+struct Wish {
+    plain: bool,
+    language: u8,
+    buffer: usize,
+    wav: Option<String>,
+}
+
+/// A language, a buffer's length and a file from the words of a command.
+fn wish(words: &mut Words) -> Result<Wish, Bad> {
+    let plain = words.take_flag("--plain");
+    let wav = words.take_after("--wav", "the name of a file is missing")?;
+    let buffer = words.take("buffer", |value| match value.parse() {
+        Ok(length) if length <= LONGEST => Ok(length),
+        _ => Err(format!("a number 0 to {LONGEST} is needed")),
+    })?;
+    let language = words.take("language", sheet::language)?;
+    let missing = words.bad(words.texts().len(), "the language is missing, such as language=ja");
+    Ok(Wish { plain, language: language.ok_or(missing)?, buffer: buffer.unwrap_or(MESSAGE_MAX), wav })
+}
+
+/// The message with what was asked, in words and as clips.
+pub fn run(core: &mut Core, mut words: Words) -> Result<String, Bad> {
+    let wish = wish(&mut words)?;
+    let mut page = Page::default();
+    let kind = words.texts().first().filter(|word| ["waits", "ready", "refusal"].contains(word)).map(|word| word.to_string());
+    if kind.is_some() {
+        words.take_first();
+    }
+    let (said, clips) = match kind.as_deref() {
+        Some("waits") => of_waits(core, &mut page, &wish, words)?,
+        Some("ready") => of_ready(core, &mut page, &wish, words)?,
+        Some(_) => of_refusal(core, &mut page, &wish, words)?,
+        None => of_hand(core, &mut page, &wish, words)?,
+    };
+    if let (Some(file), 0) = (&wish.wav, said.refusal) {
+        wav::write(file, wish.language, &clips)?;
+    }
+    if wish.plain {
+        plain(&mut page, &wish, said, &clips);
+        page.plain("differences", [core.differences.count]);
+        return Ok(page.finish());
+    }
+    rows(&mut page, &wish, said, &clips);
+    page.line("");
+    page.line(core.verdict());
+    Ok(page.finish())
+}
+
+/// The message of a hand, or with --fu of its fu.
+fn of_hand(core: &mut Core, page: &mut Page, wish: &Wish, mut words: Words) -> Result<(Said, Vec<u8>), Bad> {
+    let fu = words.take_flag("--fu");
+    let answer = Answer::of(core, words)?;
+    if wish.plain { answer.plain_head(page) } else { answer.head(page) }
+    let Answer { record, dealer, wind, .. } = &answer;
+    Ok(match fu {
+        true => core.say_fu(wish.language, record, *dealer, *wind, wish.buffer),
+        false => core.say_score(wish.language, record, *dealer, *wind, wish.buffer),
+    })
+}
+
+/// The message of what an unfinished hand waits for.
+fn of_waits(core: &mut Core, page: &mut Page, wish: &Wish, mut words: Words) -> Result<(Said, Vec<u8>), Bad> {
+    let discards = discards(&mut words)?;
+    let bytes = bytes(&words)?;
+    let refusal = core.waits(&bytes, &discards).refusal;
+    let asked = Asked { bytes: &bytes, discards: Some(&discards), refusal };
+    if wish.plain { asked.plain_head(page) } else { asked.head(page) }
+    Ok(core.say_waits(wish.language, &bytes, &discards, wish.buffer))
+}
+
+/// The message of how far an unfinished hand is from ready.
+fn of_ready(core: &mut Core, page: &mut Page, wish: &Wish, words: Words) -> Result<(Said, Vec<u8>), Bad> {
+    let bytes = bytes(&words)?;
+    let refusal = core.ready(&bytes).refusal;
+    let asked = Asked { bytes: &bytes, discards: None, refusal };
+    if wish.plain { asked.plain_head(page) } else { asked.head(page) }
+    Ok(core.say_ready(wish.language, &bytes, wish.buffer))
+}
+
+/// The sentence for a refusal.
+fn of_refusal(core: &mut Core, page: &mut Page, wish: &Wish, words: Words) -> Result<(Said, Vec<u8>), Bad> {
+    words.no_options()?;
+    let number: u8 = match words.texts()[..] {
+        [] => return Err(words.bad(0, "the number of a refusal is missing, 0 to 22")),
+        [word] => word.parse().map_err(|_| words.bad(0, "a number 0 to 22 is needed (up to 255 to see it refused)"))?,
+        _ => return Err(words.bad(1, "one number is enough")),
+    };
+    match wish.plain {
+        true => page.plain("number", [number]),
+        false => page.row("number", format!("{number}, {}", refusal(number))),
+    }
+    Ok(core.say_refusal(wish.language, number, wish.buffer))
+}
+
+/// The parts of a message, each with its clips and its words; or why there is none.
+fn rows(page: &mut Page, wish: &Wish, said: Said, clips: &[u8]) {
+    page.row("language", sheet::named(wish.language));
+    if said.refusal != 0 {
+        page.row("message", match said.refusal {
+            13 => format!("refusal 13, the buffer is shorter than the message: {}", count(wish.buffer, "byte")),
+            refusal => sentence(refusal as u8, &[]),
+        });
+        wish.wav.iter().for_each(|file| page.line(format!("\nnothing is said, and {file} is not written")));
+        return;
+    }
+    page.row("message", count(clips.len(), "clip"));
+    page.line("");
+    let each = parts(clips).into_iter().map(|part| {
+        let reading = sheet::reading(wish.language, part).map_or(String::new(), |reading| format!("  ({reading})"));
+        vec![numbers(part), format!("{}{reading}", sheet::words(wish.language, part))]
+    });
+    table(&each.collect::<Vec<_>>(), &[]).iter().for_each(|line| page.line(line));
+    wish.wav.iter().for_each(|file| page.line(format!("\nwritten into {file}")));
+}
+
+/// Clips as numbers.
+pub fn numbers(clips: &[u8]) -> String {
+    clips.iter().map(u8::to_string).collect::<Vec<_>>().join(" ")
+}
+
+/// The same for scripts.
+fn plain(page: &mut Page, wish: &Wish, said: Said, clips: &[u8]) {
+    page.plain("language", [wish.language]);
+    page.plain("said", [said.refusal, said.len]);
+    page.plain("clips", clips);
+    if said.refusal == 0 {
+        parts(clips).into_iter().for_each(|part| page.plain("words", [sheet::words(wish.language, part)]));
+    }
+}
