@@ -1,5 +1,9 @@
-/* The scoring core of the table handset, as firmware links it (libhandset.a, x86-64). Words in quotes are documents 01's and 02's,
- * and of what is said our own paper's.
+/* The scoring core of the table handset, as firmware links it: herbassolh.c for any target, libhandset.a for x86-64. Words in quotes are
+ * documents 01's and 02's, and of what is said our own paper's.
+ *
+ * Lengths are size_t, of 32 or 64 bits; every other number is as wide on every target. A game and a book have no bytes between their
+ * members, so that their bytes are the same on every little-endian target. On a big-endian one, none of which was tried, their numbers
+ * would lie the other way round: to move a game there, store it member by member.
  *
  * Every call takes all input. A refused call gives its number with all else zero and changes
  * no byte of the lent book or buffer. Bytes past what a call writes stay.

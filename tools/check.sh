@@ -11,6 +11,9 @@ python3 "$tools/lines.py" >"$made/lines" || { tail -5 "$made/lines"; failed=1; }
 python3 "$tools/promises.py" || failed=1
 python3 "$tools/refusals.py" "$@" || failed=1
 python3 "$tools/clips.py" || failed=1
-python3 "$tools/layout.py" >"$made/layout.c" && gcc -std=c11 -Wall -Wextra -Werror -I "$tools/../include" -fsyntax-only "$made/layout.c" || failed=1
-[[ $failed == 0 ]] && echo "header: $(grep -c _Static_assert "$made/layout.c") assertions on its structs, $(grep -c '^[A-Za-z].* hb_' "$made/layout.c") calls declared again"
+python3 "$tools/layout.py" >"$made/layout.c" || failed=1
+for bits in 64 32; do
+    gcc "-m$bits" -std=c11 -ffreestanding -Wall -Wextra -Werror -I "$tools/../include" -fsyntax-only "$made/layout.c" || failed=1
+done
+[[ $failed == 0 ]] && echo "header: $(grep -c _Static_assert "$made/layout.c") assertions on its structs, for 64 and 32 bits, $(grep -c '^[A-Za-z].* hb_' "$made/layout.c") calls declared again"
 [[ $failed == 0 ]] && echo "pages: all agree" || exit 1

@@ -3,7 +3,7 @@
 
 From the signature of every `pub extern "C"` function it takes the structs that C sees, and those in their fields. Each is `#[repr(C)]` and has
 a partner in the header, Hb and its name, with the same fields in the same order. The C file asserts, by the layout that C gives the Rattle
-struct: the offset and exact type (array length too) of each field, and the size and alignment of each struct; and it declares every exported
+struct on a target with lengths of 64 bits and on one of 32: the offset and exact type (array length too) of each field, and the size and alignment of each struct; and it declares every exported
 call again from its Rattle signature, so that another type in the header does not compile. A slice is a pointer and a length, `&Struct` a
 pointer. A struct or call in one of the two and not in the other, or a field added, gone or moved, is a fault: a line each, and exit status 1."""
 import os
@@ -14,7 +14,7 @@ import tree
 
 HEADER = os.path.join(tree.ROOT, "include", "herbassolh.h")
 PRIMITIVE = {"u8": ("uint8_t", 1), "i8": ("int8_t", 1), "bool": ("bool", 1), "u16": ("uint16_t", 2), "i16": ("int16_t", 2),
-             "u32": ("uint32_t", 4), "i32": ("int32_t", 4), "u64": ("uint64_t", 8), "i64": ("int64_t", 8), "usize": ("size_t", 8)}
+             "u32": ("uint32_t", 4), "i32": ("int32_t", 4), "u64": ("uint64_t", 8), "i64": ("int64_t", 8)}
 
 
 class Fault(Exception):
@@ -35,10 +35,11 @@ def parameters(text):
 
 
 class Layout:
-    """The structs that C sees, laid out."""
+    """The structs that C sees, laid out for a target whose lengths have so many bytes."""
 
-    def __init__(self, t):
+    def __init__(self, t, word):
         self.tree = t
+        self.primitive = {**PRIMITIVE, "usize": ("size_t", word)}
         self.structs = {}  # name -> (fields: [(name, C type, array length or None, offset)], size, alignment)
         self.calls = {}  # name -> C declaration
         for i in t.items("src"):
@@ -53,8 +54,8 @@ class Layout:
             if length is not None:
                 raise Fault(f"{file.path}: {text}: an array of arrays")
             return c, int(array.group(2)), size * int(array.group(2)), align
-        if text in PRIMITIVE:
-            c, size = PRIMITIVE[text]
+        if text in self.primitive:
+            c, size = self.primitive[text]
             return c, None, size, size
         item = self.tree.named(file, text)
         if not item or item.kind != "struct":
@@ -140,8 +141,6 @@ def faults_of(layout):
 
 
 def assertions(layout):
-    yield "/* Made by tools/layout.py from the Rattle sources. */"
-    yield '#include "herbassolh.h"'
     for name, (fields, size, align) in layout.structs.items():
         c = "Hb" + name
         yield f'_Static_assert(sizeof({c}) == {size} && _Alignof({c}) == {align}, "{c}: size {size}, alignment {align}");'
@@ -150,18 +149,29 @@ def assertions(layout):
             said = kind if length is None else f"{kind}[{length}]"
             yield f'_Static_assert(offsetof({c}, {field}) == {at}, "{c}.{field} at {at}");'
             yield f'_Static_assert(_Generic(&(({c} *)0)->{field}, {wanted}: 1, default: 0), "{c}.{field} is {said}");'
-    yield from layout.calls.values()
+
+
+def c_file(layouts):
+    """The assertions for each width of a length, and the calls."""
+    yield "/* Made by tools/layout.py from the Rattle sources. */"
+    yield '#include "herbassolh.h"'
+    for word, layout in layouts.items():
+        yield f"#if SIZE_MAX == UINT{8 * word}_MAX"
+        yield from assertions(layout)
+        yield "#endif"
+    yield from layouts[8].calls.values()
 
 
 def main():
+    t = tree.Tree()
     try:
-        layout = Layout(tree.Tree())
+        layouts = {word: Layout(t, word) for word in (8, 4)}
     except Fault as fault:
         sys.exit(f"{fault}")
-    faults = faults_of(layout)
+    faults = faults_of(layouts[8])
     if faults:
         sys.exit("\n".join(faults))
-    print("\n".join(assertions(layout)))
+    print("\n".join(c_file(layouts)))
 
 
 main()

@@ -1,0 +1,28 @@
+-- Lengths on any target: each length and offset that a call gives out is at most one that it was given, so that where those fit in `size_t`, so do these.
+use mathlib.Core.List.{List}
+use Prim.Native.Nat.{ℕ, _≤_}
+use lib.ListN.{length}
+use Rattle.hand.specs.declared.Hand.{Hand}
+use Rattle.hand_record.specs.Record.{writtenOf}
+use Rattle.text.specs.Text.{lengthIn}
+use Rattle.play.specs.declared.Walk.{Walk}
+use Rattle.play.specs.Play.{linesOf}
+use Rattle.handset.specs.Interface.{nextEntryOf}
+use Rattle.handset.specs.laws.Lengths as laws
+
+-- Write: "It returns the length, 0 if refused", and the record fits
+pub written-within : (h : Hand) (buf : List ℕ) → writtenOf h buf .len ≤ length buf
+written-within h buf = laws.written-within h buf
+
+-- Next entry: "that very part of the log"
+pub entry-within : (log : List ℕ) (at : ℕ) → nextEntryOf log at .length ≤ length log
+entry-within log at = laws.entry-within log at
+
+-- a line of `tally`, and lines of a log: what is written fits, and the walk stands inside the log or where it stood
+pub line-within : (buf line : List ℕ) → lengthIn buf line ≤ length buf
+line-within buf line = laws.line-within buf line
+
+pub lines-within : (room : ℕ) (w : Walk) (log : List ℕ) (most : ℕ) → w .at ≤ most → length log ≤ most
+    → let r = linesOf room w log in
+    (r .written ≤ room) × (r .walk .at ≤ most)
+lines-within room w log most h g = laws.lines-within room w log most h g

@@ -1,0 +1,75 @@
+-- Lengths and offsets given out, against those given.
+use mathlib.Core.Path.{_≡_, refl, ap, _∙_}
+use mathlib.Core.Bool.{Bool, true, false, cond}
+use mathlib.Core.List.{List, [], _∷_}
+use Prim.Native.Nat.{ℕ, _≤_}
+use native.Mathlib.Omega.{arith}
+use borrow.Author.Tests.{ltb-true, ltb-false, leb-true, leb-false}
+use lib.Dec.{ltb, leb}
+use lib.ListN.{length, drop}
+use Rattle.hand.specs.declared.Hand.{Hand}
+use Rattle.hand.specs.Refusals.{unwritable}
+use Rattle.hand_record.specs.declared.Written.{Written}
+use Rattle.hand_record.specs.Record.{lengthOf, writeRefusal, writtenOf}
+use Rattle.text.specs.Text.{lengthIn}
+use Rattle.log.specs.Log.{partAt, refusalAt, partsOf}
+use Rattle.log.specs.laws.Next.{part-inside, none-empty, none-left}
+use Rattle.log.specs.laws.Walk.{parts-none}
+use Rattle.play.specs.declared.Walk.{Walk}
+use Rattle.play.specs.declared.Printed.{Printed}
+use Rattle.play.specs.Play.{filled, linesOf}
+use Rattle.play.specs.laws.Fill.{filled-none}
+use Rattle.play.specs.laws.Through.{moved}
+use Rattle.handset.specs.Interface.{nextEntryBy, nextEntryOf}
+
+-- a record that is not refused fits
+fits : (h : Hand) (buf : List ℕ) → ltb 0 (writeRefusal h buf) ≡ false → lengthOf (h .held .m) ≤ length buf
+unfolding writeRefusal
+fits h buf e = go (ltb 0 (unwritable h)) refl (ltb (length buf) (lengthOf (h .held .m))) refl e
+  where
+    go : (a : Bool) → ltb 0 (unwritable h) ≡ a → (b : Bool) → ltb (length buf) (lengthOf (h .held .m)) ≡ b → ltb 0 (cond a (unwritable h) (cond b 13 0)) ≡ false
+        → lengthOf (h .held .m) ≤ length buf
+    go true p b q f = absurd (omega (arith, ltb-true 0 (unwritable h) p, ltb-false 0 (unwritable h) f))
+    go false p true q f = absurd (omega (arith, ltb-false 0 13 f))
+    go false p false q f = ltb-false (length buf) (lengthOf (h .held .m)) q
+
+pub written-within : (h : Hand) (buf : List ℕ) → writtenOf h buf .len ≤ length buf
+unfolding writtenOf
+written-within h buf = go (ltb 0 (writeRefusal h buf)) refl
+  where
+    go : (a : Bool) → ltb 0 (writeRefusal h buf) ≡ a
+        → (cond {A = Written} a (record { refusal = writeRefusal h buf; len = 0 }) (record { refusal = 0; len = lengthOf (h .held .m) })) .len ≤ length buf
+    go true e = omega arith
+    go false e = fits h buf e
+
+entry-length : (part : List ℕ) (refusal : ℕ) → nextEntryBy part refusal .length ≡ length part
+entry-length [] refusal = refl
+entry-length (x ∷ part) refusal = refl
+
+pub entry-within : (log : List ℕ) (at : ℕ) → nextEntryOf log at .length ≤ length log
+unfolding nextEntryOf
+entry-within log at = omega (arith, entry-length (partAt log at) (refusalAt log at), part-inside log at)
+
+pub line-within : (buf line : List ℕ) → lengthIn buf line ≤ length buf
+line-within buf line = go (leb (length line) (length buf)) refl
+  where
+    go : (a : Bool) → leb (length line) (length buf) ≡ a → cond a (length line) 0 ≤ length buf
+    go true e = leb-true (length line) (length buf) e
+    go false e = omega arith
+
+-- past the end of the log a walk stays
+stays : (room : ℕ) (w : Walk) (log : List ℕ) → length log ≤ w .at → linesOf room w log ≡ record { written = 0; walk = w }
+unfolding linesOf
+stays room w log h =
+    ap (filled room 0 w) (parts-none (drop (w .at) log) (none-empty (drop (w .at) log) (none-left log (w .at) h))) ∙ filled-none room 0 w
+
+pub lines-within : (room : ℕ) (w : Walk) (log : List ℕ) (most : ℕ) → w .at ≤ most → length log ≤ most
+    → let r = linesOf room w log in
+    (r .written ≤ room) × (r .walk .at ≤ most)
+lines-within room w log most h g = (moved room w log .fits (omega arith), go (leb (w .at) (length log)) refl)
+  where
+    go : (a : Bool) → leb (w .at) (length log) ≡ a → linesOf room w log .walk .at ≤ most
+    go true e = omega (arith, moved room w log .inside (leb-true (w .at) (length log) e))
+    go false e =
+        let p = leb-false (w .at) (length log) e in
+        omega (arith, ap (λ (r : Printed). r .walk .at) (stays room w log (omega arith)))
