@@ -5,6 +5,7 @@ bounds, and the proofs say that no call gets there. So what is undefined in the 
 and MIR is not, any result is right.
 - Sums, differences and products are those of unsigned numbers, cut to N bits: of a result that fits, signed or not, these are its bits. C makes
   operands of under 32 bits `int`; products and left shifts of those are made in 32 bits without sign, the rest fits in `int`.
+- Of two constants the sum, difference or product is written as the constant that it is, at the operation's own width.
 - A signed comparison or cast reads its operands with signedN, which is defined for all bits.
 - A raw pointer comes from indexing alone: the address of an array, an offset in bytes, an access. It is written `array.at[index]`, so that a
   compiler's checks know the array; the offset is the index times the element's size, which has no padding (Types.is_packed)."""

@@ -27,6 +27,9 @@ EDITS = [
     # offsets in bytes taken for indices
     ("expressions", '{offset.number // size}', '{offset.number}'),
     ("expressions", "else offset.times[1] if offset.times[0] == size", "else offset.text if offset.times[0] == size"),
+    # a sum of two constants as narrow as they are written; a row with padding between its bytes taken
+    ("expressions", '"Add": operator.add', '"Add": lambda a, b: (a + b) % 2 ** 32'),
+    ("c_types", 'return t[2] * self.size(t[1])', 'return (t[2] + 1) * self.size(t[1])'),
     # rule 1: a call moved past a read; a value moved past another statement
     ("rules", 'if self.calls and self.reads > 1:', 'if False:'),
     ("rules", '        if self.pending:\n            self.keep(*self.pending)\n', ''),
