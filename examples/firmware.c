@@ -1,4 +1,4 @@
-/* What firmware does, from the header alone: a score and how it is said, ten bookings with a refusal and a correction among them, their
+/* What firmware does, from the header alone: a score and how it is said, ten entries with a refusal and two corrections among them, their
  * lines of tally, waits. */
 #include "herbassolh.h"
 
@@ -9,14 +9,14 @@ static const uint8_t record[] = {0xb8, 0x1e, 0x64, 0x02, 0x10, 0x62, 0x0a, 0x31,
 static const uint8_t riichi[] = {0xba, 0x1e, 0x64, 0x02, 0x10, 0x62, 0x0a, 0x31, 0x66, 0x1a, 0x9a, 0x6b, 0xb0};
 static const uint8_t hand[] = {0x20, 0x22, 0x0a, 0x31, 0x45, 0x18, 0x69, 0xcb, 0xb0};
 static const uint8_t discards[] = {HB_NORTH, HB_SOU + 7, HB_MAN + 3};
-static HbBook book;
+static HbGame game;
 
-/* Prints the line of a booking: its refusal, and the game as it is then. */
+/* Prints the line of an entry: its refusal, and the position then. */
 static void line(uint8_t letter, uint8_t refusal)
 {
     static uint32_t entry;
     uint8_t buf[HB_LINE_MAX];
-    size_t length = hb_line(&book.game, buf, sizeof buf, ++entry, letter, refusal);
+    size_t length = hb_log_line(&game.now, ++entry, letter, refusal, buf, sizeof buf);
     printf("%.*s", (int)length, (const char *)buf);
 }
 
@@ -28,17 +28,17 @@ int main(void)
     HbSaid said = hb_say_score(HB_ENGLISH, record, sizeof record, 0, HB_ROUND_EAST, clips, sizeof clips);
     for (unsigned i = 0; i < said.len; i++)
         printf(i + 1 < said.len ? "%u " : "%u\n", clips[i]);
-    book = hb_fresh();
-    line(HB_LETTER_RIICHI, hb_riichi(&book, 1));
-    line(HB_LETTER_RIICHI, hb_riichi(&book, 1)); /* refused: declared already this hand */
-    line(HB_LETTER_DRAW, hb_draw(&book, 4));     /* seat 1 is ready */
-    line(HB_LETTER_CORRECTION, hb_correct_win(&book, riichi, sizeof riichi)); /* it was no draw: seat 1 has won */
-    line(HB_LETTER_FEED, hb_feed(&book, 2, 3, HB_YAKU_DAISANGEN));
-    line(HB_LETTER_WIN, hb_win(&book, record, sizeof record));
-    line(HB_LETTER_CHOMBO, hb_chombo(&book, 2));
-    line(HB_LETTER_MANY, hb_many(&book, 1, record, sizeof record));
-    line(HB_LETTER_DRAW, hb_draw(&book, 8));
-    line(HB_LETTER_CORRECTION, hb_correct_draw(&book, 0)); /* nobody was ready */
+    game = hb_fresh_game();
+    line(HB_LETTER_RIICHI, hb_riichi(&game, 1));
+    line(HB_LETTER_RIICHI, hb_riichi(&game, 1)); /* refused: declared already this hand */
+    line(HB_LETTER_DRAW, hb_draw(&game, 4));     /* seat 1 is ready */
+    line(HB_LETTER_CORRECTION, hb_correct_win(&game, riichi, sizeof riichi)); /* it was no draw: seat 1 has won */
+    line(HB_LETTER_PAO, hb_pao(&game, 2, 3, HB_YAKU_DAISANGEN));
+    line(HB_LETTER_WIN, hb_win(&game, record, sizeof record));
+    line(HB_LETTER_CHOMBO, hb_chombo(&game, 2));
+    line(HB_LETTER_MULTI_RON, hb_multi_ron(&game, 1, record, sizeof record));
+    line(HB_LETTER_DRAW, hb_draw(&game, 8));
+    line(HB_LETTER_CORRECTION, hb_correct_draw(&game, 0)); /* nobody was ready */
     HbWaits w = hb_waits(hand, sizeof hand, discards, sizeof discards);
     for (int kind = 0; kind < 34; kind++)
         if (w.waits[kind])

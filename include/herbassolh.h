@@ -1,18 +1,22 @@
 /* The scoring core of the table handset, as firmware links it: herbassolh.c for any target, libhandset.a for x86-64. Words in quotes are
  * documents 01's and 02's, and of what is said our own paper's.
  *
- * Lengths are size_t, of 32 or 64 bits; every other number is as wide on every target. A game and a book have no bytes between their
+ * Lengths are size_t, of 32 or 64 bits; every other number is as wide on every target. A game and a position have no bytes between their
  * members, so that their bytes are the same on every little-endian target. On a big-endian one, none of which was tried, their numbers
  * would lie the other way round: to move a game there, store it member by member.
+ * Bytes between members (padding): in HbWritten, HbScored, HbCards, HbNextEntry. What a call leaves in them is not determined: compare
+ * such structs member by member, never by memcmp. No other struct has any.
  *
  * Every call takes all input. A refused call gives its number with all else zero and changes
- * no byte of the lent book or buffer. Bytes past what a call writes stay.
+ * no byte of the lent game or buffer. Bytes past what a call writes stay.
+ *
+ * In every call the game that is lent comes first, and a buffer that is written comes last.
  *
  * The caller owes every call:
  * - a pointer with a length is valid for that length and not null, also where the length is 0;
- * - a pointer to a book or a game is valid and not null;
- * - a book, and bytes that a call writes, overlap nothing else that is lent with them;
- * - one thread at a time for each book and each buffer.
+ * - a pointer to a game or a position is valid and not null;
+ * - a game, and bytes that a call writes, overlap nothing else that is lent with them;
+ * - one thread at a time for each game and each buffer.
  */
 #ifndef HERBASSOLH_H
 #define HERBASSOLH_H
@@ -40,7 +44,7 @@ enum {
                                    the tiles of 4; first turn with ron, a meld or riichi" */
     HB_REFUSAL_NO_READING = 6,  /* "no reading" */
     HB_REFUSAL_NO_YAKU = 7,     /* "readings but none with a yaku" */
-    HB_REFUSAL_ARGUMENT = 8,    /* Score "dealer over 3 or wind over 1"; Riichi, Chombo "seat over 3"; Draw "over 15"; Feed "a seat
+    HB_REFUSAL_ARGUMENT = 8,    /* Score "dealer over 3 or wind over 1"; Riichi, Chombo "seat over 3"; Draw "over 15"; Pao "a seat
                                    over 3"; of what is said "a language that is not 1 to 4 (or a number over 22 to be said)" */
     HB_REFUSAL_NOT_OPEN = 9,    /* "over (marked so, or 200 hands finished), or out of form (dealer over 3, wind over 1, over
                                    200 hands, fewer sticks than declared seats, a score under the floor below, or scores
@@ -59,9 +63,9 @@ enum {
                                    another kind of entry inside is 14" */
     HB_REFUSAL_DISCARD = 15,    /* "a discard over 33" */
     HB_REFUSAL_PAGE = 16,       /* "a page buffer under 150 bytes" */
-    HB_REFUSAL_MANY = 17,       /* "an empty set or one over three"; "a record isn't ron, two have one winner, or they differ in
+    HB_REFUSAL_MULTI_RON = 17,  /* "an empty set or one over three"; "a record isn't ron, two have one winner, or they differ in
                                    discarder, winning tile, indicator or situation" */
-    HB_REFUSAL_FEED = 18,       /* "a holder who is also the feeder, a yaku other than those two, or the same holder and yaku named
+    HB_REFUSAL_PAO = 18,        /* "a holder who is also the feeder, a yaku other than those two, or the same holder and yaku named
                                    twice in a hand" */
     HB_REFUSAL_CARDS = 19,      /* "a suit over 2, another size, or a buffer shorter than the whole list" */
     HB_REFUSAL_SUPERSEDE = 20,  /* "there is none to supersede": a correction "supersedes the last finished booking, as long as no
@@ -138,13 +142,13 @@ enum { HB_ROUND_EAST = 0, HB_ROUND_SOUTH = 1 };
 
 /* Kinds of a log's entry. */
 enum {
-    HB_KIND_RIICHI = 0, HB_KIND_WIN = 1, HB_KIND_DRAW = 2, HB_KIND_CHOMBO = 3, HB_KIND_MANY = 4, HB_KIND_FEED = 5, HB_KIND_CORRECTION = 6
+    HB_KIND_RIICHI = 0, HB_KIND_WIN = 1, HB_KIND_DRAW = 2, HB_KIND_CHOMBO = 3, HB_KIND_MULTI_RON = 4, HB_KIND_PAO = 5, HB_KIND_CORRECTION = 6
 };
 
 /* Letters of a line of tally. */
 enum {
-    HB_LETTER_RIICHI = 'R', HB_LETTER_WIN = 'W', HB_LETTER_DRAW = 'D', HB_LETTER_CHOMBO = 'C', HB_LETTER_MANY = 'M', HB_LETTER_FEED = 'P',
-    HB_LETTER_CORRECTION = 'X'
+    HB_LETTER_RIICHI = 'R', HB_LETTER_WIN = 'W', HB_LETTER_DRAW = 'D', HB_LETTER_CHOMBO = 'C', HB_LETTER_MULTI_RON = 'M',
+    HB_LETTER_PAO = 'P', HB_LETTER_CORRECTION = 'X'
 };
 
 /* Languages of what is said. */
@@ -310,7 +314,7 @@ typedef struct {
     uint16_t len;
 } HbSaid;
 
-/* The game. Any bytes are a game; an accepted booking sets declared and over to 0 or 1. */
+/* A position of a game. Any bytes are a position; an accepted booking sets declared and over to 0 or 1. */
 typedef struct {
     int32_t scores[4];
     uint32_t sticks;
@@ -319,18 +323,19 @@ typedef struct {
     uint8_t over;         /* not 0 where the game is marked over */
     uint32_t counter;     /* repeat counters: "rises by one at each dealer's win and each draw, returns to 0 at a child's win, and
                              isn't touched by a chombo" */
-    uint8_t feeders[8];   /* who feeds in this hand: place holder for yaku 28, place 4 + holder for yaku 29; 0 where nobody is named,
+    uint8_t feeders[8];   /* the feeders of this hand: index holder for yaku 28, index 4 + holder for yaku 29; 0 where nobody is named,
                              else 1 + the feeder's seat */
-} HbGame;
+} HbPosition;
 
-/* The book, lent to each booking: the game, and the earlier one, in which the last accepted booking was made, so that "A result may be
- * put right before play resumes". Any bytes are a book; an accepted booking sets held to 0 or 1. */
+/* The game, lent to each booking: the position that stands, and an earlier one, so that "A result may be put right before play resumes".
+ * Any bytes are a game; an accepted booking sets correctable to 0 or 1. A game is out of form where its
+ * position now is, or where correctable is not 0 and its earlier position is. */
 typedef struct {
-    HbGame game;
-    HbGame earlier;
-    uint32_t held;  /* not 0 where that booking finished a hand (a win, a many, a draw, a chombo or a correction), which a correction
-                       supersedes; where it is 0 the bytes of earlier do not matter */
-} HbBook;
+    HbPosition now;
+    HbPosition earlier;    /* where correctable is not 0, the one in which the last booking left standing was made */
+    uint32_t correctable;  /* not 0 where that booking finished a hand (a win, a draw, a chombo or a multiple ron, in a correction or not),
+                              so that a correction can supersede it; where it is 0 the bytes of earlier do not matter */
+} HbGame;
 
 /* What stands at an offset of a log: an entry, the end (end set, all else zero), or refusal 14 (all else zero). */
 typedef struct {
@@ -341,11 +346,11 @@ typedef struct {
     size_t length;   /* of the entry, its header included */
 } HbNextEntry;
 
-/* Where a walk over a log stands: the book so far, and the offset and the number (from 1) of the next entry. */
+/* Where a walk over a log stands: the game so far, and the number (from 1) and the offset of the next entry. */
 typedef struct {
-    HbBook book;
-    size_t at;
+    HbGame game;
     uint32_t entry;
+    size_t at;
 } HbWalk;
 
 /* Lines written into a buffer: how many bytes they are, and where the walk then stands. */
@@ -367,7 +372,7 @@ HbScored hb_score(const uint8_t *record, size_t record_len, uint8_t dealer, uint
  * after them. "Each line has a label, left in 10 columns, and a value, right in 14. Labels are HAN, FU, SEAT 0, SEAT 1, SEAT 2, SEAT 3";
  * "A yakuman has the value YAKUMAN on the first line and 0 on the second." Gives 0, or its refusal with page unchanged;
  * refusals 8, 1 to 7, 16 in order. */
-uint8_t hb_slip(uint8_t *page, size_t page_len, const uint8_t *record, size_t record_len, uint8_t dealer, uint8_t wind);
+uint8_t hb_slip(const uint8_t *record, size_t record_len, uint8_t dealer, uint8_t wind, uint8_t *page, size_t page_len);
 
 /* Waits. What an unfinished hand waits for: "meld count 3 bits, melds, 13 - 3m tiles, zero bits to the byte", each meld and tile as in
  * a record, with "the player's own discards", one kind a byte. "A kind already held four times is never among them"; discards do not count
@@ -390,81 +395,81 @@ HbCards hb_cards(uint8_t suit, uint8_t size, uint8_t *buf, size_t buf_len);
  * lowest kind, a triplet's 34 + kind. Refusals 8, 1 to 5, 22 in order, with verdict 0. */
 HbJudged hb_judge(const uint8_t *record, size_t record_len, const uint8_t *claim, size_t claim_len, uint8_t dealer, uint8_t wind);
 
-/* A book at its start, with both games at theirs: 30,000 each, all else 0. */
-HbBook hb_fresh(void);
+/* A fresh game, with both its positions: 30,000 each, all else 0. */
+HbGame hb_fresh_game(void);
 
-/* The bookings: each gives 0 and updates the book, or gives its refusal and leaves the book. */
+/* The bookings: each gives 0 and updates the game, or gives its refusal and leaves the game. */
 
 /* Riichi of a seat: "Takes 1,000, adds a stick"; a seat with under 1,000 points has none. Refusals 8, 9, 10, 21 in order. */
-uint8_t hb_riichi(HbBook *book, uint8_t seat);
+uint8_t hb_riichi(HbGame *game, uint8_t seat);
 
 /* Win by a record: what Score gives, all sticks, and of the counters "A ron payer pays 300 more for each counter, and on tsumo each payer
- * pays 100 more". Where the winner is the holder of a feed and its yaku is reported ("for 29, with four wind triplets, not three and a
+ * pays 100 more". Where the winner is the holder of a pao and its yaku is reported ("for 29, with four wind triplets, not three and a
  * pair"), "the feeder pays the whole on tsumo, counters included. On ron the feeder and the discarder pay half each, the discarder paying
  * the counters; if they are one seat it pays all." Refusals 9, 1 to 7, 11 in order. */
-uint8_t hb_win(HbBook *book, const uint8_t *record, size_t record_len);
+uint8_t hb_win(HbGame *game, const uint8_t *record, size_t record_len);
 
 /* Draw; bits: four, seat 0 the most significant, set for ready. Where a declared seat is not ready it is a chombo of each such
  * seat: "each such seat pays 3,000 to every other seat, two such seats paying each other, and this hand's sticks return. No ready
  * payment is made, the deal and counter stay, and the hand is finished." Refusals 8, 9 in order. */
-uint8_t hb_draw(HbBook *book, uint8_t bits);
+uint8_t hb_draw(HbGame *game, uint8_t bits);
 
 /* Chombo of a seat; refusals 8, 9 in order. */
-uint8_t hb_chombo(HbBook *book, uint8_t seat);
+uint8_t hb_chombo(HbGame *game, uint8_t seat);
 
-/* Many: one to three rons on one tile, "all or none". number: how many records; they "lie end to end": "each but the last as long
- * as its m says, the last all that is left; what doesn't fit is Read's 1". "Each record is scored as Win does, all against the game
+/* Multiple ron: one to three rons on one tile, "all or none". number: how many records; they "lie end to end": "each but the last as
+ * long as its m says, the last all that is left; what doesn't fit is Read's 1". "Each record is scored as Win does, all against the game
  * as it was before. Sticks and counters go to the first winner in turn order after the discarder. If the dealer is a winner the deal
  * stays and the counter rises; otherwise the deal passes and the counter clears." A feeder answers for each record by itself.
  * Refusals 9, 17, 1 to 5, 17, 6, 7, 11 in order: 17 for the number, then what Read gives of the first unreadable record, then 17 for
  * records that are no rons on one tile by different winners, then 6, 7 or 11 of the first record that meets one. */
-uint8_t hb_many(HbBook *book, uint8_t number, const uint8_t *records, size_t records_len);
+uint8_t hb_multi_ron(HbGame *game, uint8_t number, const uint8_t *records, size_t records_len);
 
-/* Feed: feeder gave holder what makes the yaku, "28 for three dragon triplets, or 29 for four wind triplets". "The booking lapses when
- * the hand is finished"; a win, a many, a draw and a chombo finish it. Refusals 8, 9, 18 in order. */
-uint8_t hb_feed(HbBook *book, uint8_t holder, uint8_t feeder, uint8_t yaku);
+/* Pao: feeder gave holder what makes the yaku, "28 for three dragon triplets, or 29 for four wind triplets". "The booking lapses when
+ * the hand is finished"; a win, a draw, a chombo and a multiple ron finish it. Refusals 8, 9, 18 in order. */
+uint8_t hb_pao(HbGame *game, uint8_t holder, uint8_t feeder, uint8_t yaku);
 
-/* The corrections: a win, a draw, a chombo or a many "that supersedes the last finished booking, as long as no other booking has been
- * accepted since". "Afterwards the game is the one in which the superseded booking was never made and the new one was, declared seats and
- * counters included. This holds too when the superseded one had ended the game. A correction that was accepted can itself be superseded.
- * Where the new booking is refused, the old one stands." They refuse with 9 "for a game out of form", the earlier one too, but not for one
- * that is over; then with 20; then as the new booking does in the earlier game. */
+/* The corrections. Each carries a result, a win, a draw, a chombo or a multiple ron, "that supersedes the last finished booking, as long
+ * as no other booking has been accepted since". "Afterwards the game is the one in which the superseded booking was never made and the new
+ * one was, declared seats and counters included. This holds too when the superseded one had ended the game. A correction that was accepted
+ * can itself be superseded. Where the new booking is refused, the old one stands." They refuse with 9 "for a game out of form", but not
+ * for one that is over; then with 20; then as the booking of the result does in the earlier position. */
 
 /* Win by a record instead. Refusals 9, 20, 9, 1 to 7, 11 in order. */
-uint8_t hb_correct_win(HbBook *book, const uint8_t *record, size_t record_len);
+uint8_t hb_correct_win(HbGame *game, const uint8_t *record, size_t record_len);
 
 /* Draw instead; bits as in hb_draw. Refusals 9, 20, 8, 9 in order. */
-uint8_t hb_correct_draw(HbBook *book, uint8_t bits);
+uint8_t hb_correct_draw(HbGame *game, uint8_t bits);
 
 /* Chombo of a seat instead. Refusals 9, 20, 8, 9 in order. */
-uint8_t hb_correct_chombo(HbBook *book, uint8_t seat);
+uint8_t hb_correct_chombo(HbGame *game, uint8_t seat);
 
-/* One to three rons on one tile instead; number and records as in hb_many. Refusals 9, 20, 9, 17, 1 to 5, 17, 6, 7, 11 in order. */
-uint8_t hb_correct_many(HbBook *book, uint8_t number, const uint8_t *records, size_t records_len);
+/* Multiple ron instead; number and records as in hb_multi_ron. Refusals 9, 20, 9, 17, 1 to 5, 17, 6, 7, 11 in order. */
+uint8_t hb_correct_multi_ron(HbGame *game, uint8_t number, const uint8_t *records, size_t records_len);
 
-/* Next entry of a log from an offset. Its part is log[at] to log[at + length - 1]; a win's record, the records of a many (argument
- * says how many), a feed's byte or the entry that a correction carries, from its own header on, is what follows the header byte
+/* Next entry of a log from an offset. Its part is log[at] to log[at + length - 1]; a win's record, the records of a multiple ron
+ * (argument says how many), a pao's byte or the entry that a correction carries, from its own header on, is what follows the header byte
  * log[at]; the next offset is at + length. From the log's end on: end. Refusal 14 ends the walk. */
-HbNextEntry hb_next(const uint8_t *log, size_t log_len, size_t at);
+HbNextEntry hb_log_next(const uint8_t *log, size_t log_len, size_t at);
 
-/* Books the entry that part begins with, such as log + at with the length that hb_next gave: its booking's refusal and the
- * book updated, or 14 and the book left where part begins with no whole entry. Refusals of an entry: 14; of a riichi 8, 9, 10, 21,
- * a win 9, 2 to 7, 11, a draw 9, a chombo 8, 9, a many 9, 2 to 5, 17, 6, 7, 11, a feed 9, 18, a correction 9, 20 and those of the
- * entry that it carries, in order. */
-uint8_t hb_book(HbBook *book, const uint8_t *part, size_t part_len);
+/* Books the entry that part begins with, such as log + at with the length that hb_log_next gave: its refusal and the game updated,
+ * or 14 and the game left where part begins with no whole entry. Refusals of an entry: 14; of a riichi 8, 9, 10, 21, a win 9, 2 to 7, 11,
+ * a draw 9, a chombo 8, 9, a multiple ron 9, 2 to 5, 17, 6, 7, 11, a pao 9, 18, a correction 9, 20 and those of the result that it
+ * carries, in order. */
+uint8_t hb_book_entry(HbGame *game, const uint8_t *part, size_t part_len);
 
-/* A walk before a log's first entry, with a fresh book. */
-HbWalk hb_start(void);
+/* A walk before a log's first entry, with a fresh game. */
+HbWalk hb_log_start(void);
 
 /* Books the entries of a log from where walk stands, refused or not, and writes their lines of tally into buf, as many whole
  * lines as fit, one after the other; bytes past written stay. Call it again with the walk that it gives: no text is left when
  * written is 0 in a buffer of HB_LINE_MAX bytes or more and the walk's entry is under 4294967295, the last number that it
  * counts to. tally reads the first HB_LOG_MAX bytes of a log. */
-HbPrinted hb_lines(HbWalk walk, const uint8_t *log, size_t log_len, uint8_t *buf, size_t buf_len);
+HbPrinted hb_log_lines(HbWalk walk, const uint8_t *log, size_t log_len, uint8_t *buf, size_t buf_len);
 
 /* A line of tally at the start of buf, its line feed included, no zero byte after it: entry (from 1), letter, refusal,
- * the game's four scores and its sticks. Gives its length, or 0 with buf unchanged where it does not fit. */
-size_t hb_line(const HbGame *game, uint8_t *buf, size_t buf_len, uint32_t entry, uint8_t letter, uint8_t refusal);
+ * the position's four scores and its sticks. Gives its length, or 0 with buf unchanged where it does not fit. */
+size_t hb_log_line(const HbPosition *position, uint32_t entry, uint8_t letter, uint8_t refusal, uint8_t *buf, size_t buf_len);
 
 /* What is said: "A message is a list of clips, one byte each, at the start of a lent buffer; the unit plays them in order." Each call gives
  * how many clips, or its refusal with buf unchanged; "bytes past the message stay". Each refuses first with 8 "a language that is not 1 to 4",
@@ -480,10 +485,10 @@ HbSaid hb_say_score(uint8_t language, const uint8_t *record, size_t record_len, 
  * Refusals 8, 1 to 7, 13 in order. */
 HbSaid hb_say_fu(uint8_t language, const uint8_t *record, size_t record_len, uint8_t dealer, uint8_t wind, uint8_t *buf, size_t buf_len);
 
-/* The scores of a game, said: "of seats 0 to 3 the player, 76 where negative, the amount, 68; 77 and the sticks where there are any; 78 and
- * the counters where there are any. Any value of the game may be given; a dealer over 3 counts as dealer mod 4."
+/* The scores of a position, said: "of seats 0 to 3 the player, 76 where negative, the amount, 68; 77 and the sticks where there are any; 78
+ * and the counters where there are any. Any value of the game may be given; a dealer over 3 counts as dealer mod 4."
  * Refusals 8, 13 in order. */
-HbSaid hb_say_scores(uint8_t language, const HbGame *game, uint8_t *buf, size_t buf_len);
+HbSaid hb_say_scores(uint8_t language, const HbPosition *position, uint8_t *buf, size_t buf_len);
 
 /* A refusal, said, or 0, accepted: "clip 200 + n". Refusals 8, 13 in order: 8 for the language, then for "a number over 22". */
 HbSaid hb_say_refusal(uint8_t language, uint8_t number, uint8_t *buf, size_t buf_len);

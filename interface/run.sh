@@ -43,7 +43,7 @@ status=0
 grep -q 'THE TWO SCORERS DIFFER' "$made/err"
 grep -q 'THE TWO SCORERS DIFFER' "$made/out"
 status=0
-"$made/target/debug/tester" turn 234567m345p67s22s+8s seat=1 ron=3 by=1 >"$made/out" 2>"$made/err" || status=$?
+"$made/target/debug/tester" rotate 234567m345p67s22s+8s seat=1 ron=3 by=1 >"$made/out" 2>"$made/err" || status=$?
 [[ $status -eq 1 ]]
 grep -q 'NOT AS PROMISED' "$made/out"
 echo "a wrong archive is told: exit status 1"

@@ -31,9 +31,8 @@ static void sizes(void)
     CHECK(HB_UNFINISHED_LENGTH(0) == 11 && HB_UNFINISHED_LENGTH(1) == 9 && HB_UNFINISHED_LENGTH(2) == 8);
     CHECK(HB_UNFINISHED_LENGTH(3) == 7 && HB_UNFINISHED_LENGTH(4) == 6 && sizeof(HbWaits) == 36 && sizeof(HbReady) == 15);
     CHECK(sizeof(HbItems) == 10 && sizeof(HbScored) == 72 && sizeof(HbJudged) == 2);
-    CHECK(sizeof(HbGame) == 40 && sizeof(HbBook) == 84);
-    if (sizeof(size_t) == 8)
-        CHECK(sizeof(HbWalk) == 104 && sizeof(HbPrinted) == 112);
+    CHECK(sizeof(HbPosition) == 40 && sizeof(HbGame) == 84);
+    CHECK(sizeof(HbWalk) == 88 + sizeof(size_t) && sizeof(HbPrinted) == 88 + 2 * sizeof(size_t));
     CHECK(sizeof(HbSaid) == 4);
 }
 
@@ -329,7 +328,7 @@ static int slipped(const uint8_t *record, size_t record_len, uint8_t dealer, uin
     memset(wanted, 0x5a, sizeof wanted);
     uint8_t *page = exact(wanted, length);
     memcpy(wanted, text, strlen(text));
-    uint8_t given = hb_slip(page, length, record, record_len, dealer, wind);
+    uint8_t given = hb_slip(record, record_len, dealer, wind, page, length);
     int same = given == refusal && memcmp(page, wanted, length) == 0;
     free(page);
     return same;
@@ -705,12 +704,12 @@ static void claims_of_hands(void)
     }
 }
 
-/* Whether the game of a book has these figures. */
-static int is_game(const HbBook *book, const int32_t *scores, uint32_t sticks, uint8_t dealer, uint8_t wind, uint8_t hands)
+/* Whether the position of a game has these figures. */
+static int is_game(const HbGame *game, const int32_t *scores, uint32_t sticks, uint8_t dealer, uint8_t wind, uint8_t hands)
 {
-    const HbGame *game = &book->game;
-    return memcmp(game->scores, scores, sizeof game->scores) == 0 && game->sticks == sticks && game->dealer == dealer
-        && game->wind == wind && game->hands == hands;
+    const HbPosition *position = &game->now;
+    return memcmp(position->scores, scores, sizeof position->scores) == 0 && position->sticks == sticks && position->dealer == dealer
+        && position->wind == wind && position->hands == hands;
 }
 
 /* The entry of a win by line 1, with other bytes after it. */
@@ -718,59 +717,59 @@ static const uint8_t win_entry[16] =
     {0x10, 0xb8, 0x1e, 0x64, 0x02, 0x10, 0x62, 0x0a, 0x31, 0x66, 0x1a, 0x9a, 0x6b, 0xb0, 0x00, 0x00};
 
 /* An entry of one byte, booked. */
-static uint8_t book_byte(HbBook *book, uint8_t header)
+static uint8_t book_byte(HbGame *game, uint8_t header)
 {
     uint8_t *part = exact(&header, 1);
-    uint8_t refusal = hb_book(book, part, 1);
+    uint8_t refusal = hb_book_entry(game, part, 1);
     free(part);
     return refusal;
 }
 
 /* An entry of a win by a record, booked. */
-static uint8_t book_win(HbBook *book, const uint8_t *record, size_t length)
+static uint8_t book_win(HbGame *game, const uint8_t *record, size_t length)
 {
     uint8_t *part = exact(win_entry, 1 + length);
     memcpy(part + 1, record, length);
-    uint8_t refusal = hb_book(book, part, 1 + length);
+    uint8_t refusal = hb_book_entry(game, part, 1 + length);
     free(part);
     return refusal;
 }
 
-/* An entry of a feed by its byte, booked. */
-static uint8_t book_feed(HbBook *book, uint8_t byte)
+/* An entry of a pao by its byte, booked. */
+static uint8_t book_pao(HbGame *game, uint8_t byte)
 {
     uint8_t entry[2] = {0x50, byte}, *part = exact(entry, 2);
-    uint8_t refusal = hb_book(book, part, 2);
+    uint8_t refusal = hb_book_entry(game, part, 2);
     free(part);
     return refusal;
 }
 
 /* An entry of one to three rons by their records end to end, booked. */
-static uint8_t book_many(HbBook *book, uint8_t number, const uint8_t *records, size_t length)
+static uint8_t book_multi_ron(HbGame *game, uint8_t number, const uint8_t *records, size_t length)
 {
     uint8_t *part = malloc(1 + length);
     if (!part)
         exit(2);
     part[0] = (uint8_t)(0x40 + number);
     memcpy(part + 1, records, length);
-    uint8_t refusal = hb_book(book, part, 1 + length);
+    uint8_t refusal = hb_book_entry(game, part, 1 + length);
     free(part);
     return refusal;
 }
 
-/* Each booking made once on a copy of a book, and each as an entry; whether all give this refusal and leave every byte. */
-static int all_refused(const HbBook *book, uint8_t refusal)
+/* Each booking made once on a copy of a game, and each as an entry; whether all give this refusal and leave every byte. */
+static int all_refused(const HbGame *game, uint8_t refusal)
 {
-    HbBook copy = *book;
+    HbGame copy = *game;
     int same = hb_riichi(&copy, 0) == refusal && book_byte(&copy, 0x00) == refusal;
     same = same && hb_win(&copy, table[0].record, 13) == refusal && book_win(&copy, table[0].record, 13) == refusal;
     same = same && hb_draw(&copy, 15) == refusal && book_byte(&copy, 0x2f) == refusal;
     same = same && hb_chombo(&copy, 0) == refusal && book_byte(&copy, 0x30) == refusal;
-    same = same && hb_many(&copy, 1, table[0].record, 13) == refusal && book_many(&copy, 1, table[0].record, 13) == refusal;
-    same = same && hb_many(&copy, 0, table[0].record, 13) == refusal && hb_many(&copy, 255, table[0].record, 3) == refusal;
-    same = same && hb_feed(&copy, 1, 3, HB_YAKU_DAISANGEN) == refusal && book_feed(&copy, 0x70) == refusal;
-    same = same && hb_feed(&copy, 1, 1, 0) == refusal && book_feed(&copy, 0x50) == refusal;
-    return same && memcmp(&copy, book, sizeof copy) == 0;
+    same = same && hb_multi_ron(&copy, 1, table[0].record, 13) == refusal && book_multi_ron(&copy, 1, table[0].record, 13) == refusal;
+    same = same && hb_multi_ron(&copy, 0, table[0].record, 13) == refusal && hb_multi_ron(&copy, 255, table[0].record, 3) == refusal;
+    same = same && hb_pao(&copy, 1, 3, HB_YAKU_DAISANGEN) == refusal && book_pao(&copy, 0x70) == refusal;
+    same = same && hb_pao(&copy, 1, 1, 0) == refusal && book_pao(&copy, 0x50) == refusal;
+    return same && memcmp(&copy, game, sizeof copy) == 0;
 }
 
 /* Accepted bookings: what each gives and takes; and refusals 10 and 11 among them. */
@@ -783,109 +782,109 @@ static void bookings(void)
     static const int32_t after_riichi_win[] = {30000, 37800, 30000, 22200};
     static const int32_t after_draw[] = {28500, 32500, 31500, 26500};
     static const int32_t after_chombo[] = {33000, 35000, 21000, 31000};
-    HbBook book = hb_fresh(), declared;
-    CHECK(is_game(&book, start, 0, 0, HB_ROUND_EAST, 0) && !book.game.over);
-    CHECK(memcmp(&book.earlier, &book.game, sizeof book.game) == 0 && book.held == 0);
-    CHECK(!book.game.declared[0] && !book.game.declared[1] && !book.game.declared[2] && !book.game.declared[3]);
-    CHECK(hb_win(&book, with_riichi, 13) == HB_REFUSAL_RIICHI);
-    CHECK(is_game(&book, start, 0, 0, HB_ROUND_EAST, 0));
-    CHECK(hb_win(&book, table[0].record, 13) == 0 && is_game(&book, after_win, 0, 1, HB_ROUND_EAST, 1));
-    CHECK(hb_riichi(&book, 1) == 0 && is_game(&book, after_riichi, 1, 1, HB_ROUND_EAST, 1));
-    CHECK(!book.game.declared[0] && book.game.declared[1] && !book.game.declared[2] && !book.game.declared[3]);
+    HbGame game = hb_fresh_game(), declared;
+    CHECK(is_game(&game, start, 0, 0, HB_ROUND_EAST, 0) && !game.now.over);
+    CHECK(memcmp(&game.earlier, &game.now, sizeof game.now) == 0 && game.correctable == 0);
+    CHECK(!game.now.declared[0] && !game.now.declared[1] && !game.now.declared[2] && !game.now.declared[3]);
+    CHECK(hb_win(&game, with_riichi, 13) == HB_REFUSAL_RIICHI);
+    CHECK(is_game(&game, start, 0, 0, HB_ROUND_EAST, 0));
+    CHECK(hb_win(&game, table[0].record, 13) == 0 && is_game(&game, after_win, 0, 1, HB_ROUND_EAST, 1));
+    CHECK(hb_riichi(&game, 1) == 0 && is_game(&game, after_riichi, 1, 1, HB_ROUND_EAST, 1));
+    CHECK(!game.now.declared[0] && game.now.declared[1] && !game.now.declared[2] && !game.now.declared[3]);
 
-    declared = book;
-    CHECK(hb_riichi(&book, 1) == HB_REFUSAL_DECLARED && memcmp(&book, &declared, sizeof book) == 0);
-    CHECK(hb_win(&book, table[0].record, 13) == HB_REFUSAL_RIICHI && memcmp(&book, &declared, sizeof book) == 0);
-    CHECK(hb_win(&book, with_riichi, 13) == 0 && is_game(&book, after_riichi_win, 0, 1, HB_ROUND_EAST, 2));
-    CHECK(!book.game.declared[1]);
-    book = declared;
-    CHECK(hb_draw(&book, 6) == 0 && is_game(&book, after_draw, 1, 1, HB_ROUND_EAST, 2) && !book.game.declared[1]);
-    book = declared;
-    CHECK(hb_chombo(&book, 2) == 0 && is_game(&book, after_chombo, 0, 1, HB_ROUND_EAST, 2) && !book.game.declared[1]);
+    declared = game;
+    CHECK(hb_riichi(&game, 1) == HB_REFUSAL_DECLARED && memcmp(&game, &declared, sizeof game) == 0);
+    CHECK(hb_win(&game, table[0].record, 13) == HB_REFUSAL_RIICHI && memcmp(&game, &declared, sizeof game) == 0);
+    CHECK(hb_win(&game, with_riichi, 13) == 0 && is_game(&game, after_riichi_win, 0, 1, HB_ROUND_EAST, 2));
+    CHECK(!game.now.declared[1]);
+    game = declared;
+    CHECK(hb_draw(&game, 6) == 0 && is_game(&game, after_draw, 1, 1, HB_ROUND_EAST, 2) && !game.now.declared[1]);
+    game = declared;
+    CHECK(hb_chombo(&game, 2) == 0 && is_game(&game, after_chombo, 0, 1, HB_ROUND_EAST, 2) && !game.now.declared[1]);
 }
 
-/* Refusals of the bookings by argument, by record and by game; each leaves every byte of the book. */
+/* Refusals of the bookings by argument, by record and by position; each leaves every byte of the game. */
 static void refused_bookings(void)
 {
-    HbBook fresh = hb_fresh(), book = fresh;
+    HbGame fresh = hb_fresh_game(), game = fresh;
     for (int n = 4; n < 256; n++) {
-        CHECK_CASE(n, hb_riichi(&book, (uint8_t)n) == HB_REFUSAL_ARGUMENT);
-        CHECK_CASE(n, hb_chombo(&book, (uint8_t)n) == HB_REFUSAL_ARGUMENT);
-        CHECK_CASE(n, n <= 15 || hb_draw(&book, (uint8_t)n) == HB_REFUSAL_ARGUMENT);
-        CHECK_CASE(n, hb_feed(&book, (uint8_t)n, 0, HB_YAKU_DAISANGEN) == HB_REFUSAL_ARGUMENT);
-        CHECK_CASE(n, hb_feed(&book, 0, (uint8_t)n, HB_YAKU_DAISANGEN) == HB_REFUSAL_ARGUMENT);
-        CHECK_CASE(n, hb_feed(&book, (uint8_t)n, (uint8_t)n, 0) == HB_REFUSAL_ARGUMENT);
-        CHECK_CASE(n, memcmp(&book, &fresh, sizeof book) == 0);
+        CHECK_CASE(n, hb_riichi(&game, (uint8_t)n) == HB_REFUSAL_ARGUMENT);
+        CHECK_CASE(n, hb_chombo(&game, (uint8_t)n) == HB_REFUSAL_ARGUMENT);
+        CHECK_CASE(n, n <= 15 || hb_draw(&game, (uint8_t)n) == HB_REFUSAL_ARGUMENT);
+        CHECK_CASE(n, hb_pao(&game, (uint8_t)n, 0, HB_YAKU_DAISANGEN) == HB_REFUSAL_ARGUMENT);
+        CHECK_CASE(n, hb_pao(&game, 0, (uint8_t)n, HB_YAKU_DAISANGEN) == HB_REFUSAL_ARGUMENT);
+        CHECK_CASE(n, hb_pao(&game, (uint8_t)n, (uint8_t)n, 0) == HB_REFUSAL_ARGUMENT);
+        CHECK_CASE(n, memcmp(&game, &fresh, sizeof game) == 0);
     }
     for (size_t n = 0; n < COUNT_OF(unsound); n++) {
         size_t length;
         uint8_t *record = unsound_record(n, &length);
-        CHECK_CASE(n, hb_win(&book, record, length) == unsound[n].refusal);
-        CHECK_CASE(n, memcmp(&book, &fresh, sizeof book) == 0);
+        CHECK_CASE(n, hb_win(&game, record, length) == unsound[n].refusal);
+        CHECK_CASE(n, memcmp(&game, &fresh, sizeof game) == 0);
         free(record);
     }
-    CHECK(hb_win(&book, table[6].record, 12) == HB_REFUSAL_NO_YAKU && memcmp(&book, &fresh, sizeof book) == 0);
-    CHECK(hb_win(&book, table[9].record, 13) == HB_REFUSAL_NO_READING && memcmp(&book, &fresh, sizeof book) == 0);
+    CHECK(hb_win(&game, table[6].record, 12) == HB_REFUSAL_NO_YAKU && memcmp(&game, &fresh, sizeof game) == 0);
+    CHECK(hb_win(&game, table[9].record, 13) == HB_REFUSAL_NO_READING && memcmp(&game, &fresh, sizeof game) == 0);
 
-    book = fresh, book.game.over = 1;
-    CHECK(all_refused(&book, HB_REFUSAL_NOT_OPEN));
-    CHECK(hb_riichi(&book, 4) == HB_REFUSAL_ARGUMENT && hb_win(&book, table[0].record, 3) == HB_REFUSAL_NOT_OPEN);
-    CHECK(hb_feed(&book, 4, 4, 0) == HB_REFUSAL_ARGUMENT && hb_feed(&book, 3, 3, 0) == HB_REFUSAL_NOT_OPEN);
-    book = fresh, book.game.hands = 200;
-    CHECK(all_refused(&book, HB_REFUSAL_NOT_OPEN));
-    book = fresh, book.game.hands = 201;
-    CHECK(all_refused(&book, HB_REFUSAL_NOT_OPEN));
-    book = fresh, book.game.dealer = 4;
-    CHECK(all_refused(&book, HB_REFUSAL_NOT_OPEN));
-    book = fresh, book.game.wind = 2;
-    CHECK(all_refused(&book, HB_REFUSAL_NOT_OPEN));
-    book = fresh, book.game.declared[2] = 1;
-    CHECK(all_refused(&book, HB_REFUSAL_NOT_OPEN));
-    book = fresh, book.game.scores[0] = 30001;
-    CHECK(all_refused(&book, HB_REFUSAL_NOT_OPEN));
-    book = fresh, book.game.sticks = UINT32_MAX;
-    CHECK(all_refused(&book, HB_REFUSAL_NOT_OPEN));
-    book = fresh, book.game.scores[0] = -28540001, book.game.scores[1] = 28540001 + 60000;
-    CHECK(all_refused(&book, HB_REFUSAL_NOT_OPEN));
-    book = fresh, book.game.scores[0] = -28540000, book.game.scores[1] = 28540000 + 60000;
-    CHECK(hb_riichi(&book, 3) == 0);
-    book = fresh, book.game.counter = 1;
-    CHECK(all_refused(&book, HB_REFUSAL_NOT_OPEN));
-    book = fresh, book.game.hands = 199, book.game.counter = 200;
-    CHECK(all_refused(&book, HB_REFUSAL_NOT_OPEN));
-    book = fresh, book.game.hands = 199, book.game.counter = UINT32_MAX;
-    CHECK(all_refused(&book, HB_REFUSAL_NOT_OPEN));
+    game = fresh, game.now.over = 1;
+    CHECK(all_refused(&game, HB_REFUSAL_NOT_OPEN));
+    CHECK(hb_riichi(&game, 4) == HB_REFUSAL_ARGUMENT && hb_win(&game, table[0].record, 3) == HB_REFUSAL_NOT_OPEN);
+    CHECK(hb_pao(&game, 4, 4, 0) == HB_REFUSAL_ARGUMENT && hb_pao(&game, 3, 3, 0) == HB_REFUSAL_NOT_OPEN);
+    game = fresh, game.now.hands = 200;
+    CHECK(all_refused(&game, HB_REFUSAL_NOT_OPEN));
+    game = fresh, game.now.hands = 201;
+    CHECK(all_refused(&game, HB_REFUSAL_NOT_OPEN));
+    game = fresh, game.now.dealer = 4;
+    CHECK(all_refused(&game, HB_REFUSAL_NOT_OPEN));
+    game = fresh, game.now.wind = 2;
+    CHECK(all_refused(&game, HB_REFUSAL_NOT_OPEN));
+    game = fresh, game.now.declared[2] = 1;
+    CHECK(all_refused(&game, HB_REFUSAL_NOT_OPEN));
+    game = fresh, game.now.scores[0] = 30001;
+    CHECK(all_refused(&game, HB_REFUSAL_NOT_OPEN));
+    game = fresh, game.now.sticks = UINT32_MAX;
+    CHECK(all_refused(&game, HB_REFUSAL_NOT_OPEN));
+    game = fresh, game.now.scores[0] = -28540001, game.now.scores[1] = 28540001 + 60000;
+    CHECK(all_refused(&game, HB_REFUSAL_NOT_OPEN));
+    game = fresh, game.now.scores[0] = -28540000, game.now.scores[1] = 28540000 + 60000;
+    CHECK(hb_riichi(&game, 3) == 0);
+    game = fresh, game.now.counter = 1;
+    CHECK(all_refused(&game, HB_REFUSAL_NOT_OPEN));
+    game = fresh, game.now.hands = 199, game.now.counter = 200;
+    CHECK(all_refused(&game, HB_REFUSAL_NOT_OPEN));
+    game = fresh, game.now.hands = 199, game.now.counter = UINT32_MAX;
+    CHECK(all_refused(&game, HB_REFUSAL_NOT_OPEN));
     for (int place = 0; place < 8; place++)
         for (int feeder = 1; feeder < 256; feeder++) {
-            book = fresh, book.game.feeders[place] = (uint8_t)feeder;
+            game = fresh, game.now.feeders[place] = (uint8_t)feeder;
             if (feeder > 4 || feeder == place % 4 + 1)
-                CHECK_CASE(256 * place + feeder, all_refused(&book, HB_REFUSAL_NOT_OPEN));
+                CHECK_CASE(256 * place + feeder, all_refused(&game, HB_REFUSAL_NOT_OPEN));
             else
-                CHECK_CASE(256 * place + feeder, hb_riichi(&book, 0) == 0 && book.game.feeders[place] == feeder);
+                CHECK_CASE(256 * place + feeder, hb_riichi(&game, 0) == 0 && game.now.feeders[place] == feeder);
         }
 }
 
-/* Marks of a game that are neither 0 nor 1: they are set, a refused booking leaves them, an accepted one sets 0 or 1. */
+/* Marks of a position that are neither 0 nor 1: they are set, a refused booking leaves them, an accepted one sets 0 or 1. */
 static void marks(void)
 {
     static const uint8_t set[4] = {0, 1, 1, 0}, cleared[4] = {0, 0, 0, 0};
-    HbBook book = hb_fresh(), before;
-    book.game.over = 2;
-    CHECK(all_refused(&book, HB_REFUSAL_NOT_OPEN));
-    book.game.over = 0xff;
-    CHECK(all_refused(&book, HB_REFUSAL_NOT_OPEN));
+    HbGame game = hb_fresh_game(), before;
+    game.now.over = 2;
+    CHECK(all_refused(&game, HB_REFUSAL_NOT_OPEN));
+    game.now.over = 0xff;
+    CHECK(all_refused(&game, HB_REFUSAL_NOT_OPEN));
 
-    book = hb_fresh();
-    book.game.declared[2] = 0xfe, book.game.sticks = 1, book.game.scores[2] -= 1000;
-    before = book;
-    CHECK(hb_riichi(&book, 2) == HB_REFUSAL_DECLARED && memcmp(&book, &before, sizeof book) == 0);
-    CHECK(hb_draw(&book, 0) == 0 && book.game.sticks == 0 && book.game.scores[2] == 21000);
-    CHECK(memcmp(book.game.declared, cleared, sizeof cleared) == 0);
-    book = before;
-    CHECK(hb_riichi(&book, 1) == 0 && book.game.sticks == 2 && memcmp(book.game.declared, set, sizeof set) == 0);
-    book = before;
-    CHECK(hb_chombo(&book, 0) == 0 && book.game.sticks == 0 && book.game.scores[2] == 33000);
-    CHECK(memcmp(book.game.declared, cleared, sizeof cleared) == 0);
+    game = hb_fresh_game();
+    game.now.declared[2] = 0xfe, game.now.sticks = 1, game.now.scores[2] -= 1000;
+    before = game;
+    CHECK(hb_riichi(&game, 2) == HB_REFUSAL_DECLARED && memcmp(&game, &before, sizeof game) == 0);
+    CHECK(hb_draw(&game, 0) == 0 && game.now.sticks == 0 && game.now.scores[2] == 21000);
+    CHECK(memcmp(game.now.declared, cleared, sizeof cleared) == 0);
+    game = before;
+    CHECK(hb_riichi(&game, 1) == 0 && game.now.sticks == 2 && memcmp(game.now.declared, set, sizeof set) == 0);
+    game = before;
+    CHECK(hb_chombo(&game, 0) == 0 && game.now.sticks == 0 && game.now.scores[2] == 33000);
+    CHECK(memcmp(game.now.declared, cleared, sizeof cleared) == 0);
 }
 
 /* Thirteen orphans won by seat 0 from seat 1. */
@@ -898,30 +897,30 @@ static void counters(void)
     static const int32_t by_tsumo[] = {28000, 34800, 28600, 28600};  /* line 2: 700, 700 and 1,300, and 100 for each from each */
     static const int32_t by_dealer[] = {35000, 30000, 30000, 25000}; /* line 3, 2,900 */
     static const int32_t lowest[] = {15601000, -15541000, 30000, 30000};
-    HbBook fresh = hb_fresh(), seven = fresh, book;
-    CHECK(fresh.game.counter == 0);
-    seven.game.hands = 7, seven.game.counter = 7;
-    book = seven;
-    CHECK(hb_win(&book, table[0].record, 13) == 0 && is_game(&book, by_child, 0, 1, HB_ROUND_EAST, 8) && book.game.counter == 0);
-    book = seven;
-    CHECK(hb_win(&book, table[1].record, 13) == 0 && is_game(&book, by_tsumo, 0, 1, HB_ROUND_EAST, 8) && book.game.counter == 0);
-    book = seven;
-    CHECK(hb_win(&book, table[2].record, 13) == 0 && is_game(&book, by_dealer, 0, 0, HB_ROUND_EAST, 8) && book.game.counter == 8);
-    book = seven;
-    CHECK(hb_draw(&book, 8) == 0 && book.game.counter == 8 && book.game.dealer == 0);
-    book = seven;
-    CHECK(hb_draw(&book, 0) == 0 && book.game.counter == 8 && book.game.dealer == 1);
-    book = seven;
-    CHECK(hb_riichi(&book, 2) == 0 && book.game.counter == 7);
-    CHECK(hb_chombo(&book, 2) == 0 && book.game.counter == 7 && book.game.hands == 8);
-    CHECK(hb_win(&book, table[0].record, 3) == HB_REFUSAL_LENGTH && book.game.counter == 7);
+    HbGame fresh = hb_fresh_game(), seven = fresh, game;
+    CHECK(fresh.now.counter == 0);
+    seven.now.hands = 7, seven.now.counter = 7;
+    game = seven;
+    CHECK(hb_win(&game, table[0].record, 13) == 0 && is_game(&game, by_child, 0, 1, HB_ROUND_EAST, 8) && game.now.counter == 0);
+    game = seven;
+    CHECK(hb_win(&game, table[1].record, 13) == 0 && is_game(&game, by_tsumo, 0, 1, HB_ROUND_EAST, 8) && game.now.counter == 0);
+    game = seven;
+    CHECK(hb_win(&game, table[2].record, 13) == 0 && is_game(&game, by_dealer, 0, 0, HB_ROUND_EAST, 8) && game.now.counter == 8);
+    game = seven;
+    CHECK(hb_draw(&game, 8) == 0 && game.now.counter == 8 && game.now.dealer == 0);
+    game = seven;
+    CHECK(hb_draw(&game, 0) == 0 && game.now.counter == 8 && game.now.dealer == 1);
+    game = seven;
+    CHECK(hb_riichi(&game, 2) == 0 && game.now.counter == 7);
+    CHECK(hb_chombo(&game, 2) == 0 && game.now.counter == 7 && game.now.hands == 8);
+    CHECK(hb_win(&game, table[0].record, 3) == HB_REFUSAL_LENGTH && game.now.counter == 7);
 
-    book = fresh;
-    CHECK(hb_riichi(&book, 1) == 0);
+    game = fresh;
+    CHECK(hb_riichi(&game, 1) == 0);
     for (int hand = 0; hand < 200; hand++)
-        CHECK_CASE(hand, book.game.counter == (uint32_t)hand && hb_win(&book, thirteen_orphans, 13) == 0);
-    CHECK(is_game(&book, lowest, 0, 0, HB_ROUND_EAST, 200) && book.game.over && book.game.counter == 200);
-    CHECK(all_refused(&book, HB_REFUSAL_NOT_OPEN));
+        CHECK_CASE(hand, game.now.counter == (uint32_t)hand && hb_win(&game, thirteen_orphans, 13) == 0);
+    CHECK(is_game(&game, lowest, 0, 0, HB_ROUND_EAST, 200) && game.now.over && game.now.counter == 200);
+    CHECK(all_refused(&game, HB_REFUSAL_NOT_OPEN));
 }
 
 /* Hands of seat 1 on tsumo: three dragon triplets; four wind triplets, concealed and melded; three and a wind pair. */
@@ -936,18 +935,18 @@ static const struct {
 };
 
 /* A win by one of them, of another seat: from a discarder, or on tsumo where it is 4. */
-static uint8_t yakuman_won(HbBook *book, size_t hand, uint8_t winner, uint8_t from)
+static uint8_t yakuman_won(HbGame *game, size_t hand, uint8_t winner, uint8_t from)
 {
     uint8_t *record = exact(yakuman[hand].record, yakuman[hand].length);
     record[0] = (uint8_t)(from > 3 ? 32 * winner : 128 + 32 * winner + 8 * from);
-    uint8_t refusal = hb_win(book, record, yakuman[hand].length);
+    uint8_t refusal = hb_win(game, record, yakuman[hand].length);
     free(record);
     return refusal;
 }
 
-/* Who pays a win with a feeder named: the feeder all on tsumo, half by ron; plainly where the feed is of another seat or yaku. Each is
+/* Who pays a win with a feeder named: the feeder all on tsumo, half by ron; plainly where the pao is of another seat or yaku. Each is
  * made in a game with two counters and a stick, which the winner takes. */
-static void fed_wins(void)
+static void wins_by_pao(void)
 {
     static const uint8_t nobody[8] = {0};
     static const struct {
@@ -971,29 +970,29 @@ static void fed_wins(void)
     };
     for (size_t n = 0; n < COUNT_OF(cases); n++) {
         uint8_t winner = cases[n].winner;
-        HbBook book = hb_fresh(), named, wanted;
-        book.game.hands = 2, book.game.counter = 2;
-        CHECK_CASE(n, hb_riichi(&book, 3) == 0);
-        wanted = book, wanted.earlier = book.game, wanted.held = 0;
-        wanted.game.feeders[cases[n].holder + (cases[n].yaku == HB_YAKU_DAISANGEN ? 0 : 4)] = cases[n].feeder + 1;
-        CHECK_CASE(n, hb_feed(&book, cases[n].holder, cases[n].feeder, cases[n].yaku) == 0);
-        CHECK_CASE(n, memcmp(&book, &wanted, sizeof book) == 0);
-        named = book;
-        CHECK_CASE(n, yakuman_won(&book, cases[n].hand, winner, cases[n].from) == 0);
-        CHECK_CASE(n, is_game(&book, cases[n].scores, 0, winner != 0, HB_ROUND_EAST, 3) && book.game.counter == (winner ? 0 : 3));
-        CHECK_CASE(n, memcmp(book.game.feeders, nobody, sizeof nobody) == 0);
+        HbGame game = hb_fresh_game(), named, wanted;
+        game.now.hands = 2, game.now.counter = 2;
+        CHECK_CASE(n, hb_riichi(&game, 3) == 0);
+        wanted = game, wanted.earlier = game.now, wanted.correctable = 0;
+        wanted.now.feeders[cases[n].holder + (cases[n].yaku == HB_YAKU_DAISANGEN ? 0 : 4)] = cases[n].feeder + 1;
+        CHECK_CASE(n, hb_pao(&game, cases[n].holder, cases[n].feeder, cases[n].yaku) == 0);
+        CHECK_CASE(n, memcmp(&game, &wanted, sizeof game) == 0);
+        named = game;
+        CHECK_CASE(n, yakuman_won(&game, cases[n].hand, winner, cases[n].from) == 0);
+        CHECK_CASE(n, is_game(&game, cases[n].scores, 0, winner != 0, HB_ROUND_EAST, 3) && game.now.counter == (winner ? 0 : 3));
+        CHECK_CASE(n, memcmp(game.now.feeders, nobody, sizeof nobody) == 0);
 
         /* lapsed: each end of the hand clears all places, and the same win is then paid plainly */
         for (int end = 0; end < 4; end++) {
-            HbBook plain = named;
-            memcpy(plain.game.feeders, nobody, sizeof nobody);
-            HbBook *both[] = {&named, &plain};
-            HbBook after[2];
+            HbGame plain = named;
+            memcpy(plain.now.feeders, nobody, sizeof nobody);
+            HbGame *both[] = {&named, &plain};
+            HbGame after[2];
             for (int k = 0; k < 2; k++) {
                 after[k] = *both[k];
                 uint8_t refusal = end == 0 ? hb_draw(&after[k], 9) : end == 1 ? hb_draw(&after[k], 8) : end == 2 ? hb_chombo(&after[k], 2)
                                   : hb_win(&after[k], table[0].record, 13);
-                CHECK_CASE(n, refusal == 0 && memcmp(after[k].game.feeders, nobody, sizeof nobody) == 0);
+                CHECK_CASE(n, refusal == 0 && memcmp(after[k].now.feeders, nobody, sizeof nobody) == 0);
                 CHECK_CASE(n, yakuman_won(&after[k], cases[n].hand, winner, cases[n].from) == 0);
             }
             CHECK_CASE(n, memcmp(&after[0], &after[1], sizeof after[0]) == 0);
@@ -1002,41 +1001,41 @@ static void fed_wins(void)
 }
 
 /* Refusal 18, after 8 and 9: the holder himself, another yaku, or a holder and yaku named already; each leaves every byte. */
-static void refused_feeds(void)
+static void refused_paos(void)
 {
-    HbBook fresh = hb_fresh(), book = fresh, named;
+    HbGame fresh = hb_fresh_game(), game = fresh, named;
     for (int yaku = 0; yaku < 256; yaku++) {
         for (uint8_t holder = 0; holder < 4; holder++) {
-            CHECK_CASE(yaku, hb_feed(&book, holder, holder, (uint8_t)yaku) == HB_REFUSAL_FEED);
+            CHECK_CASE(yaku, hb_pao(&game, holder, holder, (uint8_t)yaku) == HB_REFUSAL_PAO);
             if (yaku != HB_YAKU_DAISANGEN && yaku != HB_YAKU_SUUSHIIHOU)
-                CHECK_CASE(yaku, hb_feed(&book, holder, (uint8_t)((holder + 1) % 4), (uint8_t)yaku) == HB_REFUSAL_FEED);
-            CHECK_CASE(yaku, hb_feed(&book, (uint8_t)(holder + 4), holder, (uint8_t)yaku) == HB_REFUSAL_ARGUMENT);
-            CHECK_CASE(yaku, hb_feed(&book, holder, (uint8_t)(holder + 4), (uint8_t)yaku) == HB_REFUSAL_ARGUMENT);
+                CHECK_CASE(yaku, hb_pao(&game, holder, (uint8_t)((holder + 1) % 4), (uint8_t)yaku) == HB_REFUSAL_PAO);
+            CHECK_CASE(yaku, hb_pao(&game, (uint8_t)(holder + 4), holder, (uint8_t)yaku) == HB_REFUSAL_ARGUMENT);
+            CHECK_CASE(yaku, hb_pao(&game, holder, (uint8_t)(holder + 4), (uint8_t)yaku) == HB_REFUSAL_ARGUMENT);
         }
-        CHECK_CASE(yaku, memcmp(&book, &fresh, sizeof book) == 0);
+        CHECK_CASE(yaku, memcmp(&game, &fresh, sizeof game) == 0);
     }
     /* all eight places, named one after the other: none is free again, with whatever feeder, and riichi leaves them */
     for (uint8_t place = 0; place < 8; place++) {
         uint8_t holder = place % 4, yaku = (uint8_t)(HB_YAKU_DAISANGEN + place / 4);
-        CHECK_CASE(place, hb_feed(&book, holder, (uint8_t)((holder + 1 + place / 4) % 4), yaku) == 0);
-        named = book;
+        CHECK_CASE(place, hb_pao(&game, holder, (uint8_t)((holder + 1 + place / 4) % 4), yaku) == 0);
+        named = game;
         for (uint8_t feeder = 0; feeder < 4; feeder++) {
-            CHECK_CASE(place, hb_feed(&book, holder, feeder, yaku) == HB_REFUSAL_FEED);
-            CHECK_CASE(place, book_feed(&book, (uint8_t)(64 * holder + 16 * feeder + 8 * (place / 4))) == HB_REFUSAL_FEED);
+            CHECK_CASE(place, hb_pao(&game, holder, feeder, yaku) == HB_REFUSAL_PAO);
+            CHECK_CASE(place, book_pao(&game, (uint8_t)(64 * holder + 16 * feeder + 8 * (place / 4))) == HB_REFUSAL_PAO);
         }
-        CHECK_CASE(place, memcmp(&book, &named, sizeof book) == 0);
+        CHECK_CASE(place, memcmp(&game, &named, sizeof game) == 0);
     }
-    CHECK(hb_riichi(&book, 1) == 0 && memcmp(book.game.feeders, named.game.feeders, sizeof named.game.feeders) == 0);
-    CHECK(hb_win(&book, table[6].record, 12) == HB_REFUSAL_NO_YAKU);
-    CHECK(memcmp(book.game.feeders, named.game.feeders, sizeof named.game.feeders) == 0);
-    CHECK(hb_draw(&book, 16) == HB_REFUSAL_ARGUMENT && memcmp(book.game.feeders, named.game.feeders, sizeof named.game.feeders) == 0);
-    book.game.over = 1, named = book;
-    CHECK(all_refused(&book, HB_REFUSAL_NOT_OPEN));
-    CHECK(hb_feed(&book, 0, 1, HB_YAKU_DAISANGEN) == HB_REFUSAL_NOT_OPEN && hb_feed(&book, 0, 4, 0) == HB_REFUSAL_ARGUMENT);
-    CHECK(memcmp(&book, &named, sizeof book) == 0);
+    CHECK(hb_riichi(&game, 1) == 0 && memcmp(game.now.feeders, named.now.feeders, sizeof named.now.feeders) == 0);
+    CHECK(hb_win(&game, table[6].record, 12) == HB_REFUSAL_NO_YAKU);
+    CHECK(memcmp(game.now.feeders, named.now.feeders, sizeof named.now.feeders) == 0);
+    CHECK(hb_draw(&game, 16) == HB_REFUSAL_ARGUMENT && memcmp(game.now.feeders, named.now.feeders, sizeof named.now.feeders) == 0);
+    game.now.over = 1, named = game;
+    CHECK(all_refused(&game, HB_REFUSAL_NOT_OPEN));
+    CHECK(hb_pao(&game, 0, 1, HB_YAKU_DAISANGEN) == HB_REFUSAL_NOT_OPEN && hb_pao(&game, 0, 4, 0) == HB_REFUSAL_ARGUMENT);
+    CHECK(memcmp(&game, &named, sizeof game) == 0);
 }
 
-/* A record as the ron of a seat from another, put at a place of a set; gives the place behind it. */
+/* A record as the ron of a seat from another, put at a place of a multiple ron's; gives the place behind it. */
 static size_t put_ron(uint8_t *records, size_t at, const uint8_t *record, size_t length, uint8_t winner, uint8_t from)
 {
     memcpy(records + at, record, length);
@@ -1044,72 +1043,72 @@ static size_t put_ron(uint8_t *records, size_t at, const uint8_t *record, size_t
     return at + length;
 }
 
-/* Whether a set is refused so, in a block of its length, with every byte of the book left; as an entry too, where it is one. */
-static int set_refused(const HbBook *book, uint8_t number, const uint8_t *records, size_t length, uint8_t refusal)
+/* Whether a multiple ron is refused so, in a block of its length, with every byte of the game left; as an entry too, where it is one. */
+static int multi_ron_refused(const HbGame *game, uint8_t number, const uint8_t *records, size_t length, uint8_t refusal)
 {
-    HbBook copy = *book;
+    HbGame copy = *game;
     uint8_t *own = exact(records, length);
-    int same = hb_many(&copy, number, own, length) == refusal;
-    same = same && (refusal == HB_REFUSAL_LENGTH || number == 0 || number > 3 || book_many(&copy, number, own, length) == refusal);
+    int same = hb_multi_ron(&copy, number, own, length) == refusal;
+    same = same && (refusal == HB_REFUSAL_LENGTH || number == 0 || number > 3 || book_multi_ron(&copy, number, own, length) == refusal);
     free(own);
-    return same && memcmp(&copy, book, sizeof copy) == 0;
+    return same && memcmp(&copy, game, sizeof copy) == 0;
 }
 
-/* A fresh book with so many points of seat 1; seat 2 has the rest. */
-static HbBook with_points(int32_t points)
+/* A fresh game with so many points of seat 1; seat 2 has the rest. */
+static HbGame with_points(int32_t points)
 {
-    HbBook book = hb_fresh();
-    book.game.scores[1] = points, book.game.scores[2] = 60000 - points;
-    return book;
+    HbGame game = hb_fresh_game();
+    game.now.scores[1] = points, game.now.scores[2] = 60000 - points;
+    return game;
 }
 
-/* Riichi with under 1,000 points, by a call and by an entry: 21, after 8, 9 and 10, and no byte is changed. A win or a set with riichi
- * marked then meets 11, and the game goes on. 1,000 are enough, and leave none. */
+/* Riichi with under 1,000 points, by a call and by an entry: 21, after 8, 9 and 10, and no byte is changed. A win or a multiple ron
+ * with riichi marked then meets 11, and the game goes on. 1,000 are enough, and leave none. */
 static void sticks(void)
 {
     static const int32_t few[] = {-28540000, -1000, -1, 0, 1, 100, 900, 998, 999}, enough[] = {1000, 1001, 1100, 1999, 2000};
-    uint8_t set[26];
-    CHECK(put_ron(set, put_ron(set, 0, table[0].record, 13, 2, 3), with_riichi, 13, 1, 3) == 26);
+    uint8_t rons[26];
+    CHECK(put_ron(rons, put_ron(rons, 0, table[0].record, 13, 2, 3), with_riichi, 13, 1, 3) == 26);
     for (size_t n = 0; n < COUNT_OF(few); n++) {
-        HbBook start = with_points(few[n]), book, before;
-        start.game.declared[3] = 0xfe, start.game.sticks = 1, start.game.scores[3] -= 1000;
-        book = start;
-        CHECK_CASE(few[n], hb_riichi(&book, 1) == HB_REFUSAL_STICK && memcmp(&book, &start, sizeof book) == 0);
-        CHECK_CASE(few[n], book_byte(&book, 0x01) == HB_REFUSAL_STICK && memcmp(&book, &start, sizeof book) == 0);
-        CHECK_CASE(few[n], hb_riichi(&book, 4) == HB_REFUSAL_ARGUMENT && memcmp(&book, &start, sizeof book) == 0);
-        CHECK_CASE(few[n], hb_win(&book, with_riichi, 13) == HB_REFUSAL_RIICHI && memcmp(&book, &start, sizeof book) == 0);
-        CHECK_CASE(few[n], book_win(&book, with_riichi, 13) == HB_REFUSAL_RIICHI && memcmp(&book, &start, sizeof book) == 0);
-        CHECK_CASE(few[n], set_refused(&book, 2, set, 26, HB_REFUSAL_RIICHI));
-        CHECK_CASE(few[n], hb_win(&book, table[0].record, 13) == 0 && book.game.scores[1] == few[n] + 2000 + 1000);
+        HbGame start = with_points(few[n]), game, before;
+        start.now.declared[3] = 0xfe, start.now.sticks = 1, start.now.scores[3] -= 1000;
+        game = start;
+        CHECK_CASE(few[n], hb_riichi(&game, 1) == HB_REFUSAL_STICK && memcmp(&game, &start, sizeof game) == 0);
+        CHECK_CASE(few[n], book_byte(&game, 0x01) == HB_REFUSAL_STICK && memcmp(&game, &start, sizeof game) == 0);
+        CHECK_CASE(few[n], hb_riichi(&game, 4) == HB_REFUSAL_ARGUMENT && memcmp(&game, &start, sizeof game) == 0);
+        CHECK_CASE(few[n], hb_win(&game, with_riichi, 13) == HB_REFUSAL_RIICHI && memcmp(&game, &start, sizeof game) == 0);
+        CHECK_CASE(few[n], book_win(&game, with_riichi, 13) == HB_REFUSAL_RIICHI && memcmp(&game, &start, sizeof game) == 0);
+        CHECK_CASE(few[n], multi_ron_refused(&game, 2, rons, 26, HB_REFUSAL_RIICHI));
+        CHECK_CASE(few[n], hb_win(&game, table[0].record, 13) == 0 && game.now.scores[1] == few[n] + 2000 + 1000);
 
         /* the points of the other seats do not matter */
-        book = start;
-        CHECK_CASE(few[n], hb_riichi(&book, 2) == 0 && hb_riichi(&book, 0) == 0 && hb_riichi(&book, 1) == HB_REFUSAL_STICK);
+        game = start;
+        CHECK_CASE(few[n], hb_riichi(&game, 2) == 0 && hb_riichi(&game, 0) == 0 && hb_riichi(&game, 1) == HB_REFUSAL_STICK);
 
-        book = start, book.game.declared[1] = 7, book.game.sticks = 2, book.game.scores[0] -= 1000, before = book;
-        CHECK_CASE(few[n], hb_riichi(&book, 1) == HB_REFUSAL_DECLARED && book_byte(&book, 0x01) == HB_REFUSAL_DECLARED);
-        CHECK_CASE(few[n], memcmp(&book, &before, sizeof book) == 0);
-        book = start, book.game.over = 1, before = book;
-        CHECK_CASE(few[n], hb_riichi(&book, 1) == HB_REFUSAL_NOT_OPEN && book_byte(&book, 0x01) == HB_REFUSAL_NOT_OPEN);
-        CHECK_CASE(few[n], memcmp(&book, &before, sizeof book) == 0);
+        game = start, game.now.declared[1] = 7, game.now.sticks = 2, game.now.scores[0] -= 1000, before = game;
+        CHECK_CASE(few[n], hb_riichi(&game, 1) == HB_REFUSAL_DECLARED && book_byte(&game, 0x01) == HB_REFUSAL_DECLARED);
+        CHECK_CASE(few[n], memcmp(&game, &before, sizeof game) == 0);
+        game = start, game.now.over = 1, before = game;
+        CHECK_CASE(few[n], hb_riichi(&game, 1) == HB_REFUSAL_NOT_OPEN && book_byte(&game, 0x01) == HB_REFUSAL_NOT_OPEN);
+        CHECK_CASE(few[n], memcmp(&game, &before, sizeof game) == 0);
     }
     for (size_t n = 0; n < COUNT_OF(enough); n++) {
         static const uint8_t one[4] = {0, 1, 0, 0};
-        HbBook book = with_points(enough[n]), booked = book, before;
-        CHECK_CASE(enough[n], hb_riichi(&book, 1) == 0 && book_byte(&booked, 0x01) == 0 && memcmp(&book, &booked, sizeof book) == 0);
-        CHECK_CASE(enough[n], book.game.scores[1] == enough[n] - 1000 && book.game.sticks == 1);
-        CHECK_CASE(enough[n], memcmp(book.game.declared, one, sizeof one) == 0);
-        before = book;
-        CHECK_CASE(enough[n], hb_riichi(&book, 1) == HB_REFUSAL_DECLARED && memcmp(&book, &before, sizeof book) == 0);
-        CHECK_CASE(enough[n], hb_many(&book, 2, set, 26) == 0 && book.game.sticks == 0);
-        book = before;
-        CHECK_CASE(enough[n], hb_win(&book, with_riichi, 13) == 0 && book.game.scores[1] == enough[n] + 3900 && book.game.sticks == 0);
+        HbGame game = with_points(enough[n]), booked = game, before;
+        CHECK_CASE(enough[n], hb_riichi(&game, 1) == 0 && book_byte(&booked, 0x01) == 0 && memcmp(&game, &booked, sizeof game) == 0);
+        CHECK_CASE(enough[n], game.now.scores[1] == enough[n] - 1000 && game.now.sticks == 1);
+        CHECK_CASE(enough[n], memcmp(game.now.declared, one, sizeof one) == 0);
+        before = game;
+        CHECK_CASE(enough[n], hb_riichi(&game, 1) == HB_REFUSAL_DECLARED && memcmp(&game, &before, sizeof game) == 0);
+        CHECK_CASE(enough[n], hb_multi_ron(&game, 2, rons, 26) == 0 && game.now.sticks == 0);
+        game = before;
+        CHECK_CASE(enough[n], hb_win(&game, with_riichi, 13) == 0 && game.now.scores[1] == enough[n] + 3900 && game.now.sticks == 0);
     }
 }
 
-/* Sets of rons of line 1's hand: who is paid what, who takes sticks and counters, and the deal. Each is made in a game with two counters
- * and a stick of seat 3, as a call and as an entry. */
-static void sets(void)
+/* Multiple rons of line 1's hand: who is paid what, who takes sticks and counters, and the deal. Each is made in a game with two
+ * counters and a stick of seat 3, as a call and as an entry. */
+static void multi_rons(void)
 {
     static const struct {
         uint8_t number, winners[3], from;
@@ -1128,64 +1127,64 @@ static void sets(void)
         {3, {0, 1, 2}, 3, {34500, 32000, 32000, 21500}, 0, 3},
     };
     uint8_t records[39];
-    HbBook start = hb_fresh(), book, booked;
-    start.game.hands = 2, start.game.counter = 2;
+    HbGame start = hb_fresh_game(), game, booked;
+    start.now.hands = 2, start.now.counter = 2;
     CHECK(hb_riichi(&start, 3) == 0);
     for (size_t n = 0; n < COUNT_OF(cases); n++) {
         size_t length = 0;
         for (size_t k = 0; k < cases[n].number; k++)
             length = put_ron(records, length, table[0].record, 13, cases[n].winners[k], cases[n].from);
         uint8_t *own = exact(records, length);
-        book = start, booked = start;
-        CHECK_CASE(n, hb_many(&book, cases[n].number, own, length) == 0);
-        CHECK_CASE(n, is_game(&book, cases[n].scores, 0, cases[n].dealer, HB_ROUND_EAST, 3) && book.game.counter == cases[n].counter);
-        CHECK_CASE(n, !book.game.declared[3] && !book.game.over);
-        CHECK_CASE(n, book_many(&booked, cases[n].number, own, length) == 0 && memcmp(&booked, &book, sizeof book) == 0);
+        game = start, booked = start;
+        CHECK_CASE(n, hb_multi_ron(&game, cases[n].number, own, length) == 0);
+        CHECK_CASE(n, is_game(&game, cases[n].scores, 0, cases[n].dealer, HB_ROUND_EAST, 3) && game.now.counter == cases[n].counter);
+        CHECK_CASE(n, !game.now.declared[3] && !game.now.over);
+        CHECK_CASE(n, book_multi_ron(&booked, cases[n].number, own, length) == 0 && memcmp(&booked, &game, sizeof game) == 0);
         booked = start;
-        CHECK_CASE(n, cases[n].number > 1 || (hb_win(&booked, own, 13) == 0 && memcmp(&booked, &book, sizeof book) == 0));
+        CHECK_CASE(n, cases[n].number > 1 || (hb_win(&booked, own, 13) == 0 && memcmp(&booked, &game, sizeof game) == 0));
         free(own);
     }
     /* records of 13 and of 12 bytes, one of a declared winner: line 1 with riichi of seat 1 (h 3, 3,900), line 6 of seat 2 (1,000) */
     static const int32_t declared[] = {30000, 33900, 31000, 25100};
     size_t length = put_ron(records, put_ron(records, 0, numbered(6)->record, 12, 2, 3), with_riichi, 13, 1, 3);
-    book = hb_fresh();
-    CHECK(hb_riichi(&book, 1) == 0 && hb_many(&book, 2, records, length) == 0);
-    CHECK(is_game(&book, declared, 0, 1, HB_ROUND_EAST, 1));
+    game = hb_fresh_game();
+    CHECK(hb_riichi(&game, 1) == 0 && hb_multi_ron(&game, 2, records, length) == 0);
+    CHECK(is_game(&game, declared, 0, 1, HB_ROUND_EAST, 1));
 }
 
 /* Second records beside line 1 of seat 1 from seat 3, and the refusal of the two. */
 static const struct {
     uint8_t refusal, length, record[13];
 } seconds[] = {
-    {HB_REFUSAL_MANY, 13, {0x20, 0x1e, 0x64, 0x02, 0x10, 0x62, 0x0a, 0x31, 0x66, 0x1a, 0x9a, 0x6b, 0xb0}},  /* no ron */
-    {HB_REFUSAL_MANY, 13, {0xb8, 0x1e, 0x64, 0x02, 0x10, 0x62, 0x0a, 0x31, 0x66, 0x1a, 0x9a, 0x6b, 0xb0}},  /* one winner */
-    {HB_REFUSAL_MANY, 13, {0xc0, 0x1e, 0x64, 0x02, 0x10, 0x62, 0x0a, 0x31, 0x66, 0x1a, 0x9a, 0x6b, 0xb0}},  /* from seat 0 */
-    {HB_REFUSAL_MANY, 13, {0xd8, 0x1e, 0x5c, 0x02, 0x10, 0x62, 0x0a, 0x31, 0x66, 0x1a, 0x9a, 0x6c, 0x32}},  /* on 6s */
-    {HB_REFUSAL_MANY, 13, {0xd8, 0x1b, 0x64, 0x02, 0x10, 0x62, 0x0a, 0x31, 0x66, 0x1a, 0x9a, 0x6b, 0xb0}},  /* indicator East */
-    {HB_REFUSAL_MANY, 13, {0xd8, 0xde, 0x64, 0x02, 0x10, 0x62, 0x0a, 0x31, 0x66, 0x1a, 0x9a, 0x6b, 0xb0}},  /* last tile */
+    {HB_REFUSAL_MULTI_RON, 13, {0x20, 0x1e, 0x64, 0x02, 0x10, 0x62, 0x0a, 0x31, 0x66, 0x1a, 0x9a, 0x6b, 0xb0}},  /* no ron */
+    {HB_REFUSAL_MULTI_RON, 13, {0xb8, 0x1e, 0x64, 0x02, 0x10, 0x62, 0x0a, 0x31, 0x66, 0x1a, 0x9a, 0x6b, 0xb0}},  /* one winner */
+    {HB_REFUSAL_MULTI_RON, 13, {0xc0, 0x1e, 0x64, 0x02, 0x10, 0x62, 0x0a, 0x31, 0x66, 0x1a, 0x9a, 0x6b, 0xb0}},  /* from seat 0 */
+    {HB_REFUSAL_MULTI_RON, 13, {0xd8, 0x1e, 0x5c, 0x02, 0x10, 0x62, 0x0a, 0x31, 0x66, 0x1a, 0x9a, 0x6c, 0x32}},  /* on 6s */
+    {HB_REFUSAL_MULTI_RON, 13, {0xd8, 0x1b, 0x64, 0x02, 0x10, 0x62, 0x0a, 0x31, 0x66, 0x1a, 0x9a, 0x6b, 0xb0}},  /* indicator East */
+    {HB_REFUSAL_MULTI_RON, 13, {0xd8, 0xde, 0x64, 0x02, 0x10, 0x62, 0x0a, 0x31, 0x66, 0x1a, 0x9a, 0x6b, 0xb0}},  /* last tile */
     {HB_REFUSAL_NO_READING, 13, {0xd8, 0x1e, 0x64, 0x00, 0x00, 0x00, 0x06, 0x18, 0xc3, 0x14, 0x51, 0xa6, 0xb2}},
     {HB_REFUSAL_NO_YAKU, 12, {0xd8, 0x1e, 0x64, 0x80, 0x18, 0x69, 0xc8, 0xa2, 0x9a, 0x8a, 0xb0, 0xd0}},
     {HB_REFUSAL_RIICHI, 13, {0xda, 0x1e, 0x64, 0x02, 0x10, 0x62, 0x0a, 0x31, 0x66, 0x1a, 0x9a, 0x6b, 0xb0}}, /* riichi, not declared */
 };
 
-/* Refusals of a set in their order: 9, 17 for the number, Read's of the first unreadable record, 17 for what is no set, 6, 7 or 11 of
- * the first record that meets one. */
-static void refused_sets(void)
+/* Refusals of a multiple ron in their order: 9, 17 for the number, Read's of the first unreadable record, 17 for what is none, 6, 7 or
+ * 11 of the first record that meets one. */
+static void refused_multi_rons(void)
 {
     uint8_t records[3 * 13 + 1];
-    HbBook fresh = hb_fresh(), declared = fresh;
+    HbGame fresh = hb_fresh_game(), declared = fresh;
     size_t both = put_ron(records, put_ron(records, 0, table[0].record, 13, 1, 3), table[0].record, 13, 2, 3), at;
     for (int number = 0; number < 256; number++)
         if (number == 0 || number > 3) {
-            CHECK_CASE(number, set_refused(&fresh, (uint8_t)number, records, both, HB_REFUSAL_MANY));
-            CHECK_CASE(number, set_refused(&fresh, (uint8_t)number, records, 0, HB_REFUSAL_MANY));
+            CHECK_CASE(number, multi_ron_refused(&fresh, (uint8_t)number, records, both, HB_REFUSAL_MULTI_RON));
+            CHECK_CASE(number, multi_ron_refused(&fresh, (uint8_t)number, records, 0, HB_REFUSAL_MULTI_RON));
         }
     /* every cut, a record too few or too many, and a byte too many: what does not fit is Read's 1 */
     for (size_t length = 0; length < both; length++)
-        CHECK_CASE(length, set_refused(&fresh, 2, records, length, HB_REFUSAL_LENGTH));
-    CHECK(set_refused(&fresh, 3, records, both, HB_REFUSAL_LENGTH) && set_refused(&fresh, 1, records, both, HB_REFUSAL_LENGTH));
+        CHECK_CASE(length, multi_ron_refused(&fresh, 2, records, length, HB_REFUSAL_LENGTH));
+    CHECK(multi_ron_refused(&fresh, 3, records, both, HB_REFUSAL_LENGTH) && multi_ron_refused(&fresh, 1, records, both, HB_REFUSAL_LENGTH));
     records[both] = 0;
-    CHECK(set_refused(&fresh, 2, records, both + 1, HB_REFUSAL_LENGTH));
+    CHECK(multi_ron_refused(&fresh, 2, records, both + 1, HB_REFUSAL_LENGTH));
 
     /* each unsound record: last, beside two that have one winner; and, if its length is m's, first and before one with m 5 */
     for (size_t n = 0; n < COUNT_OF(unsound); n++) {
@@ -1193,15 +1192,15 @@ static void refused_sets(void)
         uint8_t *record = unsound_record(n, &length);
         at = put_ron(records, put_ron(records, 0, table[0].record, 13, 1, 3), table[0].record, 13, 1, 3);
         memcpy(records + at, record, length);
-        CHECK_CASE(n, set_refused(&fresh, 3, records, at + length, unsound[n].refusal));
+        CHECK_CASE(n, multi_ron_refused(&fresh, 3, records, at + length, unsound[n].refusal));
         if (unsound[n].refusal != HB_REFUSAL_LENGTH) {
-            HbBook book = fresh;
+            HbGame game = fresh;
             memcpy(records, record, length);
             at = put_ron(records, length, table[0].record, 13, 1, 3);
-            CHECK_CASE(n, set_refused(&fresh, 2, records, at, unsound[n].refusal));
+            CHECK_CASE(n, multi_ron_refused(&fresh, 2, records, at, unsound[n].refusal));
             records[length + 2] = 0x66, records[length + 3] = 0x82; /* m 5 */
-            CHECK_CASE(n, hb_many(&book, 2, records, at) == unsound[n].refusal);
-            CHECK_CASE(n, memcmp(&book, &fresh, sizeof book) == 0);
+            CHECK_CASE(n, hb_multi_ron(&game, 2, records, at) == unsound[n].refusal);
+            CHECK_CASE(n, memcmp(&game, &fresh, sizeof game) == 0);
         }
         free(record);
     }
@@ -1212,53 +1211,53 @@ static void refused_sets(void)
         size_t length = seconds[n].length;
         at = put_ron(records, 0, table[0].record, 13, 1, 3);
         memcpy(records + at, seconds[n].record, length);
-        CHECK_CASE(n, set_refused(&fresh, 2, records, at + length, refusal));
+        CHECK_CASE(n, multi_ron_refused(&fresh, 2, records, at + length, refusal));
         at = put_ron(records, at + length, with_riichi, 13, 0, 3);
-        CHECK_CASE(n, set_refused(&fresh, 3, records, at, refusal));
+        CHECK_CASE(n, multi_ron_refused(&fresh, 3, records, at, refusal));
         memcpy(records, seconds[n].record, length);
         at = put_ron(records, length, table[0].record, 13, 1, 3);
-        CHECK_CASE(n, set_refused(&fresh, 2, records, at, refusal));
+        CHECK_CASE(n, multi_ron_refused(&fresh, 2, records, at, refusal));
         at = put_ron(records, put_ron(records, 0, with_riichi, 13, 0, 3), table[0].record, 13, 1, 3);
         memcpy(records + at, seconds[n].record, length);
-        CHECK_CASE(n, set_refused(&fresh, 3, records, at + length, refusal == HB_REFUSAL_MANY ? refusal : HB_REFUSAL_RIICHI));
+        CHECK_CASE(n, multi_ron_refused(&fresh, 3, records, at + length, refusal == HB_REFUSAL_MULTI_RON ? refusal : HB_REFUSAL_RIICHI));
     }
-    CHECK(set_refused(&fresh, 1, table[1].record, 13, HB_REFUSAL_MANY)); /* a tsumo alone */
+    CHECK(multi_ron_refused(&fresh, 1, table[1].record, 13, HB_REFUSAL_MULTI_RON)); /* a tsumo alone */
     CHECK(hb_riichi(&declared, 1) == 0);
-    CHECK(set_refused(&declared, 1, table[0].record, 13, HB_REFUSAL_RIICHI)); /* declared, and no riichi in the record */
-    declared.game.over = 1;
+    CHECK(multi_ron_refused(&declared, 1, table[0].record, 13, HB_REFUSAL_RIICHI)); /* declared, and no riichi in the record */
+    declared.now.over = 1;
     CHECK(all_refused(&declared, HB_REFUSAL_NOT_OPEN));
 }
 
-/* Article 67 in a set, for each record by itself: three dragon triplets of a holder on chun, and thirteen orphans on it. Each is made
- * in a game with two counters and a stick of seat 1. */
-static void fed_sets(void)
+/* Article 67 in a multiple ron, for each record by itself: three dragon triplets of a holder on chun, and thirteen orphans on it. Each
+ * is made in a game with two counters and a stick of seat 1. */
+static void multi_rons_by_pao(void)
 {
     static const uint8_t orphans[13] = {0x20, 0x16, 0x84, 0x00, 0x41, 0x28, 0xa4, 0xd3, 0x6e, 0x3a, 0xf3, 0xf0, 0x42};
     static const struct {
-        uint8_t feeds, holder[2], feeder[2], dragons[2]; /* whether seats 0 and 2 win with dragons */
+        uint8_t paos, holder[2], feeder[2], dragons[2]; /* whether seats 0 and 2 win with dragons */
         int32_t scores[4];
     } cases[] = {
         {1, {2}, {0}, {0, 1}, {63600, 29000, 62000, -34600}},          /* the feeder wins too: 48,000, and pays 16,000 */
-        {1, {2}, {3}, {0, 1}, {79600, 29000, 62000, -50600}},          /* the discarder feeds, and pays all */
+        {1, {2}, {3}, {0, 1}, {79600, 29000, 62000, -50600}},          /* the discarder is the feeder, and pays all */
         {1, {2}, {1}, {0, 1}, {79600, 13000, 62000, -34600}},          /* a seat that neither wins nor discards */
         {2, {0, 2}, {1, 1}, {1, 1}, {79600, -11000, 62000, -10600}},   /* one feeder of both */
-        {2, {0, 2}, {2, 0}, {1, 1}, {63600, 29000, 38000, -10600}},    /* each feeds the other */
+        {2, {0, 2}, {2, 0}, {1, 1}, {63600, 29000, 38000, -10600}},    /* each is the feeder of the other */
         {1, {1}, {2}, {0, 1}, {79600, 29000, 62000, -50600}},          /* a holder who does not win */
     };
     static const uint8_t nobody[8] = {0};
     for (size_t n = 0; n < COUNT_OF(cases); n++) {
         uint8_t records[26];
-        HbBook book = hb_fresh(), booked;
-        book.game.hands = 2, book.game.counter = 2;
-        CHECK_CASE(n, hb_riichi(&book, 1) == 0);
-        for (size_t k = 0; k < cases[n].feeds; k++)
-            CHECK_CASE(n, hb_feed(&book, cases[n].holder[k], cases[n].feeder[k], HB_YAKU_DAISANGEN) == 0);
-        booked = book;
+        HbGame game = hb_fresh_game(), booked;
+        game.now.hands = 2, game.now.counter = 2;
+        CHECK_CASE(n, hb_riichi(&game, 1) == 0);
+        for (size_t k = 0; k < cases[n].paos; k++)
+            CHECK_CASE(n, hb_pao(&game, cases[n].holder[k], cases[n].feeder[k], HB_YAKU_DAISANGEN) == 0);
+        booked = game;
         put_ron(records, 13, cases[n].dragons[0] ? yakuman[DRAGONS].record : orphans, 13, 0, 3);
         put_ron(records, 0, cases[n].dragons[1] ? yakuman[DRAGONS].record : orphans, 13, 2, 3);
-        CHECK_CASE(n, hb_many(&book, 2, records, 26) == 0 && is_game(&book, cases[n].scores, 0, 0, HB_ROUND_EAST, 3));
-        CHECK_CASE(n, book.game.counter == 3 && memcmp(book.game.feeders, nobody, sizeof nobody) == 0);
-        CHECK_CASE(n, book_many(&booked, 2, records, 26) == 0 && memcmp(&booked, &book, sizeof book) == 0);
+        CHECK_CASE(n, hb_multi_ron(&game, 2, records, 26) == 0 && is_game(&game, cases[n].scores, 0, 0, HB_ROUND_EAST, 3));
+        CHECK_CASE(n, game.now.counter == 3 && memcmp(game.now.feeders, nobody, sizeof nobody) == 0);
+        CHECK_CASE(n, book_multi_ron(&booked, 2, records, 26) == 0 && memcmp(&booked, &game, sizeof game) == 0);
     }
 }
 
@@ -1270,13 +1269,13 @@ static void lowest_of_all(void)
     uint8_t records[39];
     size_t length = put_ron(records, 0, thirteen_orphans, 13, 0, 1);
     length = put_ron(records, put_ron(records, length, thirteen_orphans, 13, 2, 1), thirteen_orphans, 13, 3, 1);
-    HbBook book = hb_fresh();
+    HbGame game = hb_fresh_game();
     for (int hand = 0; hand < 200; hand++) {
-        CHECK_CASE(hand, hb_riichi(&book, 1) == (hand ? HB_REFUSAL_STICK : 0));
-        CHECK_CASE(hand, book.game.counter == (uint32_t)hand && hb_many(&book, 3, records, length) == 0);
+        CHECK_CASE(hand, hb_riichi(&game, 1) == (hand ? HB_REFUSAL_STICK : 0));
+        CHECK_CASE(hand, game.now.counter == (uint32_t)hand && hb_multi_ron(&game, 3, records, length) == 0);
     }
-    CHECK(is_game(&book, lowest, 0, 0, HB_ROUND_EAST, 200) && book.game.over && book.game.counter == 200);
-    CHECK(all_refused(&book, HB_REFUSAL_NOT_OPEN));
+    CHECK(is_game(&game, lowest, 0, 0, HB_ROUND_EAST, 200) && game.now.over && game.now.counter == 200);
+    CHECK(all_refused(&game, HB_REFUSAL_NOT_OPEN));
 }
 
 /* Draws in which declared seats are not ready: a chombo of each. Each is made in a game with an older stick, two counters and the
@@ -1295,43 +1294,43 @@ static void not_ready(void)
         {0xf, 0x1, {27000, 26000, 27000, 39000}}, /* and seat 3's stick returns */
         {0xf, 0x0, {30000, 29000, 30000, 30000}}, /* all four: the sticks return, nothing else moves */
     };
-    HbBook start = hb_fresh();
-    start.game.scores[1] = 29000, start.game.sticks = 1, start.game.hands = 2, start.game.counter = 2, start.game.dealer = 1;
+    HbGame start = hb_fresh_game();
+    start.now.scores[1] = 29000, start.now.sticks = 1, start.now.hands = 2, start.now.counter = 2, start.now.dealer = 1;
     for (size_t n = 0; n < COUNT_OF(cases); n++) {
-        HbBook book = start, booked;
+        HbGame game = start, booked;
         for (uint8_t seat = 0; seat < 4; seat++)
-            CHECK_CASE(n, !(cases[n].declared >> (3 - seat) & 1) || hb_riichi(&book, seat) == 0);
-        booked = book;
-        CHECK_CASE(n, hb_draw(&book, cases[n].bits) == 0 && book_byte(&booked, (uint8_t)(0x20 + cases[n].bits)) == 0);
-        CHECK_CASE(n, is_game(&book, cases[n].scores, 1, 1, HB_ROUND_EAST, 3) && book.game.counter == 2 && !book.game.over);
-        CHECK_CASE(n, !book.game.declared[0] && !book.game.declared[1] && !book.game.declared[2] && !book.game.declared[3]);
-        CHECK_CASE(n, memcmp(&book, &booked, sizeof book) == 0);
+            CHECK_CASE(n, !(cases[n].declared >> (3 - seat) & 1) || hb_riichi(&game, seat) == 0);
+        booked = game;
+        CHECK_CASE(n, hb_draw(&game, cases[n].bits) == 0 && book_byte(&booked, (uint8_t)(0x20 + cases[n].bits)) == 0);
+        CHECK_CASE(n, is_game(&game, cases[n].scores, 1, 1, HB_ROUND_EAST, 3) && game.now.counter == 2 && !game.now.over);
+        CHECK_CASE(n, !game.now.declared[0] && !game.now.declared[1] && !game.now.declared[2] && !game.now.declared[3]);
+        CHECK_CASE(n, memcmp(&game, &booked, sizeof game) == 0);
     }
-    HbBook last = hb_fresh();
-    last.game.hands = 199, last.game.dealer = 3, last.game.wind = HB_ROUND_SOUTH;
-    CHECK(hb_riichi(&last, 0) == 0 && hb_draw(&last, 7) == 0 && last.game.over && last.game.dealer == 3 && last.game.hands == 200);
-    CHECK(last.game.scores[0] == 21000 && last.game.scores[3] == 33000 && last.game.sticks == 0);
+    HbGame last = hb_fresh_game();
+    last.now.hands = 199, last.now.dealer = 3, last.now.wind = HB_ROUND_SOUTH;
+    CHECK(hb_riichi(&last, 0) == 0 && hb_draw(&last, 7) == 0 && last.now.over && last.now.dealer == 3 && last.now.hands == 200);
+    CHECK(last.now.scores[0] == 21000 && last.now.scores[3] == 33000 && last.now.sticks == 0);
 }
 
 /* The end by the deal after eight draws with none ready, and at 200 hands of chombo. */
 static void ends(void)
 {
-    HbBook book = hb_fresh();
+    HbGame game = hb_fresh_game();
     for (int hand = 0; hand < 8; hand++) {
-        CHECK_CASE(hand, book.game.dealer == hand % 4 && book.game.wind == hand / 4 && book.game.hands == hand && !book.game.over);
-        CHECK_CASE(hand, hb_draw(&book, 0) == 0);
+        CHECK_CASE(hand, game.now.dealer == hand % 4 && game.now.wind == hand / 4 && game.now.hands == hand && !game.now.over);
+        CHECK_CASE(hand, hb_draw(&game, 0) == 0);
     }
-    CHECK(book.game.over && book.game.dealer == 3 && book.game.wind == HB_ROUND_SOUTH && book.game.hands == 8);
-    CHECK(all_refused(&book, HB_REFUSAL_NOT_OPEN));
+    CHECK(game.now.over && game.now.dealer == 3 && game.now.wind == HB_ROUND_SOUTH && game.now.hands == 8);
+    CHECK(all_refused(&game, HB_REFUSAL_NOT_OPEN));
 
-    book = hb_fresh();
+    game = hb_fresh_game();
     for (int hand = 0; hand < 200; hand++)
-        CHECK_CASE(hand, !book.game.over && hb_chombo(&book, (uint8_t)(hand % 4)) == 0);
-    CHECK(book.game.over && book.game.dealer == 0 && book.game.wind == HB_ROUND_EAST && book.game.hands == 200);
-    CHECK(all_refused(&book, HB_REFUSAL_NOT_OPEN));
+        CHECK_CASE(hand, !game.now.over && hb_chombo(&game, (uint8_t)(hand % 4)) == 0);
+    CHECK(game.now.over && game.now.dealer == 0 && game.now.wind == HB_ROUND_EAST && game.now.hands == 200);
+    CHECK(all_refused(&game, HB_REFUSAL_NOT_OPEN));
 }
 
-/* A result: of a win or a many its records and of a many their number, the bits of a draw, the seat of a chombo. */
+/* A result: of a win or a multiple ron its records and of a multiple ron their number, the bits of a draw, the seat of a chombo. */
 typedef struct {
     uint8_t kind, argument;
     size_t length;
@@ -1346,7 +1345,7 @@ static const Result *each_result(void)
         {HB_KIND_WIN, 0, 13, {0}},   {HB_KIND_WIN, 0, 13, {0}},   {HB_KIND_WIN, 0, 13, {0}},    /* lines 1, 2 and 3 */
         {HB_KIND_DRAW, 8, 0, {0}},   {HB_KIND_DRAW, 5, 0, {0}},   {HB_KIND_DRAW, 4, 0, {0}},
         {HB_KIND_CHOMBO, 0, 0, {0}}, {HB_KIND_CHOMBO, 3, 0, {0}},
-        {HB_KIND_MANY, 2, 25, {0}},  {HB_KIND_MANY, 1, 12, {0}},                                /* lines 1 and 6; line 6 of seat 0 */
+        {HB_KIND_MULTI_RON, 2, 25, {0}},  {HB_KIND_MULTI_RON, 1, 12, {0}},                                /* lines 1 and 6; line 6 of seat 0 */
     };
     for (size_t n = 0; n < 3; n++)
         memcpy(list[n].records, table[n].record, 13);
@@ -1356,25 +1355,25 @@ static const Result *each_result(void)
 }
 
 /* Books a result, its records in a block of their length. */
-static uint8_t book_result(HbBook *book, const Result *result)
+static uint8_t book_result(HbGame *game, const Result *result)
 {
     uint8_t *own = exact(result->records, result->length);
-    uint8_t refusal = result->kind == HB_KIND_WIN  ? hb_win(book, own, result->length)
-                    : result->kind == HB_KIND_DRAW ? hb_draw(book, result->argument)
-                    : result->kind == HB_KIND_MANY ? hb_many(book, result->argument, own, result->length)
-                                                   : hb_chombo(book, result->argument);
+    uint8_t refusal = result->kind == HB_KIND_WIN  ? hb_win(game, own, result->length)
+                    : result->kind == HB_KIND_DRAW ? hb_draw(game, result->argument)
+                    : result->kind == HB_KIND_MULTI_RON ? hb_multi_ron(game, result->argument, own, result->length)
+                                                   : hb_chombo(game, result->argument);
     free(own);
     return refusal;
 }
 
 /* Books a result instead of the last one. */
-static uint8_t correct(HbBook *book, const Result *result)
+static uint8_t correct(HbGame *game, const Result *result)
 {
     uint8_t *own = exact(result->records, result->length);
-    uint8_t refusal = result->kind == HB_KIND_WIN  ? hb_correct_win(book, own, result->length)
-                    : result->kind == HB_KIND_DRAW ? hb_correct_draw(book, result->argument)
-                    : result->kind == HB_KIND_MANY ? hb_correct_many(book, result->argument, own, result->length)
-                                                   : hb_correct_chombo(book, result->argument);
+    uint8_t refusal = result->kind == HB_KIND_WIN  ? hb_correct_win(game, own, result->length)
+                    : result->kind == HB_KIND_DRAW ? hb_correct_draw(game, result->argument)
+                    : result->kind == HB_KIND_MULTI_RON ? hb_correct_multi_ron(game, result->argument, own, result->length)
+                                                   : hb_correct_chombo(game, result->argument);
     free(own);
     return refusal;
 }
@@ -1387,51 +1386,51 @@ static uint8_t *correction_entry(const Result *result)
     return exact(entry, 2 + result->length);
 }
 
-/* Whether a correction is refused so, with every byte of the book left; as an entry too, or with 14 where its bytes are none. */
-static int correction_refused(const HbBook *book, const Result *result, uint8_t refusal)
+/* Whether a correction is refused so, with every byte of the game left; as an entry too, or with 14 where its bytes are none. */
+static int correction_refused(const HbGame *game, const Result *result, uint8_t refusal)
 {
-    HbBook copy = *book;
+    HbGame copy = *game;
     int same = correct(&copy, result) == refusal;
     if (result->argument <= 15) {
         size_t length = 2 + result->length;
-        uint8_t *entry = correction_entry(result), wanted = hb_next(entry, length, 0).length == length ? refusal : HB_REFUSAL_ENTRY;
-        same = same && hb_book(&copy, entry, length) == wanted;
+        uint8_t *entry = correction_entry(result), wanted = hb_log_next(entry, length, 0).length == length ? refusal : HB_REFUSAL_ENTRY;
+        same = same && hb_book_entry(&copy, entry, length) == wanted;
         free(entry);
     }
-    return same && memcmp(&copy, book, sizeof copy) == 0;
+    return same && memcmp(&copy, game, sizeof copy) == 0;
 }
 
-/* Whether a correction is accepted, and the book then is the one in which its result was booked in the earlier game; as an entry too. The
- * book is left with the correction made. */
-static int is_corrected(HbBook *book, const Result *result)
+/* Whether a correction is accepted, and the game then is the one in which its result was booked in the earlier position; as an entry too.
+ * The game is left with the correction made. */
+static int is_corrected(HbGame *game, const Result *result)
 {
-    HbBook wanted = hb_fresh(), copy = *book;
-    wanted.game = book->earlier;
-    int same = book_result(&wanted, result) == 0 && memcmp(&wanted.earlier, &book->earlier, sizeof wanted.earlier) == 0 && wanted.held == 1;
-    same = same && correct(book, result) == 0 && memcmp(book, &wanted, sizeof wanted) == 0;
+    HbGame wanted = hb_fresh_game(), copy = *game;
+    wanted.now = game->earlier;
+    int same = book_result(&wanted, result) == 0 && memcmp(&wanted.earlier, &game->earlier, sizeof wanted.earlier) == 0 && wanted.correctable == 1;
+    same = same && correct(game, result) == 0 && memcmp(game, &wanted, sizeof wanted) == 0;
     uint8_t *entry = correction_entry(result);
-    same = same && hb_book(&copy, entry, 2 + result->length) == 0 && memcmp(&copy, &wanted, sizeof wanted) == 0;
+    same = same && hb_book_entry(&copy, entry, 2 + result->length) == 0 && memcmp(&copy, &wanted, sizeof wanted) == 0;
     free(entry);
     return same;
 }
 
 /* Whether every kind of correction is refused so. */
-static int all_corrections_refused(const HbBook *book, uint8_t refusal)
+static int all_corrections_refused(const HbGame *game, uint8_t refusal)
 {
     for (size_t n = 0; n < RESULTS; n++)
-        if (!correction_refused(book, &each_result()[n], refusal))
+        if (!correction_refused(game, &each_result()[n], refusal))
             return 0;
     return 1;
 }
 
 /* A hand in play: an older stick, two counters, the deal of seat 0, seat 3 declared, and a feeder of seat 1's and of seat 2's named. */
-static HbBook in_play(void)
+static HbGame in_play(void)
 {
-    HbBook book = hb_fresh();
-    book.game.scores[2] = 29000, book.game.sticks = 1, book.game.hands = 2, book.game.counter = 2;
-    CHECK(hb_riichi(&book, 3) == 0 && hb_feed(&book, 1, 0, HB_YAKU_SUUSHIIHOU) == 0 && hb_feed(&book, 2, 3, HB_YAKU_DAISANGEN) == 0);
-    CHECK(book.held == 0);
-    return book;
+    HbGame game = hb_fresh_game();
+    game.now.scores[2] = 29000, game.now.sticks = 1, game.now.hands = 2, game.now.counter = 2;
+    CHECK(hb_riichi(&game, 3) == 0 && hb_pao(&game, 1, 0, HB_YAKU_SUUSHIIHOU) == 0 && hb_pao(&game, 2, 3, HB_YAKU_DAISANGEN) == 0);
+    CHECK(game.correctable == 0);
+    return game;
 }
 
 /* Each result put right by each, and that by the first again: "the game is the one in which the superseded booking was never made and the
@@ -1439,18 +1438,18 @@ static HbBook in_play(void)
 static void corrections(void)
 {
     const Result *results = each_result();
-    HbBook start = in_play();
+    HbGame start = in_play();
     for (size_t old = 0; old < RESULTS; old++)
         for (size_t new = 0; new < RESULTS; new++) {
-            HbBook book = start, wanted = start, first;
-            CHECK_CASE(100 * old + new, book_result(&book, &results[old]) == 0 && book_result(&wanted, &results[new]) == 0);
-            CHECK_CASE(100 * old + new, memcmp(&book.earlier, &start.game, sizeof start.game) == 0 && book.held == 1);
-            first = book;
-            CHECK_CASE(100 * old + new, hb_riichi(&book, 4) == HB_REFUSAL_ARGUMENT && hb_feed(&book, 1, 1, 28) == HB_REFUSAL_FEED);
-            CHECK_CASE(100 * old + new, hb_win(&book, table[9].record, 13) == HB_REFUSAL_NO_READING);
-            CHECK_CASE(100 * old + new, hb_correct_draw(&book, 16) == HB_REFUSAL_ARGUMENT && memcmp(&book, &first, sizeof book) == 0);
-            CHECK_CASE(100 * old + new, is_corrected(&book, &results[new]) && memcmp(&book, &wanted, sizeof book) == 0);
-            CHECK_CASE(100 * old + new, is_corrected(&book, &results[old]) && memcmp(&book, &first, sizeof book) == 0);
+            HbGame game = start, wanted = start, first;
+            CHECK_CASE(100 * old + new, book_result(&game, &results[old]) == 0 && book_result(&wanted, &results[new]) == 0);
+            CHECK_CASE(100 * old + new, memcmp(&game.earlier, &start.now, sizeof start.now) == 0 && game.correctable == 1);
+            first = game;
+            CHECK_CASE(100 * old + new, hb_riichi(&game, 4) == HB_REFUSAL_ARGUMENT && hb_pao(&game, 1, 1, 28) == HB_REFUSAL_PAO);
+            CHECK_CASE(100 * old + new, hb_win(&game, table[9].record, 13) == HB_REFUSAL_NO_READING);
+            CHECK_CASE(100 * old + new, hb_correct_draw(&game, 16) == HB_REFUSAL_ARGUMENT && memcmp(&game, &first, sizeof game) == 0);
+            CHECK_CASE(100 * old + new, is_corrected(&game, &results[new]) && memcmp(&game, &wanted, sizeof game) == 0);
+            CHECK_CASE(100 * old + new, is_corrected(&game, &results[old]) && memcmp(&game, &first, sizeof game) == 0);
         }
 }
 
@@ -1458,68 +1457,68 @@ static void corrections(void)
 static void given_back(void)
 {
     static const int32_t by_win[] = {30000, 34600, 29000, 26400};     /* line 1: 2,000, 600 for counters, two sticks */
-    static const int32_t by_fed_win[] = {-2600, 64600, 29000, 29000}; /* four winds: seat 0 pays 32,000 and 600 */
+    static const int32_t by_pao[] = {-2600, 64600, 29000, 29000}; /* four winds: seat 0 pays 32,000 and 600 */
     static const int32_t by_draw[] = {33000, 33000, 32000, 21000};    /* seat 3 has declared and is not ready: its stick goes back */
     static const int32_t by_chombo[] = {21000, 33000, 32000, 33000};
     static const uint8_t nobody[8] = {0};
     uint8_t winds[13];
-    HbBook book = in_play(), start = book;
+    HbGame game = in_play(), start = game;
     memcpy(winds, yakuman[WINDS].record, 13);
-    CHECK(hb_win(&book, table[0].record, 13) == 0 && is_game(&book, by_win, 0, 1, HB_ROUND_EAST, 3) && book.game.counter == 0);
-    CHECK(hb_correct_win(&book, winds, 13) == 0 && is_game(&book, by_fed_win, 0, 1, HB_ROUND_EAST, 3) && book.game.counter == 0);
-    CHECK(hb_correct_draw(&book, 8) == 0 && is_game(&book, by_draw, 1, 0, HB_ROUND_EAST, 3) && book.game.counter == 2);
-    CHECK(hb_correct_chombo(&book, 0) == 0 && is_game(&book, by_chombo, 1, 0, HB_ROUND_EAST, 3) && book.game.counter == 2);
-    CHECK(memcmp(book.game.feeders, nobody, sizeof nobody) == 0 && !book.game.declared[3]);
-    CHECK(memcmp(&book.earlier, &start.game, sizeof start.game) == 0 && book.held == 1);
-    /* a win of the declared seat: with riichi, which it has not in the game as it stands */
+    CHECK(hb_win(&game, table[0].record, 13) == 0 && is_game(&game, by_win, 0, 1, HB_ROUND_EAST, 3) && game.now.counter == 0);
+    CHECK(hb_correct_win(&game, winds, 13) == 0 && is_game(&game, by_pao, 0, 1, HB_ROUND_EAST, 3) && game.now.counter == 0);
+    CHECK(hb_correct_draw(&game, 8) == 0 && is_game(&game, by_draw, 1, 0, HB_ROUND_EAST, 3) && game.now.counter == 2);
+    CHECK(hb_correct_chombo(&game, 0) == 0 && is_game(&game, by_chombo, 1, 0, HB_ROUND_EAST, 3) && game.now.counter == 2);
+    CHECK(memcmp(game.now.feeders, nobody, sizeof nobody) == 0 && !game.now.declared[3]);
+    CHECK(memcmp(&game.earlier, &start.now, sizeof start.now) == 0 && game.correctable == 1);
+    /* a win of the declared seat: with riichi, which it has not in the position that stands */
     uint8_t declared[13];
     CHECK(put_ron(declared, 0, with_riichi, 13, 3, 2) == 13);
-    CHECK(hb_win(&book, declared, 13) == HB_REFUSAL_RIICHI && hb_correct_win(&book, declared, 13) == 0 && book.game.sticks == 0);
+    CHECK(hb_win(&game, declared, 13) == HB_REFUSAL_RIICHI && hb_correct_win(&game, declared, 13) == 0 && game.now.sticks == 0);
 }
 
-/* Refusal 20: nothing booked yet, or a riichi or a feed accepted since; before the refusals of the new booking. The next result can be
+/* Refusal 20: nothing booked yet, or a riichi or a pao accepted since; before the refusals of the new booking. The next result can be
  * put right again. */
 static void none_to_supersede(void)
 {
     static const Result unfit[] = {
         {HB_KIND_DRAW, 16, 0, {0}}, {HB_KIND_CHOMBO, 4, 0, {0}},
-        {HB_KIND_WIN, 0, 0, {0}},   {HB_KIND_MANY, 0, 0, {0}},   {HB_KIND_MANY, 255, 3, {0}},
+        {HB_KIND_WIN, 0, 0, {0}},   {HB_KIND_MULTI_RON, 0, 0, {0}},   {HB_KIND_MULTI_RON, 255, 3, {0}},
     };
     const Result *results = each_result();
-    HbBook fresh = hb_fresh();
+    HbGame fresh = hb_fresh_game();
     CHECK(all_corrections_refused(&fresh, HB_REFUSAL_SUPERSEDE));
     for (size_t n = 0; n < COUNT_OF(unfit); n++)
         CHECK_CASE(n, correction_refused(&fresh, &unfit[n], HB_REFUSAL_SUPERSEDE));
     for (size_t n = 0; n < RESULTS; n++)
         for (int since = 0; since < 2; since++) {
-            HbBook book = fresh, before;
-            CHECK_CASE(n, book_result(&book, &results[n]) == 0);
-            before = book;
-            CHECK_CASE(n, (since ? hb_feed(&book, 0, 2, HB_YAKU_DAISANGEN) : hb_riichi(&book, 3)) == 0);
-            CHECK_CASE(n, memcmp(&book.earlier, &before.game, sizeof before.game) == 0 && book.held == 0);
-            CHECK_CASE(n, all_corrections_refused(&book, HB_REFUSAL_SUPERSEDE));
+            HbGame game = fresh, before;
+            CHECK_CASE(n, book_result(&game, &results[n]) == 0);
+            before = game;
+            CHECK_CASE(n, (since ? hb_pao(&game, 0, 2, HB_YAKU_DAISANGEN) : hb_riichi(&game, 3)) == 0);
+            CHECK_CASE(n, memcmp(&game.earlier, &before.now, sizeof before.now) == 0 && game.correctable == 0);
+            CHECK_CASE(n, all_corrections_refused(&game, HB_REFUSAL_SUPERSEDE));
             for (size_t k = 0; k < COUNT_OF(unfit); k++)
-                CHECK_CASE(k, correction_refused(&book, &unfit[k], HB_REFUSAL_SUPERSEDE));
-            CHECK_CASE(n, hb_chombo(&book, 1) == 0 && is_corrected(&book, &results[n]));
+                CHECK_CASE(k, correction_refused(&game, &unfit[k], HB_REFUSAL_SUPERSEDE));
+            CHECK_CASE(n, hb_chombo(&game, 1) == 0 && is_corrected(&game, &results[n]));
         }
 }
 
-/* Where the new booking is refused, the old one stands: each refusal of a win, a draw, a chombo and a many, in the earlier game, in which
- * seat 1 has declared. */
+/* Where the new booking is refused, the old one stands: each refusal of a win, a draw, a chombo and a multiple ron, in the earlier
+ * position, in which seat 1 has declared. */
 static void refused_corrections(void)
 {
-    HbBook book = hb_fresh(), declared;
-    CHECK(hb_riichi(&book, 1) == 0);
-    declared = book;
-    CHECK(hb_draw(&book, 4) == 0);
+    HbGame game = hb_fresh_game(), declared;
+    CHECK(hb_riichi(&game, 1) == 0);
+    declared = game;
+    CHECK(hb_draw(&game, 4) == 0);
     Result result = {HB_KIND_WIN, 0, 0, {0}};
     for (size_t n = 0; n < COUNT_OF(unsound); n++) {
         uint8_t *record = unsound_record(n, &result.length);
         memcpy(result.records, record, result.length);
         result.kind = HB_KIND_WIN, result.argument = 0;
-        CHECK_CASE(n, correction_refused(&book, &result, unsound[n].refusal));
-        result.kind = HB_KIND_MANY, result.argument = 1;
-        CHECK_CASE(n, correction_refused(&book, &result, unsound[n].refusal));
+        CHECK_CASE(n, correction_refused(&game, &result, unsound[n].refusal));
+        result.kind = HB_KIND_MULTI_RON, result.argument = 1;
+        CHECK_CASE(n, correction_refused(&game, &result, unsound[n].refusal));
         free(record);
     }
     static const struct {
@@ -1530,147 +1529,147 @@ static void refused_corrections(void)
         const struct line *line = numbered(wins[n].line);
         result.length = line->length, memcpy(result.records, line->record, line->length);
         result.kind = HB_KIND_WIN, result.argument = 0;
-        CHECK_CASE(n, correction_refused(&book, &result, wins[n].refusal));
-        result.kind = HB_KIND_MANY, result.argument = 1;
-        CHECK_CASE(n, correction_refused(&book, &result, wins[n].line == 2 ? HB_REFUSAL_MANY : wins[n].refusal));
+        CHECK_CASE(n, correction_refused(&game, &result, wins[n].refusal));
+        result.kind = HB_KIND_MULTI_RON, result.argument = 1;
+        CHECK_CASE(n, correction_refused(&game, &result, wins[n].line == 2 ? HB_REFUSAL_MULTI_RON : wins[n].refusal));
     }
     for (size_t n = 0; n < COUNT_OF(seconds); n++) {
         size_t at = put_ron(result.records, 0, with_riichi, 13, 1, 3);
         memcpy(result.records + at, seconds[n].record, seconds[n].length);
-        result.kind = HB_KIND_MANY, result.argument = 2, result.length = at + seconds[n].length;
-        CHECK_CASE(n, correction_refused(&book, &result, seconds[n].refusal));
+        result.kind = HB_KIND_MULTI_RON, result.argument = 2, result.length = at + seconds[n].length;
+        CHECK_CASE(n, correction_refused(&game, &result, seconds[n].refusal));
     }
     for (int n = 0; n < 256; n++) {
         Result draw = {HB_KIND_DRAW, (uint8_t)n, 0, {0}}, chombo = {HB_KIND_CHOMBO, (uint8_t)n, 0, {0}};
-        Result set = {HB_KIND_MANY, (uint8_t)n, 13, {0}};
-        memcpy(set.records, with_riichi, 13);
-        CHECK_CASE(n, n <= 15 || correction_refused(&book, &draw, HB_REFUSAL_ARGUMENT));
-        CHECK_CASE(n, n <= 3 || correction_refused(&book, &chombo, HB_REFUSAL_ARGUMENT));
-        CHECK_CASE(n, (n > 0 && n <= 3) || correction_refused(&book, &set, HB_REFUSAL_MANY));
+        Result rons = {HB_KIND_MULTI_RON, (uint8_t)n, 13, {0}};
+        memcpy(rons.records, with_riichi, 13);
+        CHECK_CASE(n, n <= 15 || correction_refused(&game, &draw, HB_REFUSAL_ARGUMENT));
+        CHECK_CASE(n, n <= 3 || correction_refused(&game, &chombo, HB_REFUSAL_ARGUMENT));
+        CHECK_CASE(n, (n > 0 && n <= 3) || correction_refused(&game, &rons, HB_REFUSAL_MULTI_RON));
     }
     Result riichi = {HB_KIND_WIN, 0, 13, {0}};
     memcpy(riichi.records, with_riichi, 13);
-    CHECK(memcmp(&book.earlier, &declared.game, sizeof declared.game) == 0 && is_corrected(&book, &riichi));
+    CHECK(memcmp(&game.earlier, &declared.now, sizeof declared.now) == 0 && is_corrected(&game, &riichi));
 }
 
 /* "This holds too when the superseded one had ended the game": after South's seat 3, where play may go on then, and at the 200th hand. */
 static void corrected_ends(void)
 {
     const Result *results = each_result();
-    HbBook last_deal = hb_fresh(), last_hand = hb_fresh();
-    last_deal.game.dealer = 3, last_deal.game.wind = HB_ROUND_SOUTH, last_deal.game.hands = 7, last_deal.game.counter = 1;
-    last_hand.game.hands = 199, last_hand.game.counter = 199;
+    HbGame last_deal = hb_fresh_game(), last_hand = hb_fresh_game();
+    last_deal.now.dealer = 3, last_deal.now.wind = HB_ROUND_SOUTH, last_deal.now.hands = 7, last_deal.now.counter = 1;
+    last_hand.now.hands = 199, last_hand.now.counter = 199;
     for (size_t n = 0; n < RESULTS; n++) {
-        HbBook book = last_deal;
-        CHECK_CASE(n, hb_draw(&book, 0) == 0 && book.game.over == 1 && all_refused(&book, HB_REFUSAL_NOT_OPEN));
-        CHECK_CASE(n, is_corrected(&book, &results[n]));
-        CHECK_CASE(n, book.game.dealer == 3 && book.game.wind == HB_ROUND_SOUTH && book.game.hands == 8);
+        HbGame game = last_deal;
+        CHECK_CASE(n, hb_draw(&game, 0) == 0 && game.now.over == 1 && all_refused(&game, HB_REFUSAL_NOT_OPEN));
+        CHECK_CASE(n, is_corrected(&game, &results[n]));
+        CHECK_CASE(n, game.now.dealer == 3 && game.now.wind == HB_ROUND_SOUTH && game.now.hands == 8);
         /* seat 3 is ready in the second draw alone, and wins in none */
         int over = results[n].kind != HB_KIND_CHOMBO && n != 4;
-        CHECK_CASE(n, book.game.over == over && (over ? all_refused(&book, HB_REFUSAL_NOT_OPEN) : hb_riichi(&book, 0) == 0));
-        CHECK_CASE(n, over ? is_corrected(&book, &results[6]) && !book.game.over : all_corrections_refused(&book, HB_REFUSAL_SUPERSEDE));
-        CHECK_CASE(n, hb_draw(&book, 8) == 0 && book.game.over == 1);
+        CHECK_CASE(n, game.now.over == over && (over ? all_refused(&game, HB_REFUSAL_NOT_OPEN) : hb_riichi(&game, 0) == 0));
+        CHECK_CASE(n, over ? is_corrected(&game, &results[6]) && !game.now.over : all_corrections_refused(&game, HB_REFUSAL_SUPERSEDE));
+        CHECK_CASE(n, hb_draw(&game, 8) == 0 && game.now.over == 1);
 
-        book = last_hand;
-        CHECK_CASE(n, hb_chombo(&book, 2) == 0 && book.game.over == 1 && book.game.hands == 200);
-        CHECK_CASE(n, is_corrected(&book, &results[n]) && book.game.over == 1 && book.game.hands == 200);
-        CHECK_CASE(n, all_refused(&book, HB_REFUSAL_NOT_OPEN) && is_corrected(&book, &results[0]));
+        game = last_hand;
+        CHECK_CASE(n, hb_chombo(&game, 2) == 0 && game.now.over == 1 && game.now.hands == 200);
+        CHECK_CASE(n, is_corrected(&game, &results[n]) && game.now.over == 1 && game.now.hands == 200);
+        CHECK_CASE(n, all_refused(&game, HB_REFUSAL_NOT_OPEN) && is_corrected(&game, &results[0]));
     }
 }
 
-/* A game out of form in one way, or in all. */
+/* A position out of form in one way, or in all. */
 enum { WAYS = 9 };
-static HbGame out_of_form(int way)
+static HbPosition out_of_form(int way)
 {
-    HbGame game = hb_fresh().game;
+    HbPosition position = hb_fresh_game().now;
     if (way == 0)
-        game.dealer = 4;
+        position.dealer = 4;
     else if (way == 1)
-        game.wind = 2;
+        position.wind = 2;
     else if (way == 2)
-        game.hands = 201;
+        position.hands = 201;
     else if (way == 3)
-        game.declared[2] = 0x80;
+        position.declared[2] = 0x80;
     else if (way == 4)
-        game.scores[0] = -28540001, game.scores[1] = 28540001 + 60000;
+        position.scores[0] = -28540001, position.scores[1] = 28540001 + 60000;
     else if (way == 5)
-        game.scores[3] = 30001;
+        position.scores[3] = 30001;
     else if (way == 6)
-        game.counter = 1;
+        position.counter = 1;
     else if (way == 7)
-        game.feeders[6] = 3;
+        position.feeders[6] = 3;
     else
-        memset(&game, 0xff, sizeof game);
-    return game;
+        memset(&position, 0xff, sizeof position);
+    return position;
 }
 
-/* Whether plain bookings with arguments out of range get 8, and leave every byte. */
-static int out_of_range_first(const HbBook *book)
+/* Whether bookings with arguments out of range get 8, and leave every byte. */
+static int out_of_range_first(const HbGame *game)
 {
-    HbBook copy = *book;
+    HbGame copy = *game;
     int same = hb_riichi(&copy, 4) == HB_REFUSAL_ARGUMENT && hb_draw(&copy, 16) == HB_REFUSAL_ARGUMENT;
-    same = same && hb_chombo(&copy, 4) == HB_REFUSAL_ARGUMENT && hb_feed(&copy, 0, 4, 28) == HB_REFUSAL_ARGUMENT;
+    same = same && hb_chombo(&copy, 4) == HB_REFUSAL_ARGUMENT && hb_pao(&copy, 0, 4, 28) == HB_REFUSAL_ARGUMENT;
     same = same && book_byte(&copy, 0x04) == HB_REFUSAL_ARGUMENT && book_byte(&copy, 0x34) == HB_REFUSAL_ARGUMENT;
-    return same && memcmp(&copy, book, sizeof copy) == 0;
+    return same && memcmp(&copy, game, sizeof copy) == 0;
 }
 
-/* Books lent with any bytes: 9 for a game out of form before 20, and for an earlier one where it is held; no 9 for a game that is over; the
- * new booking's 9 where the earlier game is over, after its 8. A mark that is not 0 holds. */
-static void lent_books(void)
+/* Games lent with any bytes: 9 for a position out of form before 20, and for an earlier one where it is kept; no 9 for a game that is
+ * over; the new booking's 9 where the earlier position is over, after its 8. A mark that is not 0 is set. */
+static void lent_games(void)
 {
     static const uint32_t marks[] = {1, 2, 0xff, 0x100, 0x10000, 0x80000000, UINT32_MAX};
     static const Result over_15 = {HB_KIND_DRAW, 16, 0, {0}}, seat_4 = {HB_KIND_CHOMBO, 4, 0, {0}};
     const Result *results = each_result();
     for (size_t n = 0; n < COUNT_OF(marks); n++) {
-        HbBook book = hb_fresh(), lent;
-        book.held = marks[n];
+        HbGame game = hb_fresh_game(), lent;
+        game.correctable = marks[n];
         for (size_t k = 0; k < RESULTS; k++) {
-            lent = book, lent.game.over = k % 2 ? 0xfe : 0, lent.game.hands = k % 3 ? 0 : 200;
-            CHECK_CASE(marks[n], is_corrected(&lent, &results[k]) && lent.held == 1);
-            lent = book;
-            CHECK_CASE(marks[n], book_result(&lent, &results[k]) == 0 && lent.held == 1);
+            lent = game, lent.now.over = k % 2 ? 0xfe : 0, lent.now.hands = k % 3 ? 0 : 200;
+            CHECK_CASE(marks[n], is_corrected(&lent, &results[k]) && lent.correctable == 1);
+            lent = game;
+            CHECK_CASE(marks[n], book_result(&lent, &results[k]) == 0 && lent.correctable == 1);
         }
-        lent = book;
-        CHECK_CASE(marks[n], hb_riichi(&lent, 2) == 0 && lent.held == 0);
+        lent = game;
+        CHECK_CASE(marks[n], hb_riichi(&lent, 2) == 0 && lent.correctable == 0);
         for (int way = 0; way < WAYS; way++) {
-            lent = book, lent.game = out_of_form(way);
+            lent = game, lent.now = out_of_form(way);
             CHECK_CASE(way, all_refused(&lent, HB_REFUSAL_NOT_OPEN) && out_of_range_first(&lent));
             CHECK_CASE(way, all_corrections_refused(&lent, HB_REFUSAL_NOT_OPEN));
             CHECK_CASE(way, correction_refused(&lent, &over_15, HB_REFUSAL_NOT_OPEN));
-            lent.held = 0;
+            lent.correctable = 0;
             CHECK_CASE(way, all_corrections_refused(&lent, HB_REFUSAL_NOT_OPEN));
             CHECK_CASE(way, correction_refused(&lent, &seat_4, HB_REFUSAL_NOT_OPEN));
-            lent = book, lent.earlier = out_of_form(way);
+            lent = game, lent.earlier = out_of_form(way);
             CHECK_CASE(way, all_refused(&lent, HB_REFUSAL_NOT_OPEN) && out_of_range_first(&lent));
             CHECK_CASE(way, all_corrections_refused(&lent, HB_REFUSAL_NOT_OPEN));
             CHECK_CASE(way, correction_refused(&lent, &seat_4, HB_REFUSAL_NOT_OPEN));
-            lent.game.over = 1;
+            lent.now.over = 1;
             CHECK_CASE(way, all_corrections_refused(&lent, HB_REFUSAL_NOT_OPEN));
             CHECK_CASE(way, correction_refused(&lent, &over_15, HB_REFUSAL_NOT_OPEN));
-            /* where it is not held the earlier game does not matter */
-            lent.game.over = 0, lent.held = 0;
+            /* where it is not kept the earlier position does not matter */
+            lent.now.over = 0, lent.correctable = 0;
             CHECK_CASE(way, all_corrections_refused(&lent, HB_REFUSAL_SUPERSEDE));
             CHECK_CASE(way, correction_refused(&lent, &over_15, HB_REFUSAL_SUPERSEDE));
-            HbGame before = lent.game;
-            CHECK_CASE(way, hb_chombo(&lent, 2) == 0 && memcmp(&lent.earlier, &before, sizeof before) == 0 && lent.held == 1);
+            HbPosition before = lent.now;
+            CHECK_CASE(way, hb_chombo(&lent, 2) == 0 && memcmp(&lent.earlier, &before, sizeof before) == 0 && lent.correctable == 1);
         }
         for (int way = 0; way < 2; way++) {
-            lent = book, lent.game.over = way ? 0 : 7, lent.game.hands = way ? 200 : 0, lent.held = 0;
+            lent = game, lent.now.over = way ? 0 : 7, lent.now.hands = way ? 200 : 0, lent.correctable = 0;
             CHECK_CASE(way, all_corrections_refused(&lent, HB_REFUSAL_SUPERSEDE));
             CHECK_CASE(way, correction_refused(&lent, &seat_4, HB_REFUSAL_SUPERSEDE));
-            lent = book, lent.earlier.over = way ? 0 : 7, lent.earlier.hands = way ? 200 : 0;
+            lent = game, lent.earlier.over = way ? 0 : 7, lent.earlier.hands = way ? 200 : 0;
             CHECK_CASE(way, all_corrections_refused(&lent, HB_REFUSAL_NOT_OPEN));
             CHECK_CASE(way, correction_refused(&lent, &over_15, HB_REFUSAL_ARGUMENT));
             CHECK_CASE(way, correction_refused(&lent, &seat_4, HB_REFUSAL_ARGUMENT));
             CHECK_CASE(way, hb_chombo(&lent, 2) == 0);
         }
     }
-    /* the earlier game is kept as it was lent, its marks too; an accepted booking sets those of the game alone to 0 or 1 */
-    HbBook book = hb_fresh(), before;
-    book.game.declared[2] = 0xfe, book.game.sticks = 1, book.game.scores[2] -= 1000, before = book;
-    CHECK(hb_draw(&book, 2) == 0 && memcmp(&book.earlier, &before.game, sizeof before.game) == 0 && !book.game.declared[2]);
-    CHECK(is_corrected(&book, &results[0]) && memcmp(&book.earlier, &before.game, sizeof before.game) == 0);
-    CHECK(hb_correct_draw(&book, 0) == 0 && book.game.scores[2] == 21000 && book.game.sticks == 0);
+    /* the earlier position is kept as it was lent, its marks too; an accepted booking sets only those of the one that stands to 0 or 1 */
+    HbGame game = hb_fresh_game(), before;
+    game.now.declared[2] = 0xfe, game.now.sticks = 1, game.now.scores[2] -= 1000, before = game;
+    CHECK(hb_draw(&game, 2) == 0 && memcmp(&game.earlier, &before.now, sizeof before.now) == 0 && !game.now.declared[2]);
+    CHECK(is_corrected(&game, &results[0]) && memcmp(&game.earlier, &before.now, sizeof before.now) == 0);
+    CHECK(hb_correct_draw(&game, 0) == 0 && game.now.scores[2] == 21000 && game.now.sticks == 0);
 }
 
 /* Whether an entry has these values. */
@@ -1693,71 +1692,71 @@ static void entries(void)
     uint8_t log[15] = {0x10};
     memcpy(log + 1, table[0].record, 13);
     log[14] = 0x32;
-    CHECK(is_entry(hb_next(log, 15, 0), HB_KIND_WIN, 0, HB_LETTER_WIN, 14));
-    CHECK(is_entry(hb_next(log, 15, 14), HB_KIND_CHOMBO, 2, HB_LETTER_CHOMBO, 1));
+    CHECK(is_entry(hb_log_next(log, 15, 0), HB_KIND_WIN, 0, HB_LETTER_WIN, 14));
+    CHECK(is_entry(hb_log_next(log, 15, 14), HB_KIND_CHOMBO, 2, HB_LETTER_CHOMBO, 1));
     for (int argument = 0; argument < 16; argument++) {
         uint8_t small[] = {(uint8_t)argument, (uint8_t)(0x20 + argument), (uint8_t)(0x30 + argument)};
-        CHECK_CASE(argument, is_entry(hb_next(small, 3, 0), HB_KIND_RIICHI, (uint8_t)argument, HB_LETTER_RIICHI, 1));
-        CHECK_CASE(argument, is_entry(hb_next(small, 3, 1), HB_KIND_DRAW, (uint8_t)argument, HB_LETTER_DRAW, 1));
-        CHECK_CASE(argument, is_entry(hb_next(small, 3, 2), HB_KIND_CHOMBO, (uint8_t)argument, HB_LETTER_CHOMBO, 1));
+        CHECK_CASE(argument, is_entry(hb_log_next(small, 3, 0), HB_KIND_RIICHI, (uint8_t)argument, HB_LETTER_RIICHI, 1));
+        CHECK_CASE(argument, is_entry(hb_log_next(small, 3, 1), HB_KIND_DRAW, (uint8_t)argument, HB_LETTER_DRAW, 1));
+        CHECK_CASE(argument, is_entry(hb_log_next(small, 3, 2), HB_KIND_CHOMBO, (uint8_t)argument, HB_LETTER_CHOMBO, 1));
     }
-    CHECK(no_entry(hb_next(log, 15, 15), 0));
-    CHECK(no_entry(hb_next(log, 15, 16), 0));
-    CHECK(no_entry(hb_next(log, 15, SIZE_MAX), 0));
+    CHECK(no_entry(hb_log_next(log, 15, 15), 0));
+    CHECK(no_entry(hb_log_next(log, 15, 16), 0));
+    CHECK(no_entry(hb_log_next(log, 15, SIZE_MAX), 0));
     for (size_t length = 1; length < 14; length++) {
         uint8_t *cut = exact(log, length);
-        CHECK_CASE(length, no_entry(hb_next(cut, length, 0), HB_REFUSAL_ENTRY));
+        CHECK_CASE(length, no_entry(hb_log_next(cut, length, 0), HB_REFUSAL_ENTRY));
         free(cut);
     }
     for (int kind = 4; kind < 16; kind++) {
         log[0] = (uint8_t)(16 * kind);
-        CHECK_CASE(kind, kind == HB_KIND_FEED || no_entry(hb_next(log, 15, 0), HB_REFUSAL_ENTRY));
+        CHECK_CASE(kind, kind == HB_KIND_PAO || no_entry(hb_log_next(log, 15, 0), HB_REFUSAL_ENTRY));
     }
-    uint8_t set[40] = {0};
+    uint8_t rons[40] = {0};
     size_t behind[4] = {1};
     for (uint8_t n = 1; n <= 3; n++) { /* records of 13, 12 and 13 bytes */
         const struct line *line = numbered(n == 2 ? 6 : 1);
-        memcpy(set + behind[n - 1], line->record, line->length);
+        memcpy(rons + behind[n - 1], line->record, line->length);
         behind[n] = behind[n - 1] + line->length;
-        set[0] = (uint8_t)(0x40 + n);
-        CHECK_CASE(n, is_entry(hb_next(set, sizeof set, 0), HB_KIND_MANY, n, HB_LETTER_MANY, behind[n]));
+        rons[0] = (uint8_t)(0x40 + n);
+        CHECK_CASE(n, is_entry(hb_log_next(rons, sizeof rons, 0), HB_KIND_MULTI_RON, n, HB_LETTER_MULTI_RON, behind[n]));
         for (size_t length = 1; length <= behind[n]; length++) {
-            uint8_t *cut = exact(set, length);
-            CHECK_CASE(length, length == behind[n] ? is_entry(hb_next(cut, length, 0), HB_KIND_MANY, n, HB_LETTER_MANY, length)
-                                                   : no_entry(hb_next(cut, length, 0), HB_REFUSAL_ENTRY));
+            uint8_t *cut = exact(rons, length);
+            CHECK_CASE(length, length == behind[n] ? is_entry(hb_log_next(cut, length, 0), HB_KIND_MULTI_RON, n, HB_LETTER_MULTI_RON, length)
+                                                   : no_entry(hb_log_next(cut, length, 0), HB_REFUSAL_ENTRY));
             free(cut);
         }
         for (uint8_t k = 0; k < n; k++) { /* m 5, 6 and 7 in each record */
-            uint8_t two[] = {set[behind[k] + 2], set[behind[k] + 3]};
+            uint8_t two[] = {rons[behind[k] + 2], rons[behind[k] + 3]};
             for (uint8_t m = 5; m < 8; m++) {
-                set[behind[k] + 2] = (uint8_t)((two[0] & 0xfc) | m >> 1), set[behind[k] + 3] = (uint8_t)((two[1] & 0x7f) | (m & 1) << 7);
-                CHECK_CASE(m, no_entry(hb_next(set, sizeof set, 0), HB_REFUSAL_ENTRY));
+                rons[behind[k] + 2] = (uint8_t)((two[0] & 0xfc) | m >> 1), rons[behind[k] + 3] = (uint8_t)((two[1] & 0x7f) | (m & 1) << 7);
+                CHECK_CASE(m, no_entry(hb_log_next(rons, sizeof rons, 0), HB_REFUSAL_ENTRY));
             }
-            set[behind[k] + 2] = two[0], set[behind[k] + 3] = two[1];
+            rons[behind[k] + 2] = two[0], rons[behind[k] + 3] = two[1];
         }
     }
     for (int argument = 0; argument < 16; argument++) {
-        set[0] = (uint8_t)(0x40 + argument);
-        CHECK_CASE(argument, (argument > 0 && argument < 4) || no_entry(hb_next(set, sizeof set, 0), HB_REFUSAL_ENTRY));
+        rons[0] = (uint8_t)(0x40 + argument);
+        CHECK_CASE(argument, (argument > 0 && argument < 4) || no_entry(hb_log_next(rons, sizeof rons, 0), HB_REFUSAL_ENTRY));
     }
     for (int byte = 0; byte < 256; byte++) {
-        uint8_t feed[] = {0x50, (uint8_t)byte, 0x00}, *alone = exact(feed, 1);
-        HbNextEntry entry = hb_next(feed, 3, 0);
-        CHECK_CASE(byte, byte % 8 ? no_entry(entry, HB_REFUSAL_ENTRY) : is_entry(entry, HB_KIND_FEED, 0, HB_LETTER_FEED, 2));
-        CHECK_CASE(byte, no_entry(hb_next(alone, 1, 0), HB_REFUSAL_ENTRY));
+        uint8_t pao[] = {0x50, (uint8_t)byte, 0x00}, *alone = exact(pao, 1);
+        HbNextEntry entry = hb_log_next(pao, 3, 0);
+        CHECK_CASE(byte, byte % 8 ? no_entry(entry, HB_REFUSAL_ENTRY) : is_entry(entry, HB_KIND_PAO, 0, HB_LETTER_PAO, 2));
+        CHECK_CASE(byte, no_entry(hb_log_next(alone, 1, 0), HB_REFUSAL_ENTRY));
         free(alone);
         for (int argument = 1; argument < 16; argument++) {
-            feed[0] = (uint8_t)(0x50 + argument);
-            CHECK_CASE(argument, no_entry(hb_next(feed, 3, 0), HB_REFUSAL_ENTRY));
+            pao[0] = (uint8_t)(0x50 + argument);
+            CHECK_CASE(argument, no_entry(hb_log_next(pao, 3, 0), HB_REFUSAL_ENTRY));
         }
     }
     for (int argument = 1; argument < 16; argument++) {
         log[0] = (uint8_t)(0x10 + argument);
-        CHECK_CASE(argument, no_entry(hb_next(log, 15, 0), HB_REFUSAL_ENTRY));
+        CHECK_CASE(argument, no_entry(hb_log_next(log, 15, 0), HB_REFUSAL_ENTRY));
     }
     log[0] = 0x10;
     log[3] = 0x66, log[4] = 0x82; /* m 5 */
-    CHECK(no_entry(hb_next(log, 15, 0), HB_REFUSAL_ENTRY));
+    CHECK(no_entry(hb_log_next(log, 15, 0), HB_REFUSAL_ENTRY));
 }
 
 /* Entries of corrections: every cut, every argument, and every entry inside. */
@@ -1767,16 +1766,16 @@ static void correction_entries(void)
         size_t whole = 2 + each_result()[n].length;
         uint8_t *entry = correction_entry(&each_result()[n]), longer[2 + 3 * 13 + 1] = {0};
         memcpy(longer, entry, whole);
-        CHECK_CASE(n, is_entry(hb_next(longer, sizeof longer, 0), HB_KIND_CORRECTION, 0, HB_LETTER_CORRECTION, whole));
+        CHECK_CASE(n, is_entry(hb_log_next(longer, sizeof longer, 0), HB_KIND_CORRECTION, 0, HB_LETTER_CORRECTION, whole));
         for (size_t length = 1; length <= whole; length++) {
             uint8_t *cut = exact(entry, length);
-            CHECK_CASE(length, length == whole ? is_entry(hb_next(cut, length, 0), HB_KIND_CORRECTION, 0, HB_LETTER_CORRECTION, length)
-                                               : no_entry(hb_next(cut, length, 0), HB_REFUSAL_ENTRY));
+            CHECK_CASE(length, length == whole ? is_entry(hb_log_next(cut, length, 0), HB_KIND_CORRECTION, 0, HB_LETTER_CORRECTION, length)
+                                               : no_entry(hb_log_next(cut, length, 0), HB_REFUSAL_ENTRY));
             free(cut);
         }
         for (int argument = 1; argument < 16; argument++) {
             longer[0] = (uint8_t)(0x60 + argument);
-            CHECK_CASE(argument, no_entry(hb_next(longer, sizeof longer, 0), HB_REFUSAL_ENTRY));
+            CHECK_CASE(argument, no_entry(hb_log_next(longer, sizeof longer, 0), HB_REFUSAL_ENTRY));
         }
         free(entry);
     }
@@ -1785,86 +1784,86 @@ static void correction_entries(void)
         uint8_t log[2 + 3 * 13] = {0x60, (uint8_t)header};
         for (size_t k = 0; k < 3; k++)
             memcpy(log + 2 + 13 * k, table[0].record, 13);
-        HbNextEntry inside = hb_next(log, sizeof log, 1), entry = hb_next(log, sizeof log, 0);
-        int carried = inside.refusal == 0 && inside.kind >= HB_KIND_WIN && inside.kind <= HB_KIND_MANY;
+        HbNextEntry inside = hb_log_next(log, sizeof log, 1), entry = hb_log_next(log, sizeof log, 0);
+        int carried = inside.refusal == 0 && inside.kind >= HB_KIND_WIN && inside.kind <= HB_KIND_MULTI_RON;
         CHECK_CASE(header, carried ? is_entry(entry, HB_KIND_CORRECTION, 0, HB_LETTER_CORRECTION, 1 + inside.length)
                                    : no_entry(entry, HB_REFUSAL_ENTRY));
-        HbBook book = hb_fresh(), before;
-        CHECK_CASE(header, hb_draw(&book, 8) == 0);
-        before = book;
-        uint8_t refusal = hb_book(&book, log, sizeof log);
-        CHECK_CASE(header, (refusal == HB_REFUSAL_ENTRY) == !carried && (refusal == 0 || memcmp(&book, &before, sizeof book) == 0));
+        HbGame game = hb_fresh_game(), before;
+        CHECK_CASE(header, hb_draw(&game, 8) == 0);
+        before = game;
+        uint8_t refusal = hb_book_entry(&game, log, sizeof log);
+        CHECK_CASE(header, (refusal == HB_REFUSAL_ENTRY) == !carried && (refusal == 0 || memcmp(&game, &before, sizeof game) == 0));
     }
     uint8_t m_5[15] = {0x60, 0x10};
     memcpy(m_5 + 2, table[0].record, 13), m_5[4] = 0x66, m_5[5] = 0x82;
-    CHECK(no_entry(hb_next(m_5, 15, 0), HB_REFUSAL_ENTRY));
-    /* a riichi, a feed and a correction are entries, but not inside */
+    CHECK(no_entry(hb_log_next(m_5, 15, 0), HB_REFUSAL_ENTRY));
+    /* a riichi, a pao and a correction are entries, but not inside */
     static const uint8_t others[][4] = {{0x60, 0x01}, {0x60, 0x50, 0x70}, {0x60, 0x60, 0x20}, {0x60, 0x60, 0x60, 0x20}};
     for (size_t n = 0; n < COUNT_OF(others); n++)
-        CHECK_CASE(n, no_entry(hb_next(others[n], 4, 0), HB_REFUSAL_ENTRY));
+        CHECK_CASE(n, no_entry(hb_log_next(others[n], 4, 0), HB_REFUSAL_ENTRY));
 }
 
-/* Whether booking an entry of a log does to a book what a booking did: the refusal, and each byte of the book. */
-static int books_as(const uint8_t *part, size_t length, HbBook book, uint8_t refusal, HbBook after)
+/* Whether booking an entry of a log does to a game what a booking's own call did: the refusal, and each byte of the game. */
+static int books_as(const uint8_t *part, size_t length, HbGame game, uint8_t refusal, HbGame after)
 {
-    uint8_t got = hb_book(&book, part, length);
-    return got == refusal && memcmp(&book, &after, sizeof book) == 0;
+    uint8_t got = hb_book_entry(&game, part, length);
+    return got == refusal && memcmp(&game, &after, sizeof game) == 0;
 }
 
 /* Each kind of entry booked: what its booking gives, in a fresh game, with a riichi declared, and over. */
 static void booked_entries(void)
 {
-    HbBook books[3] = {hb_fresh(), hb_fresh(), hb_fresh()};
+    HbGame games[3] = {hb_fresh_game(), hb_fresh_game(), hb_fresh_game()};
     uint8_t riichi_entry[14] = {0x10};
     memcpy(riichi_entry + 1, with_riichi, 13);
-    CHECK(hb_riichi(&books[1], 1) == 0);
-    books[2].game.over = 1;
-    CHECK(hb_feed(&books[1], 2, 0, HB_YAKU_SUUSHIIHOU) == 0);
+    CHECK(hb_riichi(&games[1], 1) == 0);
+    games[2].now.over = 1;
+    CHECK(hb_pao(&games[1], 2, 0, HB_YAKU_SUUSHIIHOU) == 0);
     for (size_t n = 0; n < 3; n++) {
-        HbBook after;
+        HbGame after;
         uint8_t refusal;
         for (int byte = 0; byte < 256; byte += 8) {
-            uint8_t feed[] = {0x50, (uint8_t)byte, 0x07};
-            after = books[n], refusal = hb_feed(&after, (uint8_t)(byte / 64), (uint8_t)(byte / 16 % 4), (uint8_t)(28 + byte / 8 % 2));
-            CHECK_CASE(byte, books_as(feed, 2, books[n], refusal, after) && books_as(feed, 3, books[n], refusal, after));
+            uint8_t pao[] = {0x50, (uint8_t)byte, 0x07};
+            after = games[n], refusal = hb_pao(&after, (uint8_t)(byte / 64), (uint8_t)(byte / 16 % 4), (uint8_t)(28 + byte / 8 % 2));
+            CHECK_CASE(byte, books_as(pao, 2, games[n], refusal, after) && books_as(pao, 3, games[n], refusal, after));
         }
         for (uint8_t argument = 0; argument < 16; argument++) {
             uint8_t header[] = {argument, (uint8_t)(0x20 + argument), (uint8_t)(0x30 + argument)};
-            after = books[n], refusal = hb_riichi(&after, argument);
-            CHECK_CASE(argument, books_as(header, 1, books[n], refusal, after));
-            after = books[n], refusal = hb_draw(&after, argument);
-            CHECK_CASE(argument, books_as(header + 1, 1, books[n], refusal, after));
-            after = books[n], refusal = hb_chombo(&after, argument);
-            CHECK_CASE(argument, books_as(header + 2, 1, books[n], refusal, after));
+            after = games[n], refusal = hb_riichi(&after, argument);
+            CHECK_CASE(argument, books_as(header, 1, games[n], refusal, after));
+            after = games[n], refusal = hb_draw(&after, argument);
+            CHECK_CASE(argument, books_as(header + 1, 1, games[n], refusal, after));
+            after = games[n], refusal = hb_chombo(&after, argument);
+            CHECK_CASE(argument, books_as(header + 2, 1, games[n], refusal, after));
         }
-        after = books[n], refusal = hb_win(&after, table[0].record, 13);
-        CHECK_CASE(n, books_as(win_entry, 14, books[n], refusal, after));
-        CHECK_CASE(n, books_as(win_entry, 16, books[n], refusal, after)); /* the first entry of several */
-        after = books[n], refusal = hb_win(&after, with_riichi, 13);
-        CHECK_CASE(n, books_as(riichi_entry, 14, books[n], refusal, after));
+        after = games[n], refusal = hb_win(&after, table[0].record, 13);
+        CHECK_CASE(n, books_as(win_entry, 14, games[n], refusal, after));
+        CHECK_CASE(n, books_as(win_entry, 16, games[n], refusal, after)); /* the first entry of several */
+        after = games[n], refusal = hb_win(&after, with_riichi, 13);
+        CHECK_CASE(n, books_as(riichi_entry, 14, games[n], refusal, after));
     }
-    CHECK(books_as(win_entry, 14, books[1], HB_REFUSAL_RIICHI, books[1]));
-    CHECK(book_byte(&books[1], 0x01) == HB_REFUSAL_DECLARED);
-    CHECK(book_byte(&books[1], 0x04) == HB_REFUSAL_ARGUMENT && book_byte(&books[1], 0x3f) == HB_REFUSAL_ARGUMENT);
-    CHECK(book_byte(&books[2], 0x04) == HB_REFUSAL_ARGUMENT && book_byte(&books[2], 0x20) == HB_REFUSAL_NOT_OPEN);
+    CHECK(books_as(win_entry, 14, games[1], HB_REFUSAL_RIICHI, games[1]));
+    CHECK(book_byte(&games[1], 0x01) == HB_REFUSAL_DECLARED);
+    CHECK(book_byte(&games[1], 0x04) == HB_REFUSAL_ARGUMENT && book_byte(&games[1], 0x3f) == HB_REFUSAL_ARGUMENT);
+    CHECK(book_byte(&games[2], 0x04) == HB_REFUSAL_ARGUMENT && book_byte(&games[2], 0x20) == HB_REFUSAL_NOT_OPEN);
 }
 
 /* Entries whose record is refused, and each way to refusal 14, in an open game and one that is over, with any marks. */
 static void refused_entries(void)
 {
-    HbBook fresh = hb_fresh(), book = fresh, over = fresh;
+    HbGame fresh = hb_fresh_game(), game = fresh, over = fresh;
     for (size_t n = 0; n < COUNT_OF(unsound); n++) {
         size_t length;
         uint8_t *record = unsound_record(n, &length);
         uint8_t wanted = unsound[n].refusal == HB_REFUSAL_LENGTH ? HB_REFUSAL_ENTRY : unsound[n].refusal;
-        CHECK_CASE(n, book_win(&book, record, length) == wanted && memcmp(&book, &fresh, sizeof book) == 0);
+        CHECK_CASE(n, book_win(&game, record, length) == wanted && memcmp(&game, &fresh, sizeof game) == 0);
         free(record);
     }
-    CHECK(book_win(&book, table[6].record, 12) == HB_REFUSAL_NO_YAKU && memcmp(&book, &fresh, sizeof book) == 0);
-    CHECK(book_win(&book, table[9].record, 13) == HB_REFUSAL_NO_READING && memcmp(&book, &fresh, sizeof book) == 0);
+    CHECK(book_win(&game, table[6].record, 12) == HB_REFUSAL_NO_YAKU && memcmp(&game, &fresh, sizeof game) == 0);
+    CHECK(book_win(&game, table[9].record, 13) == HB_REFUSAL_NO_READING && memcmp(&game, &fresh, sizeof game) == 0);
 
-    over.game.over = 0x80, over.game.declared[0] = 3, over.game.declared[3] = 0xff;
-    const HbBook *each[] = {&fresh, &over};
+    over.now.over = 0x80, over.now.declared[0] = 3, over.now.declared[3] = 0xff;
+    const HbGame *each[] = {&fresh, &over};
     for (size_t n = 0; n < 2; n++) {
         uint8_t part[14];
         for (size_t length = 0; length < 14; length++) {
@@ -1883,7 +1882,7 @@ static void refused_entries(void)
         part[0] = 0x50;
         CHECK_CASE(n, books_as(part, 1, *each[n], HB_REFUSAL_ENTRY, *each[n]));
         for (int byte = 0; byte < 256; byte++) {
-            part[1] = (uint8_t)byte; /* a zero bit of a feed set */
+            part[1] = (uint8_t)byte; /* a zero bit of a pao set */
             CHECK_CASE(byte, byte % 8 == 0 || books_as(part, 2, *each[n], HB_REFUSAL_ENTRY, *each[n]));
         }
     }
@@ -1893,42 +1892,42 @@ static void refused_entries(void)
 static void marked_entries(void)
 {
     static const uint8_t set[4] = {0, 1, 1, 0}, cleared[4] = {0, 0, 0, 0};
-    HbBook book = hb_fresh(), before;
-    book.game.declared[2] = 2, book.game.sticks = 1, book.game.scores[2] -= 1000;
-    before = book;
-    CHECK(book_byte(&book, 0x02) == HB_REFUSAL_DECLARED && memcmp(&book, &before, sizeof book) == 0);
-    CHECK(book_byte(&book, 0x2d) == 0 && book.game.sticks == 0 && book.game.scores[2] == 21000);
-    CHECK(memcmp(book.game.declared, cleared, sizeof cleared) == 0);
-    book = before;
-    CHECK(book_win(&book, with_riichi, 13) == HB_REFUSAL_RIICHI && memcmp(&book, &before, sizeof book) == 0);
-    CHECK(book_byte(&book, 0x01) == 0 && book.game.sticks == 2 && memcmp(book.game.declared, set, sizeof set) == 0);
-    CHECK(book_win(&book, with_riichi, 13) == 0 && book.game.sticks == 0 && memcmp(book.game.declared, cleared, sizeof cleared) == 0);
-    book = before;
-    CHECK(book_byte(&book, 0x22) == 0 && book.game.sticks == 1 && memcmp(book.game.declared, cleared, sizeof cleared) == 0);
+    HbGame game = hb_fresh_game(), before;
+    game.now.declared[2] = 2, game.now.sticks = 1, game.now.scores[2] -= 1000;
+    before = game;
+    CHECK(book_byte(&game, 0x02) == HB_REFUSAL_DECLARED && memcmp(&game, &before, sizeof game) == 0);
+    CHECK(book_byte(&game, 0x2d) == 0 && game.now.sticks == 0 && game.now.scores[2] == 21000);
+    CHECK(memcmp(game.now.declared, cleared, sizeof cleared) == 0);
+    game = before;
+    CHECK(book_win(&game, with_riichi, 13) == HB_REFUSAL_RIICHI && memcmp(&game, &before, sizeof game) == 0);
+    CHECK(book_byte(&game, 0x01) == 0 && game.now.sticks == 2 && memcmp(game.now.declared, set, sizeof set) == 0);
+    CHECK(book_win(&game, with_riichi, 13) == 0 && game.now.sticks == 0 && memcmp(game.now.declared, cleared, sizeof cleared) == 0);
+    game = before;
+    CHECK(book_byte(&game, 0x22) == 0 && game.now.sticks == 1 && memcmp(game.now.declared, cleared, sizeof cleared) == 0);
 }
 
-/* Whether two walks stand alike; the book byte for byte. */
+/* Whether two walks stand alike; the game byte for byte. */
 static int same_walk(const HbWalk *one, const HbWalk *two)
 {
-    return memcmp(&one->book, &two->book, sizeof one->book) == 0 && one->at == two->at && one->entry == two->entry;
+    return memcmp(&one->game, &two->game, sizeof one->game) == 0 && one->at == two->at && one->entry == two->entry;
 }
 
-/* Books the entry where a walk stands, by hb_next and hb_book, and writes its line by hb_line. Gives the line's length, or 0
- * with the walk as it was where there is no entry or no room. */
+/* Books the entry where a walk stands, by hb_log_next and hb_book_entry, and writes its line by hb_log_line. Gives the line's length, or
+ * 0 with the walk as it was where there is no entry or no room. */
 static size_t step(HbWalk *walk, const uint8_t *log, size_t length, uint8_t *text, size_t room)
 {
-    HbNextEntry entry = hb_next(log, length, walk->at);
+    HbNextEntry entry = hb_log_next(log, length, walk->at);
     if (entry.refusal || entry.end)
         return 0;
-    HbBook book = walk->book;
-    uint8_t refusal = hb_book(&book, log + walk->at, entry.length);
-    size_t line = hb_line(&book.game, text, room, walk->entry, entry.letter, refusal);
+    HbGame game = walk->game;
+    uint8_t refusal = hb_book_entry(&game, log + walk->at, entry.length);
+    size_t line = hb_log_line(&game.now, walk->entry, entry.letter, refusal, text, room);
     if (line)
-        walk->book = book, walk->at += entry.length, walk->entry++;
+        walk->game = game, walk->at += entry.length, walk->entry++;
     return line;
 }
 
-/* hb_lines into a buffer of a length, checked against single steps: the lines, bytes past them and past the buffer's end,
+/* hb_log_lines into a buffer of a length, checked against single steps: the lines, bytes past them and past the buffer's end,
  * and where the walk then stands, which goes to walk. Adds the lines to text if there is one; gives how many bytes. */
 static size_t lines_checked(HbWalk *walk, const uint8_t *log, size_t length, size_t room, uint8_t *text)
 {
@@ -1938,7 +1937,7 @@ static size_t lines_checked(HbWalk *walk, const uint8_t *log, size_t length, siz
         exit(2);
     memset(got, 0x5a, room + BEHIND);
     memset(wanted, 0x5a, room + BEHIND);
-    HbPrinted printed = hb_lines(*walk, log, length, got, room);
+    HbPrinted printed = hb_log_lines(*walk, log, length, got, room);
     size_t used = 0, line;
     while ((line = step(walk, log, length, wanted + used, room - used)) != 0)
         used += line;
@@ -1955,7 +1954,7 @@ static size_t lines_checked(HbWalk *walk, const uint8_t *log, size_t length, siz
 /* The lines of a log from its start, a buffer of a length at a time; the length is HB_LINE_MAX or more. */
 static size_t tally(const uint8_t *log, size_t length, size_t room, uint8_t *text)
 {
-    HbWalk walk = hb_start();
+    HbWalk walk = hb_log_start();
     size_t used = 0, more;
     while ((more = lines_checked(&walk, log, length, room, text + used)) != 0)
         used += more;
@@ -1965,13 +1964,13 @@ static size_t tally(const uint8_t *log, size_t length, size_t room, uint8_t *tex
 /* A walk at its start. */
 static void starts(void)
 {
-    HbBook fresh = hb_fresh();
-    HbWalk walk = hb_start();
-    CHECK(memcmp(&walk.book, &fresh, sizeof fresh) == 0 && walk.at == 0 && walk.entry == 1);
+    HbGame fresh = hb_fresh_game();
+    HbWalk walk = hb_log_start();
+    CHECK(memcmp(&walk.game, &fresh, sizeof fresh) == 0 && walk.at == 0 && walk.entry == 1);
 }
 
-/* Document 01's log 01 24, one with a win, refused bookings and a bad entry at its end, one with a counter, one with feeds,
- * one with sets of rons, one with a riichi of a seat that has no points for it, and one with corrections. */
+/* Document 01's log 01 24, one with a win, refused entries and a bad one at its end, one with a counter, one with paos, one with
+ * multiple rons, one with a riichi of a seat that has no points for it, and one with corrections. */
 static void logs(void)
 {
     static const int32_t after[] = {29000, 32000, 29000, 29000};
@@ -1980,17 +1979,17 @@ static void logs(void)
     static const char more[] = "1 W 0 30000 32000 30000 28000 0\n2 R 8 30000 32000 30000 28000 0\n"
                                "3 C 0 33000 23000 33000 31000 0\n";
     static const char counted[] = "1 D 0 30000 30000 30000 30000 0\n2 W 0 30000 32300 30000 27700 0\n";
-    static const char fed[] = "1 P 0 30000 30000 30000 30000 0\n2 W 0 30000 62000 30000 -2000 0\n3 P 18 30000 62000 30000 -2000 0\n";
+    static const char by_pao[] = "1 P 0 30000 30000 30000 30000 0\n2 W 0 30000 62000 30000 -2000 0\n3 P 18 30000 62000 30000 -2000 0\n";
     uint8_t text[HB_LINE_MAX], log[18];
-    HbPrinted printed = hb_lines(hb_start(), example, 2, text, sizeof text);
+    HbPrinted printed = hb_log_lines(hb_log_start(), example, 2, text, sizeof text);
     CHECK(printed.written == sizeof lines - 1 && memcmp(text, lines, sizeof lines - 1) == 0);
-    CHECK(is_game(&printed.walk.book, after, 1, 1, HB_ROUND_EAST, 1) && printed.walk.at == 2 && printed.walk.entry == 3);
-    HbPrinted again = hb_lines(printed.walk, example, 2, text, sizeof text);
+    CHECK(is_game(&printed.walk.game, after, 1, 1, HB_ROUND_EAST, 1) && printed.walk.at == 2 && printed.walk.entry == 3);
+    HbPrinted again = hb_log_lines(printed.walk, example, 2, text, sizeof text);
     CHECK(again.written == 0 && same_walk(&again.walk, &printed.walk));
 
     uint8_t all[4 * HB_LINE_MAX];
     memcpy(log, win_entry, 14);
-    log[14] = 0x04, log[15] = 0x31, log[16] = 0x40; /* the last a set of no records */
+    log[14] = 0x04, log[15] = 0x31, log[16] = 0x40; /* the last a multiple ron of no records */
     CHECK(tally(log, 17, HB_LINE_MAX, all) == sizeof more - 1 && memcmp(all, more, sizeof more - 1) == 0);
     CHECK(tally(log, 17, 3 * HB_LINE_MAX, all) == sizeof more - 1 && memcmp(all, more, sizeof more - 1) == 0);
 
@@ -1998,13 +1997,13 @@ static void logs(void)
     CHECK(tally(log, 15, 2 * HB_LINE_MAX, all) == sizeof counted - 1 && memcmp(all, counted, sizeof counted - 1) == 0);
 
     log[0] = 0x50, log[1] = 0x70, log[2] = 0x10, memcpy(log + 3, yakuman[DRAGONS].record, 13), log[16] = 0x50, log[17] = 0x50;
-    CHECK(tally(log, 18, 3 * HB_LINE_MAX, all) == sizeof fed - 1 && memcmp(all, fed, sizeof fed - 1) == 0);
+    CHECK(tally(log, 18, 3 * HB_LINE_MAX, all) == sizeof by_pao - 1 && memcmp(all, by_pao, sizeof by_pao - 1) == 0);
 
-    static const char set[] = "1 D 0 30000 30000 30000 30000 0\n2 M 0 30000 32300 32000 25700 0\n3 M 17 30000 32300 32000 25700 0\n";
-    uint8_t of_sets[42] = {0x2f, 0x42};
-    of_sets[put_ron(of_sets, put_ron(of_sets, 2, table[0].record, 13, 1, 3), table[0].record, 13, 2, 3)] = 0x41;
-    memcpy(of_sets + 29, table[1].record, 13);
-    CHECK(tally(of_sets, 42, 3 * HB_LINE_MAX, all) == sizeof set - 1 && memcmp(all, set, sizeof set - 1) == 0);
+    static const char rons[] = "1 D 0 30000 30000 30000 30000 0\n2 M 0 30000 32300 32000 25700 0\n3 M 17 30000 32300 32000 25700 0\n";
+    uint8_t of_rons[42] = {0x2f, 0x42};
+    of_rons[put_ron(of_rons, put_ron(of_rons, 2, table[0].record, 13, 1, 3), table[0].record, 13, 2, 3)] = 0x41;
+    memcpy(of_rons + 29, table[1].record, 13);
+    CHECK(tally(of_rons, 42, 3 * HB_LINE_MAX, all) == sizeof rons - 1 && memcmp(all, rons, sizeof rons - 1) == 0);
 
     static const char broke[] = "1 C 0 33000 21000 33000 33000 0\n2 C 0 36000 12000 36000 36000 0\n3 C 0 39000 3000 39000 39000 0\n"
                                 "4 C 0 42000 -6000 42000 42000 0\n5 R 21 42000 -6000 42000 42000 0\n6 W 11 42000 -6000 42000 42000 0\n"
@@ -2023,12 +2022,12 @@ static void logs(void)
 
 /* A log of many entries, to the game's end and past it, and a bad one last. Gives its length. */
 enum { ROUNDS = 160, PER_ROUND = 26, ENTRIES = 10 };
-static size_t many(uint8_t *log)
+static size_t long_log(uint8_t *log)
 {
     size_t length = 0;
     for (int round = 0; round < ROUNDS; round++) {
         log[length++] = (uint8_t)(round % 5);        /* riichi, of seat 4 refused */
-        log[length++] = 0x50;                        /* feed, of a seat to itself refused */
+        log[length++] = 0x50;                        /* pao, of a holder who is the feeder refused */
         log[length++] = (uint8_t)(round * 8);
         memcpy(log + length, win_entry, 14);         /* refused after a riichi of seat 1 */
         length += 14;
@@ -2046,34 +2045,34 @@ static size_t many(uint8_t *log)
     return length;
 }
 
-/* The log of many entries into buffers of many lengths, from none to all of the text, and the walk handed back and forth. */
-static void many_lines(void)
+/* That log into buffers of many lengths, from none to all of the text, and the walk handed back and forth. */
+static void lines_of_a_long_log(void)
 {
     static const size_t rooms[] = {HB_LINE_MAX, HB_LINE_MAX + 1, 100, 333, 1024, 4096, ENTRIES * ROUNDS * HB_LINE_MAX};
     static uint8_t whole[ENTRIES * ROUNDS * HB_LINE_MAX], text[ENTRIES * ROUNDS * HB_LINE_MAX], bytes[ROUNDS * PER_ROUND + 1];
-    size_t length = many(bytes), used = 0, entries = 0, line;
+    size_t length = long_log(bytes), used = 0, entries = 0, line;
     CHECK(length == sizeof bytes);
     uint8_t *log = exact(bytes, length);
-    HbWalk last = hb_start(), walk;
+    HbWalk last = hb_log_start(), walk;
     while ((line = step(&last, log, length, whole + used, sizeof whole - used)) != 0)
         used += line, entries++;
-    CHECK(entries == ENTRIES * ROUNDS && last.at == length - 1 && last.entry == ENTRIES * ROUNDS + 1 && last.book.game.over == 1);
+    CHECK(entries == ENTRIES * ROUNDS && last.at == length - 1 && last.entry == ENTRIES * ROUNDS + 1 && last.game.now.over == 1);
     for (size_t n = 0; n < COUNT_OF(rooms); n++)
         CHECK_CASE(rooms[n], tally(log, length, rooms[n], text) == used && memcmp(text, whole, used) == 0);
 
     /* the text's own length and one less; then buffers shorter than a line: no byte, and the walk stays */
-    walk = hb_start();
+    walk = hb_log_start();
     CHECK(lines_checked(&walk, log, length, used, NULL) == used && same_walk(&walk, &last));
-    walk = hb_start();
+    walk = hb_log_start();
     CHECK(lines_checked(&walk, log, length, used - 1, NULL) < used && walk.entry == last.entry - 1);
     for (size_t room = 0; room <= 2 * HB_LINE_MAX; room++) {
-        HbWalk start = hb_start(), short_of = start;
+        HbWalk start = hb_log_start(), short_of = start;
         size_t written = lines_checked(&short_of, log, length, room, NULL);
         CHECK_CASE(room, (written == 0) == (room < 32) && (written != 0 || same_walk(&short_of, &start)));
     }
 
-    /* one walk: by hb_lines, with buffers from none to 200 bytes, and by single steps in turn */
-    walk = hb_start();
+    /* one walk: by hb_log_lines, with buffers from none to 200 bytes, and by single steps in turn */
+    walk = hb_log_start();
     line = 0;
     for (size_t turn = 0; turn < 4 * entries; turn++)
         line += turn % 3 ? lines_checked(&walk, log, length, turn * 7 % 200, text + line)
@@ -2083,7 +2082,7 @@ static void many_lines(void)
     /* a log that grows: what is there of it first, then all of it */
     for (size_t part = 0; part <= 3 * PER_ROUND; part++) {
         uint8_t *begun = exact(log, part);
-        walk = hb_start();
+        walk = hb_log_start();
         line = lines_checked(&walk, begun, part, 4096, text);
         line += lines_checked(&walk, log, length, sizeof text - line, text + line);
         CHECK_CASE(part, line == used && memcmp(text, whole, used) == 0 && same_walk(&walk, &last));
@@ -2097,37 +2096,37 @@ static void walks_by_value(void)
 {
     static const uint8_t log[] = {0x01, 0x24};
     static const char line[] = "4000000000 D 9 1 -2 2147483647 -2147483648 4294967295\n";
-    const HbBook odd = {{{1, -2, INT32_MAX, INT32_MIN}, UINT32_MAX, {6, 0x87, 0, 0xff}, 10, 11, 12, 0, 0xa1b2c3d4,
+    const HbGame odd = {{{1, -2, INT32_MAX, INT32_MIN}, UINT32_MAX, {6, 0x87, 0, 0xff}, 10, 11, 12, 0, 0xa1b2c3d4,
                          {21, 0, 23, 0xfe, 25, 26, 0x80, 28}},
                         {{INT32_MIN, 30, -31, INT32_MAX}, 0xe5f60718, {0, 33, 0xfd, 35}, 36, 37, 38, 39, 0x293a4b5c,
                          {41, 42, 0, 44, 45, 0xff, 47, 48}}, 0x6d7e8f90};
-    const HbWalk before = {odd, 1, 4000000000u}, after = {odd, 2, 4000000001u};
+    const HbWalk before = {odd, 4000000000u, 1}, after = {odd, 4000000001u, 2};
     uint8_t text[HB_LINE_MAX];
-    HbPrinted printed = hb_lines(before, log, 2, text, sizeof text);
+    HbPrinted printed = hb_log_lines(before, log, 2, text, sizeof text);
     CHECK(printed.written == sizeof line - 1 && memcmp(text, line, sizeof line - 1) == 0);
     CHECK(same_walk(&printed.walk, &after));
 
-    HbWalk past = {odd, SIZE_MAX - 5, 14};
-    past.book.game.over = 0xfe;
+    HbWalk past = {odd, 14, SIZE_MAX - 5};
+    past.game.now.over = 0xfe;
     for (size_t at = 2; at < 5; at++) {
         HbWalk walk = past;
         walk.at = at == 4 ? past.at : at;
         memset(text, 0x5a, sizeof text);
-        printed = hb_lines(walk, log, 2, text, sizeof text);
+        printed = hb_log_lines(walk, log, 2, text, sizeof text);
         CHECK_CASE(at, printed.written == 0 && same_walk(&printed.walk, &walk) && text[0] == 0x5a);
     }
 
     /* an entry's number has 32 bits: after the line of the last but one the walk stays */
-    HbWalk high = hb_start();
+    HbWalk high = hb_log_start();
     high.entry = UINT32_MAX - 1;
-    printed = hb_lines(high, log, 2, text, sizeof text);
+    printed = hb_log_lines(high, log, 2, text, sizeof text);
     CHECK(printed.written != 0 && printed.walk.at == 1 && printed.walk.entry == UINT32_MAX);
-    HbPrinted again = hb_lines(printed.walk, log, 2, text, sizeof text);
+    HbPrinted again = hb_log_lines(printed.walk, log, 2, text, sizeof text);
     CHECK(again.written == 0 && same_walk(&again.walk, &printed.walk));
 }
 
 /* A line in buffers of every length up to one past HB_LINE_MAX: written whole, or nothing. */
-static void line_in_buffers(const HbGame *game, uint32_t entry, uint8_t letter, uint8_t refusal, const char *line)
+static void line_in_buffers(const HbPosition *position, uint32_t entry, uint8_t letter, uint8_t refusal, const char *line)
 {
     uint8_t wanted[HB_LINE_MAX + 1], before[HB_LINE_MAX + 1];
     size_t whole = strlen(line);
@@ -2137,21 +2136,21 @@ static void line_in_buffers(const HbGame *game, uint32_t entry, uint8_t letter, 
         memcpy(wanted, before, sizeof wanted);
         if (length >= whole)
             memcpy(wanted, line, whole);
-        CHECK_CASE(length, hb_line(game, buffer, length, entry, letter, refusal) == (length < whole ? 0 : whole));
+        CHECK_CASE(length, hb_log_line(position, entry, letter, refusal, buffer, length) == (length < whole ? 0 : whole));
         CHECK_CASE(length, memcmp(buffer, wanted, length) == 0);
         free(buffer);
     }
 }
 
-/* The shortest line of a game and the longest of any. */
+/* The shortest line of a game's position and the longest of any. */
 static void lines(void)
 {
-    HbGame game = hb_fresh().game;
-    line_in_buffers(&game, 1, HB_LETTER_CHOMBO, 9, "1 C 9 30000 30000 30000 30000 0\n");
+    HbPosition position = hb_fresh_game().now;
+    line_in_buffers(&position, 1, HB_LETTER_CHOMBO, 9, "1 C 9 30000 30000 30000 30000 0\n");
     for (size_t seat = 0; seat < 4; seat++)
-        game.scores[seat] = INT32_MIN;
-    game.sticks = UINT32_MAX, game.over = 0x40, game.declared[1] = 0xff;
-    line_in_buffers(&game, UINT32_MAX, HB_LETTER_WIN, 255,
+        position.scores[seat] = INT32_MIN;
+    position.sticks = UINT32_MAX, position.over = 0x40, position.declared[1] = 0xff;
+    line_in_buffers(&position, UINT32_MAX, HB_LETTER_WIN, 255,
                     "4294967295 W 255 -2147483648 -2147483648 -2147483648 -2147483648 4294967295\n");
 }
 
@@ -2259,7 +2258,7 @@ typedef struct {
     uint8_t dealer, wind, number;
     const uint8_t *discards;
     size_t discarded;
-    HbGame game;
+    HbPosition position;
 } Asked;
 
 static HbSaid ask(const Asked *asked, uint8_t language, uint8_t *buf, size_t length)
@@ -2267,7 +2266,7 @@ static HbSaid ask(const Asked *asked, uint8_t language, uint8_t *buf, size_t len
     switch (asked->what) {
     case SAY_SCORE: return hb_say_score(language, asked->bytes, asked->length, asked->dealer, asked->wind, buf, length);
     case SAY_FU: return hb_say_fu(language, asked->bytes, asked->length, asked->dealer, asked->wind, buf, length);
-    case SAY_SCORES: return hb_say_scores(language, &asked->game, buf, length);
+    case SAY_SCORES: return hb_say_scores(language, &asked->position, buf, length);
     case SAY_REFUSAL: return hb_say_refusal(language, asked->number, buf, length);
     case SAY_WAITS: return hb_say_waits(language, asked->bytes, asked->length, asked->discards, asked->discarded, buf, length);
     default: return hb_say_ready(language, asked->bytes, asked->length, buf, length);
@@ -2322,7 +2321,7 @@ static void is_not_said(int number, const Asked *asked, uint16_t refusal)
     not_said(number, asked, 5, HB_MESSAGE_MAX, HB_REFUSAL_ARGUMENT);
 }
 
-/* A game's scores: each number of the list as a score, below 0 too, and as sticks and counters; names by the dealer; any value of a game. */
+/* The scores of a position: each number of the list as a score, below 0 too, and as sticks and counters; names by the dealer; any value. */
 static void scores_said(void)
 {
     char text[64];
@@ -2330,33 +2329,33 @@ static void scores_said(void)
     for (size_t k = 0; k < COUNT_OF(numerals); k++) {
         uint32_t n = numerals[k].number;
         if (n < 2147483648) {
-            asked.game = (HbGame){.scores = {(int32_t)n, 0, 0, 0}};
+            asked.position = (HbPosition){.scores = {(int32_t)n, 0, 0, 0}};
             sprintf(text, "60 #%u 68 61 0 68 62 0 68 63 0 68", (unsigned)n);
             is_said((int)k, &asked, text);
         }
         if (0 < n && n <= 2147483648) {
-            asked.game = (HbGame){.scores = {0, 0, (int32_t)-(int64_t)n, 0}};
+            asked.position = (HbPosition){.scores = {0, 0, (int32_t)-(int64_t)n, 0}};
             sprintf(text, "60 0 68 61 0 68 62 76 #%u 68 63 0 68", (unsigned)n);
             is_said((int)k, &asked, text);
         }
         if (0 < n) {
-            asked.game = (HbGame){.sticks = n};
+            asked.position = (HbPosition){.sticks = n};
             sprintf(text, "60 0 68 61 0 68 62 0 68 63 0 68 77 #%u", (unsigned)n);
             is_said((int)k, &asked, text);
-            asked.game = (HbGame){.counter = n};
+            asked.position = (HbPosition){.counter = n};
             sprintf(text, "60 0 68 61 0 68 62 0 68 63 0 68 78 #%u", (unsigned)n);
             is_said((int)k, &asked, text);
         }
     }
-    asked.game = hb_fresh().game;
+    asked.position = hb_fresh_game().now;
     is_said(1000, &asked, "60 #30000 68 61 #30000 68 62 #30000 68 63 #30000 68");
-    asked.game = (HbGame){.scores = {29000, 31000, -1300, 0}, .sticks = 1, .counter = 2, .dealer = 3, .wind = 1};
+    asked.position = (HbPosition){.scores = {29000, 31000, -1300, 0}, .sticks = 1, .counter = 2, .dealer = 3, .wind = 1};
     is_said(1001, &asked, "61 #29000 68 62 #31000 68 63 76 #1300 68 60 0 68 77 #1 78 #2");
-    asked.game.dealer = 7, asked.game.over = 0x40, asked.game.wind = 9, asked.game.declared[2] = 0xff;
+    asked.position.dealer = 7, asked.position.over = 0x40, asked.position.wind = 9, asked.position.declared[2] = 0xff;
     is_said(1002, &asked, "61 #29000 68 62 #31000 68 63 76 #1300 68 60 0 68 77 #1 78 #2");
     for (size_t seat = 0; seat < 4; seat++)
-        asked.game.scores[seat] = INT32_MIN;
-    asked.game.sticks = asked.game.counter = UINT32_MAX, asked.game.dealer = 0;
+        asked.position.scores[seat] = INT32_MIN;
+    asked.position.sticks = asked.position.counter = UINT32_MAX, asked.position.dealer = 0;
     is_said(1003, &asked, "60 76 #2147483648 68 61 76 #2147483648 68 62 76 #2147483648 68 63 76 #2147483648 68 77 #4294967295 78 #4294967295");
 }
 
@@ -2449,36 +2448,36 @@ static void unfinished_said(void)
 static void empty_slices(void)
 {
     uint8_t byte = 0x5a;
-    HbBook fresh = hb_fresh(), book = fresh;
+    HbGame fresh = hb_fresh_game(), game = fresh;
     HbReadHand read = hb_read(&byte, 0);
     HbScored scored = hb_score(&byte, 0, 0, 0);
     HbWritten written = hb_write(hb_read(table[0].record, 13).hand, &byte, 0);
     CHECK(read.refusal == HB_REFUSAL_LENGTH && memcmp(&read.hand, &no_hand, sizeof no_hand) == 0);
     CHECK(is_refused(&scored, HB_REFUSAL_LENGTH));
     CHECK(written.refusal == HB_REFUSAL_BUFFER && written.len == 0);
-    CHECK(hb_slip(&byte, 0, &byte, 0, 0, 0) == HB_REFUSAL_LENGTH && hb_slip(&byte, 0, table[0].record, 13, 0, 0) == HB_REFUSAL_PAGE);
+    CHECK(hb_slip(&byte, 0, 0, 0, &byte, 0) == HB_REFUSAL_LENGTH && hb_slip(table[0].record, 13, 0, 0, &byte, 0) == HB_REFUSAL_PAGE);
     CHECK(no_waits(hb_waits(&byte, 0, &byte, 0), HB_REFUSAL_LENGTH));
     CHECK(no_ready(hb_ready(&byte, 0), HB_REFUSAL_LENGTH));
     CHECK(hb_cards(0, 2, &byte, 0).refusal == HB_REFUSAL_CARDS);
     CHECK(hb_judge(&byte, 0, &byte, 0, 0, 0).refusal == HB_REFUSAL_LENGTH);
     CHECK(hb_judge(table[0].record, 13, &byte, 0, 0, 0).refusal == HB_REFUSAL_CLAIM);
-    CHECK(hb_win(&book, &byte, 0) == HB_REFUSAL_LENGTH && memcmp(&book, &fresh, sizeof book) == 0);
-    CHECK(hb_many(&book, 1, &byte, 0) == HB_REFUSAL_LENGTH && hb_many(&book, 0, &byte, 0) == HB_REFUSAL_MANY);
-    CHECK(hb_correct_win(&book, &byte, 0) == HB_REFUSAL_SUPERSEDE && hb_correct_many(&book, 1, &byte, 0) == HB_REFUSAL_SUPERSEDE);
-    CHECK(memcmp(&book, &fresh, sizeof book) == 0);
-    HbBook drawn = fresh, before;
+    CHECK(hb_win(&game, &byte, 0) == HB_REFUSAL_LENGTH && memcmp(&game, &fresh, sizeof game) == 0);
+    CHECK(hb_multi_ron(&game, 1, &byte, 0) == HB_REFUSAL_LENGTH && hb_multi_ron(&game, 0, &byte, 0) == HB_REFUSAL_MULTI_RON);
+    CHECK(hb_correct_win(&game, &byte, 0) == HB_REFUSAL_SUPERSEDE && hb_correct_multi_ron(&game, 1, &byte, 0) == HB_REFUSAL_SUPERSEDE);
+    CHECK(memcmp(&game, &fresh, sizeof game) == 0);
+    HbGame drawn = fresh, before;
     CHECK(hb_draw(&drawn, 0) == 0);
     before = drawn;
-    CHECK(hb_correct_win(&drawn, &byte, 0) == HB_REFUSAL_LENGTH && hb_correct_many(&drawn, 1, &byte, 0) == HB_REFUSAL_LENGTH);
-    CHECK(hb_correct_many(&drawn, 0, &byte, 0) == HB_REFUSAL_MANY && memcmp(&drawn, &before, sizeof drawn) == 0);
-    CHECK(no_entry(hb_next(&byte, 0, 0), 0));
-    CHECK(hb_book(&book, &byte, 0) == HB_REFUSAL_ENTRY && memcmp(&book, &fresh, sizeof book) == 0);
-    HbWalk start = hb_start();
+    CHECK(hb_correct_win(&drawn, &byte, 0) == HB_REFUSAL_LENGTH && hb_correct_multi_ron(&drawn, 1, &byte, 0) == HB_REFUSAL_LENGTH);
+    CHECK(hb_correct_multi_ron(&drawn, 0, &byte, 0) == HB_REFUSAL_MULTI_RON && memcmp(&drawn, &before, sizeof drawn) == 0);
+    CHECK(no_entry(hb_log_next(&byte, 0, 0), 0));
+    CHECK(hb_book_entry(&game, &byte, 0) == HB_REFUSAL_ENTRY && memcmp(&game, &fresh, sizeof game) == 0);
+    HbWalk start = hb_log_start();
     uint8_t entry = 0x01;
-    HbPrinted no_log = hb_lines(start, &entry, 0, &byte, 1), no_buffer = hb_lines(start, &entry, 1, &byte, 0);
+    HbPrinted no_log = hb_log_lines(start, &entry, 0, &byte, 1), no_buffer = hb_log_lines(start, &entry, 1, &byte, 0);
     CHECK(no_log.written == 0 && same_walk(&no_log.walk, &start));
     CHECK(no_buffer.written == 0 && same_walk(&no_buffer.walk, &start));
-    CHECK(hb_line(&book.game, &byte, 0, 1, HB_LETTER_RIICHI, 0) == 0);
+    CHECK(hb_log_line(&game.now, 1, HB_LETTER_RIICHI, 0, &byte, 0) == 0);
     CHECK(hb_say_score(HB_ENGLISH, &byte, 0, 0, 0, &byte, 0).refusal == HB_REFUSAL_LENGTH);
     CHECK(hb_say_fu(HB_ENGLISH, &byte, 0, 0, 0, &byte, 0).refusal == HB_REFUSAL_LENGTH);
     CHECK(hb_say_waits(HB_ENGLISH, &byte, 0, &byte, 0, &byte, 0).refusal == HB_REFUSAL_LENGTH);
@@ -2502,12 +2501,12 @@ int main(void)
     refused_bookings();
     marks();
     counters();
-    fed_wins();
-    refused_feeds();
+    wins_by_pao();
+    refused_paos();
     sticks();
-    sets();
-    refused_sets();
-    fed_sets();
+    multi_rons();
+    refused_multi_rons();
+    multi_rons_by_pao();
     lowest_of_all();
     not_ready();
     ends();
@@ -2516,7 +2515,7 @@ int main(void)
     none_to_supersede();
     refused_corrections();
     corrected_ends();
-    lent_books();
+    lent_games();
     entries();
     correction_entries();
     booked_entries();
@@ -2524,7 +2523,7 @@ int main(void)
     marked_entries();
     starts();
     logs();
-    many_lines();
+    lines_of_a_long_log();
     walks_by_value();
     lines();
     scores_said();

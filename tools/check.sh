@@ -1,12 +1,14 @@
 #!/usr/bin/env bash
-# Pages and header against the tree: check.sh [PAPER..]. Runs claims.py, lines.py (no meaning through a search), promises.py,
-# refusals.py (with the papers, if given), clips.py and layout.py;
-# ends with `pages: all agree` or exits 1. Proves nothing and takes a second.
+# Pages and header against the tree: check.sh [PAPER..]. Runs claims.py, words.py, edits.py (every must-fail edit applies), lines.py (no meaning
+# through a search), promises.py, refusals.py (with the papers, if given), clips.py and layout.py;
+# ends with `pages: all agree` or exits 1. Proves nothing and takes a few seconds.
 tools=$(cd -- "$(dirname -- "${BASH_SOURCE[0]}")" && pwd)
 failed=0
 made=$(mktemp -d)
 trap 'rm -rf -- "$made"' EXIT
 python3 "$tools/claims.py" || failed=1
+python3 "$tools/words.py" || failed=1
+python3 "$tools/edits.py" || failed=1
 python3 "$tools/lines.py" >"$made/lines" || { tail -5 "$made/lines"; failed=1; }
 python3 "$tools/promises.py" || failed=1
 python3 "$tools/refusals.py" "$@" || failed=1

@@ -2,14 +2,14 @@
 """cost.py [--PART ..]: what the calls cost; PART: stack, scores, slips, bookings, waits, ready, cards, judges, messages; by default all of them.
 Instructions are counted (valgrind --tool=callgrind), bytes of stack read off the frames of the archive.
 
-Scores: the program `vectors` (made by `rt check vectors`) on hands of crates/vectors/stdin. A figure is that of one entry: reading
-54 bytes, Score, and comparing. Mean: over the first 10,000 entries. Costliest found: the hands are measured in blocks, and those of the
+Scores: the program `vectors` (made by `rt check vectors`) on hands of crates/vectors/stdin. A figure is that of one vector: reading
+54 bytes, Score, and comparing. Mean: over the first 10,000 vectors. Costliest found: the hands are measured in blocks, and those of the
 three costliest blocks one by one, so a costly hand among cheap ones can be missed.
-Stack: of hb_score, hb_win, hb_many and hb_correct_many the deepest chain of calls in the archive (`rt staticlib handset`), by their frames; the search recurses
+Stack: of hb_score, hb_win, hb_multi_ron and hb_correct_multi_ron the deepest chain of calls in the archive (`rt staticlib handset`), by their frames; the search recurses
 five deep at most.
 Slip: what hb_slip takes beyond hb_score, by a C program over the archive (`rt staticlib handset`). Bookings: what hb_win takes beyond
-hb_score, of a yakuman that was fed too, what hb_many of one to three records takes beyond their Scores, what hb_feed takes and
-what a correction of a draw takes, by another, with the copy of the book. Waits: what hb_waits takes, by another, over hands drawn from a wall, hands of one suit and hands
+hb_score, of a yakuman paid by pao too, what hb_multi_ron of one to three records takes beyond their Scores, what hb_pao takes and
+what a correction of a draw takes, by another, with the copy of the game. Waits: what hb_waits takes, by another, over hands drawn from a wall, hands of one suit and hands
 one tile short of groups, 1,000 each from a fixed seed, and over hands of 3 to 5 neighbouring numbers, the widest searches that a climb
 over hands found. Ready: what hb_ready takes, over 100 of each of those sets, and its stack; what the C library takes is left out.
 Cards: what hb_cards takes, by another; its stack is read off a stack that was painted before the call, the caller's frame included.
@@ -39,7 +39,7 @@ def compiled(d, source):
 
 
 def instructions(hands):
-    """How many instructions a run of `vectors` on these entries takes."""
+    """How many instructions a run of `vectors` on these hands takes."""
     return counted(vectors, stdin=b"".join(hands))[0]
 
 
@@ -49,7 +49,7 @@ int main(int argc, char **argv) {
     uint8_t page[HB_SLIP_LENGTH], record[13];
     for (int i = 0; i < 13; i++) { char two[3] = {argv[3][2 * i], argv[3][2 * i + 1]}; record[i] = strtol(two, 0, 16); }
     for (int n = atoi(argv[1]); n > 0; n--)
-        if (atoi(argv[2]) ? hb_slip(page, sizeof page, record, 13, 0, 0) : hb_score(record, 13, 0, 0).refusal) return argc;
+        if (atoi(argv[2]) ? hb_slip(record, 13, 0, 0, page, sizeof page) : hb_score(record, 13, 0, 0).refusal) return argc;
     return 0;
 }
 """
@@ -101,18 +101,18 @@ int main(int argc, char **argv) {
     uint8_t records[39];
     int length = strlen(argv[3]) / 2;
     for (int i = 0; i < length; i++) { char two[3] = {argv[3][2 * i], argv[3][2 * i + 1]}; records[i] = strtol(two, 0, 16); }
-    HbBook start = hb_fresh();
-    if (argc > 4) hb_feed(&start, 1, 3, 28);
+    HbGame start = hb_fresh_game();
+    if (argc > 4) hb_pao(&start, 1, 3, 28);
     int what = atoi(argv[2]);
     if (what > 3) hb_draw(&start, 0);
     for (int n = atoi(argv[1]); n > 0; n--) {
-        HbBook book = start;
+        HbGame game = start;
         if (what == 0   ? hb_score(records, 13, 0, 0).refusal
-            : what == 1 ? hb_win(&book, records, 13)
-            : what == 2 ? hb_feed(&book, 2, 3, 29)
-            : what == 3 ? hb_many(&book, length / 13, records, length)
-            : what == 4 ? hb_correct_win(&book, records, 13)
-                        : hb_correct_draw(&book, 15)) return 1;
+            : what == 1 ? hb_win(&game, records, 13)
+            : what == 2 ? hb_pao(&game, 2, 3, 29)
+            : what == 3 ? hb_multi_ron(&game, length / 13, records, length)
+            : what == 4 ? hb_correct_win(&game, records, 13)
+                        : hb_correct_draw(&game, 15)) return 1;
     }
     return 0;
 }
@@ -120,20 +120,20 @@ int main(int argc, char **argv) {
 
 
 def bookings():
-    """What booking a win takes beyond its Score, for line 1 of the table of hands and for three dragon triplets that were fed; the same of sets of
-    line 1's hand, won by seats 1, 2 and 0; what a feed takes, and a correction of a draw by line 1's win and by another draw."""
+    """What booking a win takes beyond its Score, for line 1 of the table of hands and for three dragon triplets paid by pao; the same of multiple
+    rons of line 1's hand, won by seats 1, 2 and 0; what a pao takes, and a correction of a draw by line 1's win and by another draw."""
     with tempfile.TemporaryDirectory() as d:
         program = compiled(d, BOOKINGS)
 
         def each(what, *words):
             return (counted(program, 1001, what, *words)[0] - counted(program, 1, what, *words)[0]) // 1000
-        for name, words in (("line 1", ["b81e640210620a31661a9a6bb0"]), ("a yakuman that was fed", ["201684021068a2fbefc10410c2", "fed"])):
+        for name, words in (("line 1", ["b81e640210620a31661a9a6bb0"]), ("a yakuman paid by pao", ["201684021068a2fbefc10410c2", "pao"])):
             print(f"win of {name}: {each(1, *words) - each(0, *words)} instructions beyond its Score")
         won = [first + "1e640210620a31661a9a6bb0" for first in ("b8", "d8", "98")]
         for number in (1, 2, 3):
             scores = sum(each(0, record) for record in won[:number])
-            print(f"set of {number}: {each(3, ''.join(won[:number])) - scores} instructions beyond its Scores, {scores}")
-        print(f"feed: {each(2, '00' * 13)} instructions")
+            print(f"multiple ron of {number}: {each(3, ''.join(won[:number])) - scores} instructions beyond its Scores, {scores}")
+        print(f"pao: {each(2, '00' * 13)} instructions")
         line = "b81e640210620a31661a9a6bb0"
         print(f"correction of a draw: {each(4, line) - each(0, line)} instructions beyond its Score by a win, {each(5, line)} by a draw")
 
@@ -276,16 +276,16 @@ def frames(path):
 
 STACKS = """#include "herbassolh.h"
 int main(int argc, char **argv) {
-    HbBook book = hb_fresh();
-    return hb_score((uint8_t *)argv[0], argc, 0, 0).refusal + hb_win(&book, (uint8_t *)argv[0], argc) + hb_many(&book, 2, (uint8_t *)argv[0], argc)
-        + hb_correct_many(&book, 2, (uint8_t *)argv[0], argc);
+    HbGame game = hb_fresh_game();
+    return hb_score((uint8_t *)argv[0], argc, 0, 0).refusal + hb_win(&game, (uint8_t *)argv[0], argc) + hb_multi_ron(&game, 2, (uint8_t *)argv[0], argc)
+        + hb_correct_multi_ron(&game, 2, (uint8_t *)argv[0], argc);
 }
 """
 
 
 def deepest(name, sizes, calls, above=()):
     """The bytes of the deepest chain of calls from a function, and the chain; the search recurses five deep at most."""
-    if above.count(name) == (5 if name == "search::split" else 1):
+    if above.count(name) == (5 if name == "score_search::split" else 1):
         return 0, []
     size, chain = max((deepest(c, sizes, calls, (*above, name)) for c in calls[name] if c in sizes), default=(0, []))
     return sizes[name] + size, [name] + chain
@@ -301,20 +301,20 @@ def stacks_of(program, names):
 
 
 def stack():
-    """The stack that Score, Win, Many and its correction take."""
+    """The stack that Score, Win, Multiple ron and its correction take."""
     with tempfile.TemporaryDirectory() as d:
-        stacks_of(compiled(d, STACKS), ("hb_score", "hb_win", "hb_many", "hb_correct_many"))
+        stacks_of(compiled(d, STACKS), ("hb_score", "hb_win", "hb_multi_ron", "hb_correct_multi_ron"))
 
 
 def scores():
     """What Score takes: the mean, and the costliest found."""
     data = open(os.path.join(here, "crates/vectors/stdin"), "rb").read()
-    entries = [data[i:i + 54] for i in range(0, len(data), 54)]
+    hands = [data[i:i + 54] for i in range(0, len(data), 54)]
     base = instructions([])
-    first = entries[:10000]
-    print(f"mean over 10,000 mixed entries: {(instructions(first) - base) // 10000} instructions")
+    first = hands[:10000]
+    print(f"mean over 10,000 mixed hands: {(instructions(first) - base) // 10000} instructions")
     print(f"costliest found of them: {worst(first, base, 50):.0f} instructions")
-    suit = [e for e in entries if one_suit(e)]
+    suit = [e for e in hands if one_suit(e)]
     print(f"costliest found of {len(suit)} one-suit hands: {worst(suit, base, 20):.0f} instructions")
 
 
@@ -325,12 +325,12 @@ int main(int argc, char **argv) {
     uint8_t buf[HB_MESSAGE_MAX], b[13];
     int what = atoi(argv[2]), l = atoi(argv[3]), len = strlen(argv[4]) / 2;
     for (int i = 0; i < len; i++) { char two[3] = {argv[4][2 * i], argv[4][2 * i + 1]}; b[i] = strtol(two, 0, 16); }
-    HbGame game = {{-8200, 41300, 52900, 31000}, 3, {0}, 1, 0, 5, 0, 2, {0}};
+    HbPosition position = {{-8200, 41300, 52900, 31000}, 3, {0}, 1, 0, 5, 0, 2, {0}};
     for (int n = atoi(argv[1]); n > 0; n--)
         if (what == 0   ? hb_score(b, len, 0, 0).refusal
             : what == 1 ? hb_say_score(l, b, len, 0, 0, buf, sizeof buf).refusal
             : what == 2 ? hb_say_fu(l, b, len, 0, 0, buf, sizeof buf).refusal
-            : what == 3 ? hb_say_scores(l, &game, buf, sizeof buf).refusal
+            : what == 3 ? hb_say_scores(l, &position, buf, sizeof buf).refusal
             : what == 4 ? hb_say_refusal(l, 7, buf, sizeof buf).refusal
             : what == 5 ? hb_waits(b, len, b, 0).refusal
             : what == 6 ? hb_say_waits(l, b, len, b, 0, buf, sizeof buf).refusal
@@ -354,7 +354,7 @@ def messages():
         for name, what, beyond, data, times in (
                 ("Score of line 1", 1, (0, "Score"), one, 1000), ("Score of line 9", 1, (0, "Score"), nine, 1000),
                 ("Fu of line 1", 2, (0, "Score"), one, 1000), ("Fu of line 9", 2, (0, "Score"), nine, 1000),
-                ("Scores of a game", 3, None, "", 1000), ("Refusal 7", 4, None, "", 1000),
+                ("Scores of a position", 3, None, "", 1000), ("Refusal 7", 4, None, "", 1000),
                 ("Waits of 1112345678999m, nine tiles", 6, (5, "Waits"), gates, 100),
                 ("Ready of 1112345678999m, ready", 8, (7, "Ready"), gates, 10), ("Ready of 11114477m22558p, two away", 8, (7, "Ready"), two_away, 10)):
             base = each(beyond[0], 1, data, times) if beyond else 0

@@ -5,7 +5,8 @@ From the signature of every `pub extern "C"` function it takes the structs that 
 a partner in the header, Hb and its name, with the same fields in the same order. The C file asserts, by the layout that C gives the Rattle
 struct on a target with lengths of 64 bits and on one of 32: the offset and exact type (array length too) of each field, and the size and alignment of each struct; and it declares every exported
 call again from its Rattle signature, so that another type in the header does not compile. A slice is a pointer and a length, `&Struct` a
-pointer. A struct or call in one of the two and not in the other, or a field added, gone or moved, is a fault: a line each, and exit status 1."""
+pointer. A struct or call in one of the two and not in the other, a field added, gone or moved, or a struct with bytes between its members that
+the header does not name for that, is a fault: a line each, and exit status 1."""
 import os
 import re
 import sys
@@ -41,6 +42,7 @@ class Layout:
         self.tree = t
         self.primitive = {**PRIMITIVE, "usize": ("size_t", word)}
         self.structs = {}  # name -> (fields: [(name, C type, array length or None, offset)], size, alignment)
+        self.padded = set()  # those with bytes between members or after the last, their own, not those of a member
         self.calls = {}  # name -> C declaration
         for i in t.items("src"):
             if i.exported:
@@ -78,9 +80,11 @@ class Layout:
                 raise Fault(f"{item.where()}: {line}: no field")
             c, length, size, align = self.type_of(field.group(2), item.file)
             at = -(-end // align) * align
+            self.padded |= {item.name} if at > end else set()
             fields.append((field.group(1), c, length, at))
             end, largest = at + size, max(largest, align)
         self.structs[item.name] = fields, -(-end // largest) * largest, largest
+        self.padded |= {item.name} if end % largest else set()
         return self.structs[item.name]
 
     def argument(self, text, file):
@@ -125,9 +129,16 @@ def header():
     return structs, calls
 
 
-def faults_of(layout):
+def padding():
+    """The structs that the header names for bytes between their members."""
+    text = " ".join(re.sub(r"^ \*", "", line) for line in tree.read(HEADER).split("\n"))
+    said = re.search(r"\(padding\): in ((?:Hb\w+, )*Hb\w+)\.", " ".join(text.split()))
+    return set(said.group(1).split(", ")) if said else set()
+
+
+def faults_of(layouts):
     structs, calls = header()
-    said = []
+    layout, said = layouts[8], []
     for name, (fields, _, _) in layout.structs.items():
         here, there = [f[0] for f in fields], structs.get("Hb" + name)
         if there is None:
@@ -137,6 +148,9 @@ def faults_of(layout):
     said += [f"include/herbassolh.h: {n}: no such struct is given to C" for n in structs if n[2:] not in layout.structs]
     said += [f"include/herbassolh.h: no {declaration}" for n, declaration in layout.calls.items() if n not in calls]
     said += [f"include/herbassolh.h: {n}: no such exported call" for n in sorted(calls - set(layout.calls))]
+    padded = {"Hb" + name for one in layouts.values() for name in one.padded}
+    if padded != padding():
+        said.append(f"include/herbassolh.h: bytes between members are in {', '.join(sorted(padded))}; it names {', '.join(sorted(padding())) or 'none'}")
     return said
 
 
@@ -168,7 +182,7 @@ def main():
         layouts = {word: Layout(t, word) for word in (8, 4)}
     except Fault as fault:
         sys.exit(f"{fault}")
-    faults = faults_of(layouts[8])
+    faults = faults_of(layouts)
     if faults:
         sys.exit("\n".join(faults))
     print("\n".join(c_file(layouts)))

@@ -3,9 +3,9 @@
 
 - the page: each call's row lists the numbers that name it under "given by" ("none" where none does), and the reverse; numbers ascend;
 - include/herbassolh.h: the names and numbers of HB_REFUSAL_*, with the paper's words as comment; each call has a row, and the comment before
-  it gives its refusals in the row's order ("refusals 8, 1 to 7 in order"), or none; where the row ends with "then its booking's", those of
-  each booking too, in the order of the booking's row (without those that no entry meets: of a win 1, of a many 1 and its first 17, ..), and of
-  a correction 9 and 20, which are first in the row of each correction, before those of the booking that it carries;
+  it gives its refusals in the row's order ("refusals 8, 1 to 7 in order"), or none; where the row ends with "then the entry's", those of
+  each booking too, in the order of the booking's row (without those that no entry meets: of a win 1, of a multiple ron 1 and its first 17, ..),
+  and of a correction 9 and 20, which are first in the row of each correction, before those of the result that it carries;
 - docs/RECORDS.md names the page and has no table of refusals of its own; docs/*.md and README.md name no number that the page lacks;
 - the tester's tool: a Rust function `refusal` that gives words for numbers (N => "words") has those of the column "in the tool";
 - with the papers' files as arguments: each quotation is in one of them, word for word."""
@@ -18,10 +18,10 @@ import tree
 
 PAGE = "docs/REFUSALS.md"
 HEADER = "include/herbassolh.h"
-BOOKINGS = ("Riichi", "Win", "Draw", "Chombo", "Many", "Feed")
-LEFT_OUT = [("Win", 1), ("Draw", 8), ("Many", 1), ("Feed", 8)]  # of an entry's booking
-CARRIED = ("Win", "Draw", "Chombo", "Many")  # by a correction
-CORRECTION = [9, 20]  # its refusals before those of the booking that it carries
+BOOKINGS = ("Riichi", "Win", "Draw", "Chombo", "Multiple ron", "Pao")
+LEFT_OUT = [("Win", 1), ("Draw", 8), ("Multiple ron", 1), ("Pao", 8)]  # of an entry's booking
+RESULTS = ("Win", "Draw", "Chombo", "Multiple ron")  # that a correction carries
+CORRECTION = [9, 20]  # its refusals before those of the result that it carries
 
 
 def plain(text):
@@ -52,15 +52,15 @@ def check_page(calls, refusals):
         yield f"{PAGE}: numbers {list(refusals)}"
     for call, (_, order, _) in calls.items():
         yield from (f"{PAGE}: {call} gives {n}, which has no row" for n in order if n not in refusals)
-    for booking in CARRIED:
-        here, wanted = calls[f"Correct {booking.lower()}"][1], CORRECTION + calls[booking][1]
+    for result in RESULTS:
+        here, wanted = calls[f"Correct {result.lower()}"][1], CORRECTION + calls[result][1]
         if here != wanted:
-            yield f"{PAGE}: Correct {booking.lower()} gives {here}; by the row of {booking} it is {wanted}"
+            yield f"{PAGE}: Correct {result.lower()} gives {here}; by the row of {result} it is {wanted}"
 
 
 def check_entry(comment, call, calls):
     """The comment of a call that books an entry: its own refusals, and those of each booking ("of an entry: 14; of a riichi 8, 9, 10, 21, a win ...")."""
-    said = {kind: numbers(order) for kind, order in re.findall(r"\ban? (\w+):? (\d[\d, to]*)", plain(comment))}
+    said = {kind: numbers(order) for kind, order in re.findall(r"\ban? ([a-z]+(?: ron)?):? (\d[\d, to]*)", plain(comment))}
     wanted = {"entry": next(order for name, order, _ in calls.values() if name == call)}
     for booking in BOOKINGS:
         order = calls[booking][1]  # the first of a number that is there twice is about an argument that fits in an entry
@@ -133,7 +133,7 @@ def check_quotations(refusals, papers):
 
 def main():
     first, second = tables()
-    calls = {call: (name.strip("`"), numbers(order), order.endswith("then its booking's")) for call, name, order in first}
+    calls = {call: (name.strip("`"), numbers(order), order.endswith("then the entry's")) for call, name, order in first}
     refusals = {int(r[0]): {"name": r[1].strip("`"), "given by": r[2].split(", "), "words": r[3], "tool": r[5]} for r in second}
     tools = []
     faults = [*check_page(calls, refusals), *check_header(calls, refusals), *check_papers(refusals), *check_tools(refusals, tools)]

@@ -1,4 +1,4 @@
-//! Counts of what the generated entries cover.
+//! Counts of what generated hands and logs cover.
 
 /// One counted property: its labels, each with its count; `needed` asks for the floor on each,
 /// `brief` prints only the least and the most.

@@ -3,7 +3,7 @@
 use crate::codec::length;
 use crate::rng::Rng;
 
-/// The greatest length of a record in an entry.
+/// The greatest length of a record in a vector.
 pub const LONGEST: usize = 16;
 
 /// Random bytes of a given length.

@@ -1,128 +1,44 @@
-//! The entries of the generated file: a record, dealer and wind, and what they score.
+//! What a list or a log has one after the other: bookings and corrections (01, The game; Log; 02, S-6, S-8 and S-10).
 
-use crate::damage::{damaged, noise};
-use crate::deal::{deal, drawn, near, themed};
-use crate::fault::{self, FAULTS};
-use crate::codec::pack;
-use crate::record::Hand;
-use crate::rng::Rng;
-use crate::score::{best, score, valued, Scored, Valued};
-use crate::themes::{runs::dense, THEMES};
+use crate::pao::WINDS;
 
-#[derive(Clone, Debug)]
-pub struct Entry {
-    pub record: Vec<u8>,
-    pub dealer: u8,
-    pub wind: u8,
-    pub scored: Scored,
+/// One of the six bookings with its arguments, or a correction.
+#[derive(Clone, Debug, PartialEq, Eq)]
+pub enum Entry {
+    Riichi(u8),
+    Win(Vec<u8>),
+    Draw(u8),
+    Chombo(u8),
+    /// A multiple ron: so many rons on one tile, their records end to end (02, S-6).
+    MultiRon { number: u8, records: Vec<u8> },
+    /// The feeder of a holder's yaku (02, S-8).
+    Pao { holder: u8, feeder: u8, yaku: u8 },
+    /// A correction: the result that it carries, a win, draw, chombo or multiple ron, supersedes the last finished booking (02, S-10).
+    Correction(Box<Entry>),
 }
-
-/// The length of an entry.
-pub const LENGTH: usize = 54;
 
 impl Entry {
-    /// The bytes of an entry, as crates/vectors/src/main.rt says.
-    pub fn bytes(&self) -> [u8; LENGTH] {
-        let mut bytes = [0; LENGTH];
-        let scored = &self.scored;
-        bytes[0] = self.record.len() as u8;
-        bytes[1..1 + self.record.len()].copy_from_slice(&self.record);
-        bytes[17] = self.dealer;
-        bytes[18] = self.wind;
-        bytes[19] = scored.refusal;
-        bytes[20] = scored.h;
-        bytes[21] = scored.fu;
-        for n in (0..40).filter(|n| scored.yaku >> n & 1 == 1) {
-            bytes[22 + n / 8] |= 1 << (n % 8);
-        }
-        bytes[27] = scored.tried as u8;
-        for (seat, change) in scored.changes.iter().enumerate() {
-            bytes[28 + 4 * seat..32 + 4 * seat].copy_from_slice(&change.to_le_bytes());
-        }
-        bytes[44..].copy_from_slice(&scored.items.list());
-        bytes
+    /// A correction that carries this result (02, S-10).
+    pub fn as_correction(self) -> Entry {
+        Entry::Correction(Box::new(self))
     }
-}
 
-/// A sound hand of the theme of this turn.
-fn in_turn(rng: &mut Rng, index: usize) -> Hand {
-    loop {
-        let plan = THEMES[index % THEMES.len()](rng);
-        if let Some(hand) = deal(rng, &plan) {
-            return hand;
+    /// Whether it finishes a hand, if accepted (01, The game; 02, S-6, S-8 and S-10).
+    pub fn finishes(&self) -> bool {
+        !matches!(self, Entry::Riichi(_) | Entry::Pao { .. })
+    }
+
+    /// Its bytes in a log: header, and the record of a win, those of a multiple ron, the byte of a pao, or the entry that a correction
+    /// carries; an argument that does not fit has none (01, Log; 02, S-6, S-8 and S-10).
+    pub fn bytes(&self) -> Vec<u8> {
+        match self {
+            Entry::Riichi(seat) => vec![seat & 15],
+            Entry::Win(record) => [&[0x10], record.as_slice()].concat(),
+            Entry::Draw(bits) => vec![0x20 | bits & 15],
+            Entry::Chombo(seat) => vec![0x30 | seat & 15],
+            Entry::MultiRon { number, records } => [&[0x40 | number & 15], records.as_slice()].concat(),
+            Entry::Pao { holder, feeder, yaku } => vec![0x50, holder << 6 | (feeder & 3) << 4 | ((*yaku == WINDS) as u8) << 3],
+            Entry::Correction(new) => [&[0x60], new.bytes().as_slice()].concat(),
         }
     }
-}
-
-/// The gain, h and fu of a reading, if it has a yaku.
-fn rank(valued: &Valued) -> Option<(i32, u8, u8)> {
-    valued.1.map(|value| (value.gain, value.h, value.fu))
-}
-
-/// Whether a reading ties with the reported one in gain, h and fu but has another yaku set.
-pub fn has_tie(all: &[Valued]) -> bool {
-    let Some(at) = best(all) else { return false };
-    let yaku = |one: &Valued| one.1.map(|value| value.yaku);
-    all.iter().any(|one| rank(one) == rank(&all[at]) && yaku(one) != yaku(&all[at]))
-}
-
-/// Whether the first reading with a yaku is worse than the reported one.
-pub fn first_is_not_best(all: &[Valued]) -> bool {
-    let first = all.iter().find_map(rank);
-    best(all).is_some_and(|at| rank(&all[at]) != first)
-}
-
-/// Whether the reported reading beats one of equal gain by h, and one of equal gain and h by fu.
-pub fn decided_by(all: &[Valued]) -> (bool, bool) {
-    let Some((gain, h, fu)) = best(all).and_then(|at| rank(&all[at])) else {
-        return (false, false);
-    };
-    let ranks = || all.iter().filter_map(rank);
-    let by_h = ranks().any(|one| one.0 == gain && one.1 < h);
-    let by_fu = ranks().any(|one| one.0 == gain && one.1 == h && one.2 < fu);
-    (by_h, by_fu)
-}
-
-/// A dense hand that passes a test; the last one tried if none does.
-fn sought(rng: &mut Rng, dealer: u8, wind: u8, test: fn(&[Valued]) -> bool) -> Hand {
-    let mut last = themed(rng);
-    for _ in 0..400 {
-        let plan = dense(rng);
-        let Some(hand) = deal(rng, &plan) else { continue };
-        if test(&valued(&hand, dealer, wind)) {
-            return hand;
-        }
-        last = hand;
-    }
-    last
-}
-
-/// A seat or wind number: mostly up to `high`, seldom above.
-fn number(rng: &mut Rng, high: u8) -> u8 {
-    match rng.below(200) {
-        0 => high + 1,
-        1 => rng.within(high + 1, 255),
-        _ => rng.within(0, high),
-    }
-}
-
-/// The entry of this index; the same generator state gives the same entry.
-pub fn make(rng: &mut Rng, index: usize) -> Entry {
-    let (dealer, wind) = (number(rng, 3), number(rng, 1));
-    let (low_dealer, low_wind) = (dealer % 4, wind % 2);
-    let record = match rng.below(100) {
-        0..=61 => pack(&in_turn(rng, index)),
-        62 => pack(&sought(rng, low_dealer, low_wind, has_tie)),
-        63..=65 => pack(&sought(rng, low_dealer, low_wind, first_is_not_best)),
-        66..=70 => pack(&near(rng)),
-        71..=72 => pack(&drawn(rng)),
-        73..=87 => fault::record(rng, index % FAULTS),
-        88..=95 => {
-            let hand = themed(rng);
-            damaged(rng, pack(&hand))
-        }
-        _ => noise(rng),
-    };
-    let scored = score(&record, dealer, wind);
-    Entry { record, dealer, wind, scored }
 }

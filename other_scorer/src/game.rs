@@ -1,309 +1,106 @@
-//! The game and its six bookings (01, The game; 02, S-5 to S-8 and S-11).
+//! The game: the bookings left standing, with the position after each of them, so that the last result can be put right (02, S-10). A
+//! correction takes the last booking off and books its own result in the position below.
 
-use crate::booking::Booking;
-use crate::codec::{pack, read};
-use crate::fed::{self, DRAGONS, WINDS};
-use crate::record::{Hand, RON};
-use crate::score::{score, Scored};
-use crate::set;
+use std::rc::Rc;
 
-/// No score of an open game is under this (02, S-6).
-pub const FLOOR: i32 = -28_540_000;
+use crate::entry::Entry;
+use crate::position::{book, Position};
 
-/// The game is over at so many finished hands (01, The game).
-pub const LAST_HAND: u8 = 200;
+/// Bookings left standing, each with the position after it, the last one first; copies of a game share them.
+#[derive(Clone, Debug, Default, PartialEq, Eq)]
+struct Standing(Option<Rc<(Entry, Position, Standing)>>);
 
-const TOTAL: i64 = 120_000;
-const STICK: i64 = 1000;
-
-#[derive(Clone, Copy, Debug, PartialEq, Eq)]
+#[derive(Clone, Debug, PartialEq, Eq)]
 pub struct Game {
-    pub scores: [i32; 4],
-    pub sticks: u32,
-    pub declared: [bool; 4],
-    pub dealer: u8,
-    pub wind: u8,
-    pub hands: u8,
-    pub over: bool,
-    pub counter: u32,
-    /// 1 + the seat that feeds a holder, 0 for none: place 0 + holder for the dragons, 4 + holder for the winds (02, S-8).
-    pub feeders: [u8; 8],
+    /// The position before the list, and, where a result led to it that may be put right, the position before that one.
+    start: Position,
+    before: Option<Position>,
+    standing: Standing,
 }
 
 impl Game {
     /// A game at its start (01, The game).
     pub fn fresh() -> Game {
-        let (sticks, declared) = (0, [false; 4]);
-        Game { scores: [30_000; 4], sticks, declared, dealer: 0, wind: 0, hands: 0, over: false, counter: 0, feeders: [0; 8] }
+        Game::lent(Position::fresh(), None)
     }
 
-    /// The number of declared seats (01, The game).
-    fn declarations(&self) -> u32 {
-        self.declared.iter().filter(|&&seat| seat).count() as u32
+    /// A game with any position, and an earlier one, any too, where the last result was booked in it (02, S-10).
+    pub fn lent(position: Position, earlier: Option<Position>) -> Game {
+        Game { start: position, before: earlier, standing: Standing::default() }
     }
 
-    /// Scores plus 1,000 times sticks (01, The game).
-    pub fn total(&self) -> i64 {
-        self.scores.iter().map(|&score| score as i64).sum::<i64>() + STICK * self.sticks as i64
+    /// The position that stands.
+    pub fn now(&self) -> &Position {
+        self.standing.0.as_ref().map_or(&self.start, |last| &last.1)
     }
 
-    /// The seat that is named as the feeder of a holder's yaku, none if there is none (02, S-8).
-    pub fn feeder(&self, holder: u8, yaku: u8) -> Option<u8> {
-        self.feeders[place(holder, yaku)].checked_sub(1)
+    /// The last accepted booking, none before the first.
+    pub fn last(&self) -> Option<&Entry> {
+        self.standing.0.as_ref().map(|last| &last.0)
     }
 
-    /// Each way to be out of form (01, The game, refusal 9; 02, S-5 and S-8).
-    pub fn form_faults(&self) -> [bool; 8] {
-        [
-            self.dealer > 3,
-            self.wind > 1,
-            self.hands > LAST_HAND,
-            self.sticks < self.declarations(),
-            self.scores.iter().any(|&score| score < FLOOR),
-            self.total() != TOTAL,
-            self.counter > self.hands as u32,
-            (0..8).any(|place| self.feeder(place % 4, DRAGONS + place / 4).is_some_and(|seat| seat > 3 || seat == place % 4)),
-        ]
+    /// The game without the last finished booking, none where there is none to supersede: another booking has been accepted since (02,
+    /// S-10).
+    fn without_last(&self) -> Option<Game> {
+        match &self.standing.0 {
+            Some(last) => last.0.finishes().then(|| Game { standing: last.2.clone(), ..*self }),
+            None => self.before.map(|earlier| Game::lent(earlier, None)),
+        }
     }
 
-    /// Not out of form, over or not (01, The game, refusal 9).
+    /// The position in which the last finished booking was made, none where there is none to supersede (02, S-10).
+    pub fn earlier(&self) -> Option<Position> {
+        self.without_last().map(|game| *game.now())
+    }
+
+    /// Whether its position is in form, and the earlier one that is kept (02, S-10).
     pub fn is_in_form(&self) -> bool {
-        !self.form_faults().contains(&true)
+        self.now().is_in_form() && self.earlier().is_none_or(|earlier| earlier.is_in_form())
     }
 
-    /// Neither over nor out of form (01, The game, refusal 9).
-    pub fn is_open(&self) -> bool {
-        !self.over && self.hands != LAST_HAND && self.is_in_form()
-    }
-
-    /// Whether a seat has the points of a stick; 1,000 exactly is enough (02, S-11).
-    pub fn affords_riichi(&self, seat: u8) -> bool {
-        self.scores[seat as usize] as i64 >= STICK
-    }
-
-    /// Gives a seat points, or takes them; in an open game sums stay under 115 million.
-    fn pay(&mut self, seat: usize, points: i64) {
-        let score = self.scores[seat] as i64 + points;
-        self.scores[seat] = i32::try_from(score).expect("points of an open game");
-    }
-
-    /// Passes the deal; after South's seat 3 dealer and wind stay (01, The game).
-    fn pass(&mut self) {
-        match (self.dealer, self.wind) {
-            (3, 0) => (self.dealer, self.wind) = (0, 1),
-            (3, _) => self.over = true,
-            _ => self.dealer += 1,
+    /// Books an entry; gives the refusal, 0 if accepted (01, The game; 02, S-6, S-8 and S-10).
+    pub fn book(&mut self, entry: &Entry) -> u8 {
+        if let Entry::Correction(new) = entry {
+            return self.correct(new);
         }
-    }
-
-    /// The declared seats that a draw's bits say are not ready (02, S-7).
-    pub fn unready(&self, bits: u8) -> Vec<usize> {
-        (0..4).filter(|&seat| self.declared[seat] && !is_ready(bits, seat)).collect()
-    }
-
-    /// Has each of some seats pay 3,000 to every other, gives this hand's sticks back and finishes it (01, Chombo; 02, S-7).
-    fn penalise(&mut self, seats: &[usize]) {
-        for &seat in seats {
-            for other in (0..4).filter(|&other| other != seat) {
-                self.pay(seat, -3000);
-                self.pay(other, 3000);
-            }
+        // A game out of form is refused like one that is over.
+        let mut position = Position { over: self.now().over || !self.is_in_form(), ..*self.now() };
+        let number = book(&mut position, entry);
+        if number == 0 {
+            self.standing = Standing(Some(Rc::new((entry.clone(), position, self.standing.clone()))));
         }
-        for owner in (0..4).filter(|&owner| self.declared[owner]).collect::<Vec<_>>() {
-            self.pay(owner, STICK);
-            self.sticks -= 1;
+        number
+    }
+
+    /// Books a result in place of the last finished booking, which stands where the new one is refused (02, S-10).
+    fn correct(&mut self, new: &Entry) -> u8 {
+        if !self.is_in_form() {
+            return 9;
         }
-        self.finish(false);
-    }
-
-    /// Finishes a hand, clears declarations and lets feeders lapse (01, The game; 02, S-8).
-    fn finish(&mut self, passes: bool) {
-        self.declared = [false; 4];
-        self.feeders = [0; 8];
-        self.hands += 1;
-        if passes {
-            self.pass();
+        let Some(mut game) = self.without_last() else { return 20 };
+        let number = game.book(new);
+        if number == 0 {
+            *self = game;
         }
-        if self.hands == LAST_HAND {
-            self.over = true;
+        number
+    }
+
+    /// The bookings left standing since the start, the first one first.
+    pub fn standing(&self) -> Vec<&Entry> {
+        let mut list: Vec<&Entry> = Vec::new();
+        let mut rest = &self.standing;
+        while let Some(last) = &rest.0 {
+            list.push(&last.0);
+            rest = &last.2;
         }
+        list.reverse();
+        list
     }
-}
 
-/// Where the feeder of a holder's yaku stands (02, S-8).
-fn place(holder: u8, yaku: u8) -> usize {
-    holder as usize + if yaku == DRAGONS { 0 } else { 4 }
-}
-
-/// Whether a seat is ready: four bits, seat 0 first (01, Draw).
-pub fn is_ready(bits: u8, seat: usize) -> bool {
-    bits >> (3 - seat) & 1 == 1
-}
-
-/// Books riichi; gives the refusal, 0 if accepted (01, Riichi; 02, S-11).
-pub fn riichi(game: &mut Game, seat: u8) -> u8 {
-    if seat > 3 {
-        return 8;
-    }
-    if !game.is_open() {
-        return 9;
-    }
-    if game.declared[seat as usize] {
-        return 10;
-    }
-    if !game.affords_riichi(seat) {
-        return 21;
-    }
-    game.pay(seat as usize, -STICK);
-    game.sticks += 1;
-    game.declared[seat as usize] = true;
-    0
-}
-
-/// Who feeds the yaku that a win is reported with, none if nobody is named (02, S-8).
-pub fn liable(game: &Game, hand: &Hand) -> Option<u8> {
-    game.feeder(hand.winner, fed::yaku(hand, game.dealer, game.wind)?)
-}
-
-/// What each payer pays for a win: Score's payments, and for the counters 300 by ron or 100 each on tsumo; of a win that was fed
-/// the feeder all on tsumo, and half by ron, the discarder half and the counters (01, Win; 02, S-5 and S-8).
-fn payments(game: &Game, hand: &Hand, scored: &Scored, counter: u32) -> Vec<(u8, i64)> {
-    let gain = scored.changes[hand.winner as usize] as i64;
-    let counter = counter as i64;
-    match (hand.how == RON, liable(game, hand)) {
-        (true, None) => vec![(hand.discarder, gain + 300 * counter)],
-        (true, Some(feeder)) => vec![(feeder, gain / 2), (hand.discarder, gain / 2 + 300 * counter)],
-        (false, Some(feeder)) => vec![(feeder, gain + 300 * counter)],
-        (false, None) => {
-            let others = (0..4).filter(|&seat| seat != hand.winner);
-            others.map(|seat| (seat, -scored.changes[seat as usize] as i64 + 100 * counter)).collect()
-        }
-    }
-}
-
-/// The score of a hand as a win in the game; the error is refusal 6, 7 or 11 (01, Win).
-fn scored(game: &Game, hand: &Hand) -> Result<Scored, u8> {
-    let scored = score(&pack(hand), game.dealer, game.wind);
-    match scored.refusal {
-        0 if (hand.riichi != 0) != game.declared[hand.winner as usize] => Err(11),
-        0 => Ok(scored),
-        number => Err(number),
-    }
-}
-
-/// Books wins of hands on one tile, the sticks and counters for one of the winners; gives the first refusal, 0 if accepted (01, Win;
-/// 02, S-5, S-6 and S-8).
-fn wins(game: &mut Game, hands: &[Hand], first: u8) -> u8 {
-    let mut paid = Vec::new();
-    for hand in hands {
-        let counter = if hand.winner == first { game.counter } else { 0 };
-        match scored(game, hand) {
-            Ok(scored) => paid.extend(payments(game, hand, &scored, counter).into_iter().map(|(payer, points)| (payer, hand.winner, points))),
-            Err(number) => return number,
-        }
-    }
-    for (payer, winner, points) in paid {
-        game.pay(payer as usize, -points);
-        game.pay(winner as usize, points);
-    }
-    game.pay(first as usize, STICK * game.sticks as i64);
-    game.sticks = 0;
-    let stays = hands.iter().any(|hand| hand.winner == game.dealer);
-    game.counter = if stays { game.counter + 1 } else { 0 };
-    game.finish(!stays);
-    0
-}
-
-/// Books a win; gives the refusal, 0 if accepted (01, Win; 02, S-5 and S-8).
-pub fn win(game: &mut Game, record: &[u8]) -> u8 {
-    if !game.is_open() {
-        return 9;
-    }
-    match read(record) {
-        Ok(hand) => wins(game, &[hand], hand.winner),
-        Err(number) => number,
-    }
-}
-
-/// Books one to three rons on one tile, all or none; gives the refusal, 0 if accepted (02, S-6).
-pub fn many(game: &mut Game, number: u8, records: &[u8]) -> u8 {
-    if !game.is_open() {
-        return 9;
-    }
-    if number == 0 || number > 3 {
-        return 17;
-    }
-    match set::hands(number, records) {
-        Err(number) => number,
-        Ok(hands) if set::faults(&hands).contains(&true) => 17,
-        Ok(hands) => wins(game, &hands, set::first_winner(&hands)),
-    }
-}
-
-/// Books a draw, or a chombo of the declared seats that are not ready; gives the refusal, 0 if accepted (01, Draw; 02, S-7).
-pub fn draw(game: &mut Game, bits: u8) -> u8 {
-    if bits > 15 {
-        return 8;
-    }
-    if !game.is_open() {
-        return 9;
-    }
-    let unready = game.unready(bits);
-    if !unready.is_empty() {
-        game.penalise(&unready);
-        return 0;
-    }
-    let (gain, cost) = match bits.count_ones() {
-        1 => (3000, 1000),
-        2 => (1500, 1500),
-        3 => (1000, 3000),
-        _ => (0, 0),
-    };
-    for seat in 0..4 {
-        game.pay(seat, if is_ready(bits, seat) { gain } else { -cost });
-    }
-    game.counter += 1;
-    game.finish(!is_ready(bits, game.dealer as usize));
-    0
-}
-
-/// Books a chombo; gives the refusal, 0 if accepted (01, Chombo).
-pub fn chombo(game: &mut Game, seat: u8) -> u8 {
-    if seat > 3 {
-        return 8;
-    }
-    if !game.is_open() {
-        return 9;
-    }
-    game.penalise(&[seat as usize]);
-    0
-}
-
-/// Books who fed whom with which yaku; gives the refusal, 0 if accepted (02, S-8).
-pub fn feed(game: &mut Game, holder: u8, feeder: u8, yaku: u8) -> u8 {
-    if holder > 3 || feeder > 3 {
-        return 8;
-    }
-    if !game.is_open() {
-        return 9;
-    }
-    if holder == feeder || ![DRAGONS, WINDS].contains(&yaku) || game.feeder(holder, yaku).is_some() {
-        return 18;
-    }
-    game.feeders[place(holder, yaku)] = feeder + 1;
-    0
-}
-
-/// Books any of the six; a game alone has no result to supersede, so a correction is refused (01, The game; 02, S-6, S-8 and S-10).
-pub fn book(game: &mut Game, booking: &Booking) -> u8 {
-    match booking {
-        Booking::Riichi(seat) => riichi(game, *seat),
-        Booking::Win(record) => win(game, record),
-        Booking::Draw(bits) => draw(game, *bits),
-        Booking::Chombo(seat) => chombo(game, *seat),
-        Booking::Many { number, records } => many(game, *number, records),
-        Booking::Feed { holder, feeder, yaku } => feed(game, *holder, *feeder, *yaku),
-        Booking::Correction(_) if !game.is_in_form() => 9,
-        Booking::Correction(_) => 20,
+    /// The position that the bookings left standing give, made again one after the other; none if one of them is refused then (02, S-10:
+    /// "The scores found after a list are those of the bookings left standing").
+    pub fn replayed(&self) -> Option<Position> {
+        let mut position = self.start;
+        self.standing().into_iter().all(|entry| book(&mut position, entry) == 0).then_some(position)
     }
 }

@@ -1,10 +1,10 @@
 //! Walking a log and the lines of program tally (01, Log; 02, S-6, S-8, S-10 and S-11).
 
-use other_scorer::booking::Booking;
 use other_scorer::codec::pack;
 use other_scorer::deal::themed;
+use other_scorer::entry::Entry;
 use other_scorer::example::{example, survey::survey, End};
-use other_scorer::log::{bookings, next, tally_lines, Next, CORRECTION, FEED, LONGEST, MANY, WIN};
+use other_scorer::log::{entries, next, tally_lines, Next, CORRECTION, LONGEST, MULTI_RON, PAO, WIN};
 use other_scorer::rng::Rng;
 use other_scorer::{Hand, Ledger};
 
@@ -36,16 +36,16 @@ fn wins_of_every_length_and_every_cut() {
     while seen.contains(&false) {
         let hand = themed(&mut rng);
         seen[hand.m as usize] = true;
-        let entry = Booking::Win(pack(&hand)).bytes();
-        let log = [&[0x00], entry.as_slice(), &[0x30]].concat();
-        let whole = Next::Entry { kind: WIN, argument: 0, part: &entry };
+        let part = Entry::Win(pack(&hand)).bytes();
+        let log = [&[0x00], part.as_slice(), &[0x30]].concat();
+        let whole = Next::Entry { kind: WIN, argument: 0, part: &part };
         assert_eq!(next(&log, 1), whole);
-        assert_eq!(bookings(&log).0[1], Booking::Win(pack(&hand)));
-        for end in 2..entry.len() + 1 {
+        assert_eq!(entries(&log).0[1], Entry::Win(pack(&hand)));
+        for end in 2..part.len() + 1 {
             assert_eq!(next(&log[..end], 1), Next::Bad(14));
             assert_eq!(tally_lines(&log[..end]).lines().count(), 1);
         }
-        assert_eq!(next(&log[..entry.len() + 1], 1), whole);
+        assert_eq!(next(&log[..part.len() + 1], 1), whole);
     }
 }
 
@@ -54,8 +54,8 @@ fn bad_headers_and_melds() {
     for header in 0..=255u8 {
         let mut log = [0; 40];
         log[0] = header;
-        let set = header >> 4 == 4 && ![1, 2, 3].contains(&(header & 15));
-        let bad = header >> 4 > 5 || set || [1, 5].contains(&(header >> 4)) && header & 15 != 0; // a correction of a riichi is bad
+        let wrong_number = header >> 4 == 4 && ![1, 2, 3].contains(&(header & 15));
+        let bad = header >> 4 > 5 || wrong_number || [1, 5].contains(&(header >> 4)) && header & 15 != 0; // a correction of a riichi is bad
         assert_eq!(next(&log, 0) == Next::Bad(14), bad, "{header:02x}");
     }
     for m in 0..8u8 {
@@ -72,26 +72,26 @@ fn bad_headers_and_melds() {
 }
 
 #[test]
-fn sets_of_every_length_and_every_cut() {
+fn multiple_rons_of_every_length_and_every_cut() {
     let mut rng = Rng::new(42);
     for number in 1..=3u8 {
         for _ in 0..60 {
             let hands: Vec<Hand> = (0..number).map(|_| themed(&mut rng)).collect();
             let records: Vec<u8> = hands.iter().flat_map(pack).collect();
-            let booking = Booking::Many { number, records };
-            let entry = booking.bytes();
-            assert_eq!(entry.len(), 1 + hands.iter().map(|hand| [13, 12, 11, 10, 8][hand.m as usize]).sum::<usize>());
-            let log = [&[0x00], entry.as_slice(), &[0x30]].concat();
-            assert_eq!(next(&log, 1), Next::Entry { kind: MANY, argument: number, part: &entry });
-            assert_eq!(bookings(&log).0[1], booking);
-            for end in 2..entry.len() + 1 {
+            let entry = Entry::MultiRon { number, records };
+            let part = entry.bytes();
+            assert_eq!(part.len(), 1 + hands.iter().map(|hand| [13, 12, 11, 10, 8][hand.m as usize]).sum::<usize>());
+            let log = [&[0x00], part.as_slice(), &[0x30]].concat();
+            assert_eq!(next(&log, 1), Next::Entry { kind: MULTI_RON, argument: number, part: &part });
+            assert_eq!(entries(&log).0[1], entry);
+            for end in 2..part.len() + 1 {
                 assert_eq!(next(&log[..end], 1), Next::Bad(14));
             }
             // The m of each record over 4.
             let mut at = 1;
             for hand in &hands {
                 for m in 5..8u8 {
-                    let mut bad = entry.clone();
+                    let mut bad = part.clone();
                     bad[at + 2] = bad[at + 2] & !3 | m >> 1;
                     bad[at + 3] = bad[at + 3] & 0x7F | m << 7;
                     assert_eq!(next(&bad, 0), Next::Bad(14), "m {m} at {at}");
@@ -103,7 +103,7 @@ fn sets_of_every_length_and_every_cut() {
 }
 
 #[test]
-fn the_byte_of_a_feed() {
+fn the_byte_of_a_pao() {
     for byte in 0..=255u8 {
         let log = [0x50, byte, 0x50];
         let (holder, feeder, yaku) = (byte >> 6, byte >> 4 & 3, 28 + (byte >> 3 & 1));
@@ -111,10 +111,10 @@ fn the_byte_of_a_feed() {
             assert_eq!(next(&log, 0), Next::Bad(14), "{byte:02x}");
             continue;
         }
-        assert_eq!(next(&log, 0), Next::Entry { kind: FEED, argument: 0, part: &log[..2] });
-        let booking = Booking::Feed { holder, feeder, yaku };
-        assert_eq!(booking.bytes(), log[..2]);
-        assert_eq!(bookings(&log), (vec![booking], 14));
+        assert_eq!(next(&log, 0), Next::Entry { kind: PAO, argument: 0, part: &log[..2] });
+        let entry = Entry::Pao { holder, feeder, yaku };
+        assert_eq!(entry.bytes(), log[..2]);
+        assert_eq!(entries(&log), (vec![entry], 14));
         let refusal = if holder == feeder { 18 } else { 0 };
         assert_eq!(tally_lines(&log), format!("1 P {refusal} 30000 30000 30000 30000 0\n"));
         assert_eq!(next(&log[..1], 0), Next::Bad(14));
@@ -133,20 +133,20 @@ fn corrections_of_every_entry_and_every_cut() {
     let record = |rng: &mut Rng| pack(&themed(rng));
     for round in 0..200u8 {
         let number = 1 + round % 3;
-        let set = (0..number).flat_map(|_| record(&mut rng)).collect();
-        let inside = [Booking::Win(record(&mut rng)), Booking::Draw(round % 16), Booking::Chombo(round % 16), Booking::Many { number, records: set }];
+        let records = (0..number).flat_map(|_| record(&mut rng)).collect();
+        let inside = [Entry::Win(record(&mut rng)), Entry::Draw(round % 16), Entry::Chombo(round % 16), Entry::MultiRon { number, records }];
         for new in inside {
-            let booking = new.clone().as_correction();
-            let entry = booking.bytes();
-            assert_eq!(entry, [&[0x60], new.bytes().as_slice()].concat());
-            let log = [&[0x00], entry.as_slice(), &[0x30]].concat();
-            assert_eq!(next(&log, 1), Next::Entry { kind: CORRECTION, argument: 0, part: &entry });
-            assert_eq!(bookings(&log).0[1], booking);
-            for end in 2..entry.len() + 1 {
+            let entry = new.clone().as_correction();
+            let part = entry.bytes();
+            assert_eq!(part, [&[0x60], new.bytes().as_slice()].concat());
+            let log = [&[0x00], part.as_slice(), &[0x30]].concat();
+            assert_eq!(next(&log, 1), Next::Entry { kind: CORRECTION, argument: 0, part: &part });
+            assert_eq!(entries(&log).0[1], entry);
+            for end in 2..part.len() + 1 {
                 assert_eq!(next(&log[..end], 1), Next::Bad(14));
             }
             for argument in 1..16 {
-                assert_eq!(next(&[&[0x60 | argument], &entry[1..]].concat(), 0), Next::Bad(14));
+                assert_eq!(next(&[&[0x60 | argument], &part[1..]].concat(), 0), Next::Bad(14));
             }
         }
     }
@@ -160,9 +160,9 @@ fn another_kind_of_entry_in_a_correction_is_bad() {
         let bad = ![1, 2, 3, 4].contains(&(header >> 4)) || next(&log[1..], 0) == Next::Bad(14);
         assert_eq!(next(&log, 0) == Next::Bad(14), bad, "{header:02x}");
     }
-    // A riichi, a feed and a correction are whole entries.
+    // A riichi, a pao and a correction are whole entries.
     for inside in [&[0x01][..], &[0x50, 0x70], &[0x60, 0x20], &[0x60, 0x60, 0x20]] {
-        assert_eq!(bookings(&[&[0x20, 0x60], inside].concat()).1, 14);
+        assert_eq!(entries(&[&[0x20, 0x60], inside].concat()).1, 14);
         assert_eq!(tally_lines(&[&[0x20, 0x60], inside].concat()).lines().count(), 1);
     }
     // m over 4 in a win's record.
@@ -203,7 +203,7 @@ fn tally_reads_65_536_bytes() {
     assert_eq!(lines.lines().count(), LONGEST);
     assert!(lines.ends_with("65536 R 8 30000 30000 30000 30000 0\n"));
     let mut cut = vec![0x04; LONGEST - 1];
-    cut.extend(Booking::Win(pack(&themed(&mut Rng::new(1)))).bytes());
+    cut.extend(Entry::Win(pack(&themed(&mut Rng::new(1)))).bytes());
     assert_eq!(tally_lines(&cut).lines().count(), LONGEST - 1);
 }
 
@@ -218,19 +218,19 @@ fn examples_cover_everything_and_agree_with_the_ledger() {
     for (seed, end) in (0..10).flat_map(|seed| [(seed, End::Deal), (seed, End::Hands)]) {
         let log = example(seed, end);
         assert_eq!(log, example(seed, end));
-        let (entries, hands, cover) = survey(&log);
+        let (count, hands, cover) = survey(&log);
         assert_eq!(cover.short(1), vec![""; 0], "seed {seed}");
-        assert!((200..600).contains(&entries));
+        assert!((200..600).contains(&count));
         assert_eq!(hands == 200, end == End::Hands);
         assert_eq!(cover.lines().contains(&"play goes on after the end: yes=2".to_string()), end == End::Deal);
-        let (list, bad) = bookings(&log);
+        let (list, bad) = entries(&log);
         assert_eq!(bad, 14);
         let mut ledger = Ledger::fresh();
         let mut lines = String::new();
-        for (at, booking) in list.iter().enumerate() {
-            let (next, number) = ledger.after(booking);
+        for (at, entry) in list.iter().enumerate() {
+            let (next, number) = ledger.after(entry);
             let ([a, b, c, d], sticks) = (next.scores, next.sticks);
-            let letter = ['R', 'W', 'D', 'C', 'M', 'P', 'X'][(booking.bytes()[0] >> 4) as usize];
+            let letter = ['R', 'W', 'D', 'C', 'M', 'P', 'X'][(entry.bytes()[0] >> 4) as usize];
             lines += &format!("{} {letter} {number} {a} {b} {c} {d} {sticks}\n", at + 1);
             ledger = next;
         }

@@ -4,7 +4,7 @@ use other_scorer::codec::pack;
 use other_scorer::notation::{parse, unfinished};
 use other_scorer::say::calls::{fu, put, ready, refusal, score, scores, waits, Message};
 use other_scorer::unfinished::pack as pack_unfinished;
-use other_scorer::{score as score_of, Game};
+use other_scorer::{score as score_of, Position};
 
 /// The record of a hand.
 fn record(line: &str) -> Vec<u8> {
@@ -66,14 +66,14 @@ fn limits_and_other_dealers() {
 
 #[test]
 fn scores_of_a_game() {
-    let fresh = Game::fresh();
+    let fresh = Position::fresh();
     assert_eq!(scores(1, &fresh), Ok([60, 61, 62, 63].map(|player| [player, 3, 37, 68]).concat()));
-    let game = Game { scores: [-500, 41_000, 0, i32::MIN], sticks: 1, counter: 12, dealer: 7, ..fresh };
+    let position = Position { scores: [-500, 41_000, 0, i32::MIN], sticks: 1, counter: 12, dealer: 7, ..fresh };
     let mandarin = vec![61, 76, 23, 68, 62, 4, 37, 28, 68, 63, 0, 68, 60, 76, 11, 1, 38, 31, 25, 13, 8, 37, 30, 24, 13, 8, 68, 77, 1, 78, 10, 2];
-    assert_eq!(scores(4, &game), Ok(mandarin));
+    assert_eq!(scores(4, &position), Ok(mandarin));
     let english = vec![61, 76, 23, 68, 62, 13, 1, 51, 68, 63, 0, 68, 60, 76, 2, 53, 19, 13, 7, 52, 22, 17, 3, 51, 24, 13, 8, 68, 77, 1, 78, 43];
-    assert_eq!(scores(2, &game), Ok(english));
-    assert_eq!(scores(3, &Game { dealer: 255, ..game }), scores(3, &Game { dealer: 3, ..game }));
+    assert_eq!(scores(2, &position), Ok(english));
+    assert_eq!(scores(3, &Position { dealer: 255, ..position }), scores(3, &Position { dealer: 3, ..position }));
 }
 
 #[test]
@@ -92,7 +92,7 @@ fn refusals_in_order() {
     for language in [0, 5, 255] {
         assert_eq!(score(language, &[], 9, &score_of(&[], 9, 0)), Err(8));
         assert_eq!(fu(language, &score_of(&[], 0, 0)), Err(8));
-        assert_eq!(scores(language, &Game::fresh()), Err(8));
+        assert_eq!(scores(language, &Position::fresh()), Err(8));
         assert_eq!((refusal(language, 0), waits(language, &[], &[]), ready(language, &[])), (Err(8), Err(8), Err(8)));
     }
     for (record, dealer, wind, wanted) in [(&sound[..], 4, 0, 8), (&sound, 0, 2, 8), (&sound[..12], 0, 0, 1)] {

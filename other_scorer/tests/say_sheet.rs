@@ -9,7 +9,7 @@ use other_scorer::rng::Rng;
 use other_scorer::say::spell::spelled;
 use other_scorer::say::{calls, number, Language, LANGUAGES};
 use other_scorer::unfinished::{self, Unfinished};
-use other_scorer::{score, Game};
+use other_scorer::{score, Position};
 
 /// The words of each clip in a language.
 fn sheet(language: Language) -> BTreeMap<u8, &'static str> {
@@ -40,9 +40,9 @@ fn met(language: Language, rng: &mut Rng) -> BTreeSet<u8> {
         }
         let any = [(); 4].map(|_| rng.next() as i32 >> rng.below(32));
         let most = rng.below(32);
-        meet(calls::scores(key, &Game { scores: any, sticks: rng.next() as u32 >> most, counter: index as u32, ..Game::fresh() }));
+        meet(calls::scores(key, &Position { scores: any, sticks: rng.next() as u32 >> most, counter: index as u32, ..Position::fresh() }));
     }
-    (0..5).for_each(|group| meet(calls::scores(key, &Game { sticks: 10_000_000 + group, ..Game::fresh() })));
+    (0..5).for_each(|group| meet(calls::scores(key, &Position { sticks: 10_000_000 + group, ..Position::fresh() })));
     clips
 }
 

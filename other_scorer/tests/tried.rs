@@ -1,10 +1,10 @@
 //! How many readings were tried (02, S-4).
 
 use other_scorer::codec::pack;
-use other_scorer::entry::make;
 use other_scorer::notation::parse;
 use other_scorer::rng::Rng;
 use other_scorer::score::{best, has_yakuman, valued};
+use other_scorer::vector::make;
 use other_scorer::{read, score};
 
 /// Of a hand: how many readings were tried, and how many it has, dealer 0, East.
@@ -44,14 +44,14 @@ fn the_last_one_tried_is_the_first_yakuman_and_reported() {
     let mut rng = Rng::new(63);
     let mut stopped = 0;
     for index in 0..20_000 {
-        let entry = make(&mut rng, index);
-        let (scored, tried) = (entry.scored, entry.scored.tried as usize);
-        let Ok(hand) = read(&entry.record) else { continue };
+        let vector = make(&mut rng, index);
+        let (scored, tried) = (vector.scored, vector.scored.tried as usize);
+        let Ok(hand) = read(&vector.record) else { continue };
         if scored.refusal != 0 {
             assert_eq!(tried, 0);
             continue;
         }
-        let all = valued(&hand, entry.dealer, entry.wind);
+        let all = valued(&hand, vector.dealer, vector.wind);
         let yakuman = |at: usize| all[at].1.is_some_and(|value| has_yakuman(value.yaku));
         match has_yakuman(scored.yaku) {
             true => assert!(yakuman(tried - 1) && best(&all) == Some(tried - 1)),

@@ -3,7 +3,7 @@
 
 HANDS, CLAIMS and LOG are what the other scorer's programs `hands`, `claims` and `logs` write. Records are put to Score; every call is made many
 times with arguments found by their parameter's name, one in three damaged; and each log is booked entry by entry by the call of its kind, by
-hb_book, and printed. The same input gives the same cases. A call with a parameter whose name has no values below is an error: every call is covered.
+hb_book_entry, and printed. The same input gives the same cases. A call with a parameter whose name has no values below is an error: every call is covered.
 A file of cases has at most PART bytes, begins anew, and needs none before it."""
 import os
 import random
@@ -14,8 +14,8 @@ from header import NUMBERS, Header
 
 PART = 150000
 HANDS = 6000  # so many of the file, in the first part
-MANY, FEW = 500, {"hb_ready": 60, "hb_say_ready": 60, "hb_cards": 14}  # how often a call is made; those that take a million instructions
-TURNS = 40  # of a list of random calls, how many are for one book
+OFTEN, SELDOM = 500, {"hb_ready": 60, "hb_say_ready": 60, "hb_cards": 14}  # how often a call is made; those that take a million instructions
+TURNS = 40  # of a list of random calls, how many are for one game
 
 
 def length_of(record):
@@ -62,13 +62,13 @@ class Cases:
         self.number = {call.name: i for i, call in enumerate(header.calls)}
         self.parts, self.made = [b""], {call.name: 0 for call in header.calls}
         self.entries = [entry for log in logs for _, entry in numbered(log)]
-        self.sets = [entry for entry in self.entries if entry.kind == 4]
+        self.multi_rons = [entry for entry in self.entries if entry.kind == 4]
 
     # ---- values by the parameter's name; h is the hand of the case
 
     def values(self):
         r = self.rng
-        some, log = r.choice(self.sets), r.choice(self.logs)
+        some, log = r.choice(self.multi_rons), r.choice(self.logs)
         return {
             "record": lambda h: h.record, "dealer": lambda h: h.dealer, "wind": lambda h: h.wind, "claim": lambda h: h.claim,
             "hand": lambda h: h.unfinished if r.random() < 0.7 else drawn(r),
@@ -107,7 +107,7 @@ class Cases:
         self.begin()
 
     def begin(self):
-        """A book and a walk, since a part needs none before it."""
+        """A game and a walk, since a part needs none before it."""
         for call in self.header.calls:
             if not call.parameters:
                 self.parts[-1] += bytes([self.number[call.name]])
@@ -149,10 +149,10 @@ class Cases:
         elif entry.kind == 3:
             self.make(f"hb_{correct}chombo", seat=entry.argument)
         elif entry.kind == 4:
-            self.make(f"hb_{correct}many", number=entry.argument, records=entry.inside)
+            self.make(f"hb_{correct}multi_ron", number=entry.argument, records=entry.inside)
         elif entry.kind == 5:
             byte = entry.inside[0]
-            self.make("hb_feed", holder=byte >> 6, feeder=byte >> 4 & 3, yaku=28 + (byte >> 3 & 1))
+            self.make("hb_pao", holder=byte >> 6, feeder=byte >> 4 & 3, yaku=28 + (byte >> 3 & 1))
         elif entry.kind == 6:
             self.booked(Entry(entry.inside, 0), "correct_")
 
@@ -162,26 +162,26 @@ class Cases:
             self.make("hb_score", hand)
         self.another()  # Score's figures are of the first part
         for log in self.logs:
-            self.make("hb_fresh")
+            self.make("hb_fresh_game")
             for _, entry in numbered(log):
                 self.booked(entry)
-            self.make("hb_fresh")
+            self.make("hb_fresh_game")
             for at, entry in numbered(log):
-                self.make("hb_next", log=log[at:at + 60], at=0)
-                self.make("hb_book", part=entry.part)
+                self.make("hb_log_next", log=log[at:at + 60], at=0)
+                self.make("hb_book_entry", part=entry.part)
                 if self.rng.random() < 0.2:
-                    self.make("hb_line", buf=83)
-            self.make("hb_start")
+                    self.make("hb_log_line", buf=83)
+            self.make("hb_log_start")
             for _ in range(1 + len(log) // 400):
-                self.make("hb_lines", log=log, buf=self.header.constants["HB_CARDS_MAX"])
+                self.make("hb_log_lines", log=log, buf=self.header.constants["HB_CARDS_MAX"])
             hurt = changed(log[:300], self.rng.randrange(2400))
-            self.make("hb_start")
+            self.make("hb_log_start")
             for _ in range(12):
-                self.make("hb_lines", log=hurt, buf=self.rng.choice((82, 83, 300)))
-        left = {call.name: FEW.get(call.name, MANY) for call in self.header.calls}
+                self.make("hb_log_lines", log=hurt, buf=self.rng.choice((82, 83, 300)))
+        left = {call.name: SELDOM.get(call.name, OFTEN) for call in self.header.calls}
         names = list(left)
         while any(left.values()):
-            self.make("hb_fresh")
+            self.make("hb_fresh_game")
             for _ in range(TURNS):
                 name = self.rng.choice([n for n in names if left[n]] or names[:1])
                 left[name] = max(0, left[name] - 1)

@@ -5,11 +5,11 @@ ghost use Prim.Native.Nat.{_+_, _-_, _*_, _/_, _%_, _^_, _<_, _≤_};
 ghost use lib.ListN.{length, getD, take, drop, replicate};
 ghost use lib.Seq.{sets};
 ghost use Rattle.bits.specs.laws.Bytes.{joined};
-ghost use Rattle.bits.specs.Bits.{digits, val, pack, unpack, sum, Below, bitsOf};
+ghost use Rattle.bits.specs.Bits.{digits, val, pack, unpack, widthOf, EachBelow, bitsOf};
 
 // The number that the n bits from `at` on are, up to 8 of them.
 fn gather(b: &[u8], at: usize, n: usize) -> u8
-    requires { ⌜ (n ≤ 8) × (at + n ≤ length (now b)) × Below 2 (now b) ⌝ }
+    requires { ⌜ (n ≤ 8) × (at + n ≤ length (now b)) × EachBelow 2 (now b) ⌝ }
     ensures { λ r. ⌜ r ≡ val 0 (take n (drop at (now (b .entry)))) ⌝ }
 {
     let mut r: u8 = 0;
@@ -39,7 +39,7 @@ pub fn put(b: &mut [u8], at: usize, n: usize, v: u8)
 
 // The fields vs, each at its width of up to 8, stored as bits from `at` on.
 pub fn pack_into(ws: &[u8], vs: &[u8], b: &mut [u8], at: usize)
-    requires { ⌜ (length (now ws) ≡ length (now vs)) × Below 9 (now ws) × (at + sum (now ws) ≤ length (now b)) ⌝ }
+    requires { ⌜ (length (now ws) ≡ length (now vs)) × EachBelow 9 (now ws) × (at + widthOf (now ws) ≤ length (now b)) ⌝ }
     ensures { λ _. ⌜ now (b .exit) ≡ sets (now (b .entry)) at (pack (now (ws .entry)) (now (vs .entry))) ⌝ }
 {
     let mut i = 0;
@@ -54,7 +54,7 @@ pub fn pack_into(ws: &[u8], vs: &[u8], b: &mut [u8], at: usize)
 
 // The fields, of widths up to 8, that the bits from `at` on are, stored from the front of out.
 pub fn unpack_into(ws: &[u8], b: &[u8], at: usize, out: &mut [u8])
-    requires { ⌜ (length (now ws) ≤ length (now out)) × Below 9 (now ws) × (at + sum (now ws) ≤ length (now b)) × Below 2 (now b) ⌝ }
+    requires { ⌜ (length (now ws) ≤ length (now out)) × EachBelow 9 (now ws) × (at + widthOf (now ws) ≤ length (now b)) × EachBelow 2 (now b) ⌝ }
     ensures { λ _. ⌜ now (out .exit) ≡ sets (now (out .entry)) 0 (unpack (now (ws .entry)) (drop at (now (b .entry)))) ⌝ }
 {
     let mut i = 0;

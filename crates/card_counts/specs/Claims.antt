@@ -2,7 +2,7 @@
 use mathlib.Core.Path.{_≡_}
 use Prim.Native.Nat.{ℕ, _≤_}
 use lib.ListN.{length}
-use Rattle.cards.specs.Deck.{cardsOf, cardBytes}
+use Rattle.cards.specs.CardList.{cardsOf, cardBytes}
 use Rattle.card_counts.specs.laws.Count as laws
 
 module _ (suit : ℕ) (h : suit ≤ 2) where

@@ -4,7 +4,7 @@ use mathlib.Core.List.{List, _++_}
 use Prim.Native.Nat.{ℕ}
 use lib.Dec.{ltb, eqb}
 use lib.ListN.{length, drop}
-use Rattle.cards.specs.Deck.{cardsOf, cardBytes}
+use Rattle.cards.specs.CardList.{cardsOf, cardBytes}
 use Rattle.card_writer.specs.declared.Cards.{Cards}
 
 -- "2, 5 or 8 tiles"

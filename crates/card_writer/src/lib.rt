@@ -15,13 +15,13 @@ pub struct Cards {
 }
 
 // Writes the first `size` tiles of a card.
-fn put_card(buf: &mut [u8], at: usize, so: [u8; 8], size: usize) -> usize
+fn put_card(buf: &mut [u8], at: usize, prefix: [u8; 8], size: usize) -> usize
     requires { ⌜ (size ≤ 8) × (at + size ≤ length (now buf)) ⌝ }
-    ensures { λ r. ⌜ Put (now (buf .entry)) at (take size so) (now (buf .exit)) r ⌝ }
+    ensures { λ r. ⌜ Put (now (buf .entry)) at (take size prefix) (now (buf .exit)) r ⌝ }
 {
     let mut i = 0;
     while i < size {
-        buf[at + i] = so[i];
+        buf[at + i] = prefix[i];
         i += 1;
     }
     at + size
@@ -31,7 +31,7 @@ fn put_card(buf: &mut [u8], at: usize, so: [u8; 8], size: usize) -> usize
 fn draw(
     buf: &mut [u8],
     at: usize,
-    so: [u8; 8],
+    prefix: [u8; 8],
     t: [u8; 34],
     low: u8,
     end: u8,
@@ -39,12 +39,12 @@ fn draw(
     size: usize,
     n: u8,
 ) -> usize
-    requires { ⌜ (left ≤ size) × (size ≤ 8) × (end ≤ 34) × (at + length (written (take (size - left) so) n left end low t) ≤ length (now buf)) ⌝ }
-    ensures { λ r. ⌜ Put (now (buf .entry)) at (written (take (size - left) so) n left end low t) (now (buf .exit)) r ⌝ }
+    requires { ⌜ (left ≤ size) × (size ≤ 8) × (end ≤ 34) × (at + length (written (take (size - left) prefix) n left end low t) ≤ length (now buf)) ⌝ }
+    ensures { λ r. ⌜ Put (now (buf .entry)) at (written (take (size - left) prefix) n left end low t) (now (buf .exit)) r ⌝ }
 {
     if left == 0 {
-        if splits::splits(t, n) {
-            return put_card(buf, at, so, size);
+        if reading_splits::splits(t, n) {
+            return put_card(buf, at, prefix, size);
         }
         return at;
     }
@@ -52,7 +52,7 @@ fn draw(
     let mut a = low;
     while a < end {
         if t[a as usize] < 4 {
-            let mut next = so;
+            let mut next = prefix;
             next[size - left] = a;
             e = draw(buf, e, next, tiles::add(t, a, 1), a, end, left - 1, size, n);
         }

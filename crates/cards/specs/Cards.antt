@@ -9,7 +9,7 @@ use Rattle.tiles.specs.Below.{number}
 use Rattle.tiles.specs.Kinds.{inSuit}
 use Rattle.reading.specs.Order.{Lex}
 use Rattle.reading.specs.All.{Each, Pairwise}
-use Rattle.splits.specs.Splits.{Splits}
+use Rattle.reading_splits.specs.Splits.{Splits}
 
 -- how many of the tiles l are of kind k
 unfoldable pub among : List ℕ → ℕ → ℕ
@@ -26,7 +26,7 @@ pub record Card (suit size : ℕ) (l : List ℕ) : Type 0 where
 
 -- the list of a suit and a size: "the sets in ascending order of their tile lists", each before every later one, so that none is there twice;
 -- "every such set appears just one time and no other set does"
-pub record IsDeck (suit size : ℕ) (cards : List (List ℕ)) : Type 0 where
+pub record IsCardList (suit size : ℕ) (cards : List (List ℕ)) : Type 0 where
   pub order : Pairwise Lex cards
   pub every : (l : List ℕ) → Card suit size l → Member l cards
   pub only : (l : List ℕ) → Member l cards → Card suit size l

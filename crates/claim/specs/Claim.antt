@@ -4,15 +4,15 @@ use mathlib.Core.Logic.{_⊎_}
 use mathlib.Core.Path.{_≡_}
 use Prim.Native.Nat.{ℕ, _+_, _-_, _/_, _≤_}
 use lib.ListN.{length, drop, replicate}
-use Rattle.bits.specs.Bits.{val, unpack, sum, bitsOf}
+use Rattle.bits.specs.Bits.{val, unpack, widthOf, bitsOf}
 use Rattle.reading.specs.declared.Reading.{Reading}
 use Rattle.reading.specs.Reading.{Ascends, ofShape}
 
 -- the bytes s are the values vs at the widths ws "and zero bits to the byte"; not "a claim of another length", nor "a padding bit set"
 pub record HasFields (s ws vs : List ℕ) : Type 0 where
-  pub size : length s ≡ (sum ws + 7) / 8
+  pub size : length s ≡ (widthOf ws + 7) / 8
   pub values : unpack ws (bitsOf s) ≡ vs
-  pub padding : val 0 (drop (sum ws) (bitsOf s)) ≡ 0
+  pub padding : val 0 (drop (widthOf ws) (bitsOf s)) ≡ 0
 
 -- the claim s, for a hand with m melds, names the reading r and the gain: it has none of the faults of 22
 pub data Names (m : ℕ) (s : List ℕ) : Reading → ℕ → Type 0 where

@@ -35,7 +35,7 @@ module _ (s claim : List ℕ) (dealer wind : ℕ) where
     -- "Score's 8"
     eight : (3 < dealer) ⊎ (1 < wind) → IsJudged (refusedWith 8)
     -- "and Read's 1 to 5 come before"
-    unread : dealer ≤ 3 → wind ≤ 1 → (n : ℕ) → readOf s .answer ≡ Refused n → IsJudged (refusedWith n)
+    unreadable : dealer ≤ 3 → wind ≤ 1 → (n : ℕ) → readOf s .answer ≡ Refused n → IsJudged (refusedWith n)
     -- "It refuses with 22" a claim that has a fault, and so names nothing
     faulty : dealer ≤ 3 → wind ≤ 1 → IsSound s → ((r : Reading) (g : ℕ) → Names (handOf (readOf s) .held .m) claim r g → ⊥) → IsJudged (refusedWith 22)
     -- the verdict on what it names

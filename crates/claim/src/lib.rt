@@ -218,9 +218,9 @@ fn verdict(h: Hand, dealer: u8, wind: u8, r: Reading, gain: u32) -> u8
     if !is_reading(c, m, win, r) {
         return 1;
     }
-    let t = score::setting_of(h, dealer, wind);
-    let v = best::judge(t, best::none(), r);
-    let b = search::best_of(t, c, m, win);
+    let t = score::hand_common_of(h, dealer, wind);
+    let v = score_best::keep_better(t, score_best::none(), r);
+    let b = score_search::best_of(t, c, m, win);
     weighed(v.valued, v.value.gain.0, gain, b.value.gain.0)
 }
 

@@ -6,7 +6,7 @@ use lib.Dec.{ltb, leb, eqb}
 use lib.ListN.{getD}
 use Rattle.tiles.specs.Below.{all, any, every, some, sum, number}
 use Rattle.tiles.specs.Kinds.{isRunStart}
-use Rattle.tiles.specs.Groups.{at}
+use Rattle.tiles.specs.Groups.{atKind}
 use Rattle.hand.specs.declared.Held.{Held}
 
 -- ---- melds and concealed tiles
@@ -44,8 +44,8 @@ hasKan x = someMeld x (λ b. leb 2 (meldKind b))
 -- how many tiles of kind k a meld has: a chi its tile and the two after it ("tile 6, the lowest of a chi"), a pon three of its tile, a kan four
 unfoldable pub meldHolds : ℕ → ℕ → ℕ
 meldHolds b k =
-    cond (eqb (meldKind b) 0) (at (meldTile b) 1 k + at (meldTile b + 1) 1 k + at (meldTile b + 2) 1 k)
-    (cond (eqb (meldKind b) 1) (at (meldTile b) 3 k) (at (meldTile b) 4 k))
+    cond (eqb (meldKind b) 0) (atKind (meldTile b) 1 k + atKind (meldTile b + 1) 1 k + atKind (meldTile b + 2) 1 k)
+    (cond (eqb (meldKind b) 1) (atKind (meldTile b) 3 k) (atKind (meldTile b) 4 k))
 
 -- how many of kind k among the melds
 unfoldable pub inMelds : Held → ℕ → ℕ

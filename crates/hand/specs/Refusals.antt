@@ -2,7 +2,7 @@
 use mathlib.Core.Bool.{Bool, _&&_, _||_, cond, not}
 use Prim.Native.Nat.{ℕ, _+_}
 use lib.Dec.{ltb, leb, eqb}
-use Rattle.tiles.specs.Groups.{at}
+use Rattle.tiles.specs.Groups.{atKind}
 use Rattle.hand.specs.declared.Fields.{Fields}
 use Rattle.hand.specs.declared.Held.{Held}
 use Rattle.hand.specs.declared.Hand.{Hand}
@@ -31,7 +31,7 @@ wrongFields h padding = wrongHeld (h .held) padding || fieldOver33 (h .fields) |
 
 -- "among concealed tiles, winning tile, melds and indicator": how many of kind k
 unfoldable pub inRecord : Hand → ℕ → ℕ
-inRecord h k = inHand h k + at (h .fields .indicator) 1 k
+inRecord h k = inHand h k + atKind (h .fields .indicator) 1 k
 
 -- ---- 5
 

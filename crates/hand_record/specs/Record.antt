@@ -5,7 +5,7 @@ use mathlib.Core.List.{List, [], _∷_, _++_}
 use Prim.Native.Nat.{ℕ, _+_, _*_, _-_}
 use lib.Dec.{ltb, eqb}
 use lib.ListN.{length, getD, take, drop, replicate}
-use Rattle.bits.specs.Bits.{unpack, eights, Below, bitsOf, bytesOf, fill}
+use Rattle.bits.specs.Bits.{unpack, eights, EachBelow, bitsOf, bytesOf, fill}
 use Rattle.hand.specs.declared.Fields.{Fields}
 use Rattle.hand.specs.declared.Held.{Held}
 use Rattle.hand.specs.declared.Hand.{Hand}
@@ -126,12 +126,12 @@ unfoldable pub answerBy : Hand → ℕ → HandRead
 answerBy h j = cond (ltb 0 j) (refusedWith j) (soundAs h)
 
 -- "2 .. 5" of a record of the right length, by its bits
-unfoldable pub judged : ℕ → List ℕ → HandRead
-judged m bits = answerBy (handIn m bits) (refusalOf (handIn m bits) (paddingOf m bits))
+unfoldable pub answerIn : ℕ → List ℕ → HandRead
+answerIn m bits = answerBy (handIn m bits) (refusalOf (handIn m bits) (paddingOf m bits))
 
 -- "Read refuses, first match wins": 1, or what the bits say
 unfoldable pub readOf : List ℕ → HandRead
-readOf s = cond (wrongLength (length s) (countIn s)) (refusedWith 1) (judged (countIn s) (bitsOf s))
+readOf s = cond (wrongLength (length s) (countIn s)) (refusedWith 1) (answerIn (countIn s) (bitsOf s))
 
 -- what Read gives as one flat structure: the refusal, and the hand, all zero where it is refused
 unfoldable pub readHandOf : List ℕ → ReadHand
@@ -149,7 +149,7 @@ paddingOfRecord s = paddingOf (countIn s) (bitsOf s)
 
 -- "A record that meets none of these is sound": neither 1, the length, nor 2, the fields, 3, the order of the tiles, 4, four of a kind, 5, the situation
 pub record IsSound (s : List ℕ) : Type 0 where
-  pub length : wrongLength (length s) (countIn s) ≡ false
+  pub len : wrongLength (length s) (countIn s) ≡ false
   pub fields : wrongFields (handOfRecord s) (paddingOfRecord s) ≡ false
   pub order : descends (handOfRecord s .held) ≡ false
   pub four : overFour (inRecord (handOfRecord s)) ≡ false
@@ -192,4 +192,4 @@ bufferOf h buf = cond (ltb 0 (writeRefusal h buf)) buf (recordOf h ++ drop (leng
 pub record IsHand (h : Hand) : Type 0 where
   pub melds : length (h .held .melds) ≡ 4
   pub concealed : length (h .held .concealed) ≡ 13
-  pub bytes : Below 256 (h .held .melds)
+  pub bytes : EachBelow 256 (h .held .melds)

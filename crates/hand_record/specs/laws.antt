@@ -1,6 +1,7 @@
 pub mod Clean
 pub mod Fill
 pub mod Read
+pub mod Lengths
 pub mod Write
 pub mod Round
 pub mod Claims

@@ -1,9 +1,10 @@
-// The hand record and Read (01, Tiles and the hand record). It takes all input.
+// The hand record, Read, and how long the record is that bytes start with (01, Tiles and the hand record). It takes all input.
 ghost use mathlib.Core.Path.{_≡_};
 ghost use Prim.Native.Nat.{_+_, _*_, _-_, _≤_};
 ghost use lib.ListN.{length};
 ghost use Rattle.bits.specs.Bits.{bitsOf};
-ghost use Rattle.hand_record.specs.Record.{lengthOf, headOf, heldIn, refusedWith, judged, readOf, refusalIn, fieldsOf, readHandOf};
+ghost use Rattle.hand_record.specs.Record.{lengthOf, headOf, heldIn, refusedWith, answerIn, readOf, countIn, refusalIn, fieldsOf, readHandOf};
+ghost use Rattle.hand_record.specs.Lengths.{recordLength};
 use hand::Fields;
 use hand::Hand;
 use hand::Held;
@@ -102,12 +103,12 @@ fn refused(n: u8) -> HandRead
 // The hand of m melds and the fields f that a record of its length is, or why it is refused.
 fn hand_in(s: &[u8], f: Fields, m: u8) -> HandRead
     requires { ⌜ (m ≤ 4) × (length (now s) ≡ lengthOf m) × (f ≡ headOf (bitsOf (now s)) .fields) ⌝ }
-    ensures { λ r. ⌜ r ≡ judged m (bitsOf (now (s .entry))) ⌝ }
+    ensures { λ r. ⌜ r ≡ answerIn m (bitsOf (now (s .entry))) ⌝ }
 {
     let held = held_in(s, 25, m);
     let padding = bits::last(s, PADS[m as usize]);
     let h = Hand { fields: f, held };
-    let j = refusals::refusal(h, padding as u32);
+    let j = hand_refusals::refusal(h, padding as u32);
     if 0 < j {
         return refused(j);
     }
@@ -178,4 +179,32 @@ pub fn read_hand(s: &[u8]) -> ReadHand
         refusal: refusal(a),
         hand,
     }
+}
+
+// ---- how long the record is that bytes start with
+
+// The meld count of the record that bytes start with: its 3 bits from bit 22.
+fn meld_count(s: &[u8]) -> u8
+    requires { ⌜ 4 ≤ length (now s) ⌝ }
+    ensures { λ r. ⌜ r ≡ countIn (now (s .entry)) ⌝ }
+{
+    bits::field(s, 22, 3)
+}
+
+// How many bytes the record has that bytes start with, 0 where m is over 4 or bytes are missing.
+pub fn record_length(s: &[u8]) -> usize
+    ensures { λ r. ⌜ r ≡ recordLength (now (s .entry)) ⌝ }
+{
+    if s.len() < 4 {
+        return 0;
+    }
+    let m = meld_count(s) as usize;
+    if 4 < m {
+        return 0;
+    }
+    let n = LENGTHS[m];
+    if s.len() < n {
+        return 0;
+    }
+    n
 }

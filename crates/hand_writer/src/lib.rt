@@ -44,7 +44,7 @@ pub fn write(h: Hand, buf: &mut [u8]) -> Written
     ensures { λ r. ⌜ r ≡ writtenOf h (now (buf .entry)) ⌝ }
     ensures { λ _. ⌜ now (buf .exit) ≡ bufferOf h (now (buf .entry)) ⌝ }
 {
-    let j = refusals::unwritable(h);
+    let j = hand_refusals::unwritable(h);
     if 0 < j {
         return Written { refusal: j, len: 0 };
     }

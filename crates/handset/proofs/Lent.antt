@@ -1,6 +1,6 @@
 -- A booking function over a lent struct, once for any struct of plain fields and any list of parameters beside it: `fn f(g: &mut S, a: A, ..) -> u8 { let b = k(*g, a, ..); *g = b.after; b.refusal }`,
 -- for any callee k whose contract is a relation P of the struct, what is seen of each parameter, the refusal and the struct after.
--- `Lendable` says what such a struct is; `book`, at the end, is the one that there is. `proofs/Params.antt` has the parameters. A proof of such a function cites `lent-meets`.
+-- `Lendable` says what such a struct is; `game`, at the end, is the one that there is. `proofs/Params.antt` has the parameters. A proof of such a function cites `lent-meets`.
 use mathlib.Core.Path.{_≡_, refl, ap, subst}
 use Prim.Native.Nat.{ℕ, suc, _<_, _^_}
 use mathlib.Core.List.{[], _∷_, List}
@@ -44,10 +44,10 @@ use denote.Triple.Clauses.{ensured, lasts, Ended, Clauses, closing}
 use denote.Triple.End.{all, Fins}
 use denote.Triple.Walked.{says, Stays, stay-ref, walkOf, hasOf, goes-ref, Walks, ends-at, walked, walk-meets}
 use denote.Exit.{yes}
-use Rattle.bookings.specs.declared.Entered.{Entered}
-use Rattle.book.proofs.Book as T
-use Rattle.book.proofs.Book.Laws as T′
-use Rattle.bookings.proofs.Entered as B
+use Rattle.game.proofs.Game as T
+use Rattle.game.proofs.Game.Laws as T′
+use Rattle.game_bookings.specs.declared.Booked.{Booked}
+use Rattle.game_bookings.proofs.Booked as B
 use Rattle.handset.proofs.Params.{Param, locals, operands, past, lents, givens, kept, stays, goes, Sees, sees, Values, spells, tellss, lent-vals, handed, given-vals, at-end, fits, had, overs, env-past, allocated, passed, freed, found, second, loaded}
 
 -- a struct of plain fields, and what a callee gives of it, a struct of that name: a refusal, and the struct after
@@ -243,6 +243,17 @@ module _ (S : Lendable) where
           (thin-meets 𝓤 H (𝓖 .A) (givenOf 𝓤 H 𝓜 𝓖) (tablesOf 𝓤 H 𝓜 (tables 𝓤 H 𝓜 𝓡 γ)) (met 𝓤 H 𝓜 𝓖 𝓡))
 
 -- ---- the structs that there are
--- a book
-abbrev pub book : Lendable
-book = record { struct = T.the-type; laws = T′.the-laws; lowers = T′.lowers; plain = T′.the-plain; name = B.the-type .name; Outcome = Entered; refusal = λ r. r .refusal; after = λ r. r .book; one = B.the-type .to-one }
+-- a game
+abbrev pub game : Lendable
+game =
+    record {
+      struct = T.the-type;
+      laws = T′.the-laws;
+      lowers = T′.lowers;
+      plain = T′.the-plain;
+      name = B.the-type .name;
+      Outcome = Booked;
+      refusal = λ r. r .refusal;
+      after = λ r. r .game;
+      one = B.the-type .to-one;
+    }

@@ -1,4 +1,4 @@
--- A message from a lent game: `fn f(language: u8, g: &Game, buf: &mut [u8]) -> Said { k(language, *g, buf) }`. As in `Show.antt` the `&` is looked into,
+-- A message from a lent position: `fn f(language: u8, p: &Position, buf: &mut [u8]) -> Said { k(language, *p, buf) }`. As in `Show.antt` the `&` is looked into,
 -- the struct copied out and the borrow shut again, and the `&mut [u8]` is given up for good; what comes back is a struct. The proof of `hb_say_scores`
 -- cites `say-meets`.
 use mathlib.Core.Path.{_≡_, refl}
@@ -35,15 +35,15 @@ use denote.Triple.Call.{calls-at}
 use denote.Triple.Clauses.{ensured, lasts, Ended, Clauses, closing}
 use denote.Triple.Walked.{says, Stays, stay-none-ref, stay-dropped, gave-slice, walkOf, AllGo, goes-none-ref, goes-dropped, goes-gave-slice, Walks, ends-at, walked, walk-meets}
 use denote.Exit.{yes}
-use Rattle.ledger.specs.declared.Game.{Game}
-use Rattle.ledger.proofs.Game as T
-use Rattle.ledger.proofs.Game.Laws as T′
+use Rattle.position.specs.declared.Position.{Position}
+use Rattle.position.proofs.Position as T
+use Rattle.position.proofs.Position.Laws as T′
 use Rattle.speech_score.specs.declared.Said.{Said}
 use Rattle.speech_score.proofs.Said as R
 use Rattle.speech_score.proofs.Said.Laws as R′
 
--- a game's machine value
-abbrev mach : Game → Val
+-- a position's machine value
+abbrev mach : Position → Val
 mach = LL.val T.the-type T′.the-laws
 
 -- the MIR, over the callee's name
@@ -88,7 +88,7 @@ abbrev stayed : Stays (ended .signature .params) (ended .kept)
 stayed = (stay-dropped (plain (λ _. u8)) yes, (stay-none-ref (0 ∷ []) tt (plain (λ _. T.the-row)) yes, (gave-slice (1 ∷ []) tt (plain (λ _. u8)), tt)))
 
 -- P says what comes back and what the buffer then holds
-module _ (k : Name) (P : ℕ → Game → List ℕ → Said → List ℕ → Type 0) where
+module _ (k : Name) (P : ℕ → Position → List ℕ → Said → List ℕ → Type 0) where
   module _ {M : Type 1} (𝓤 : URA M) where
     abbrev pub clauses : Clauses 𝓤 ended
     clauses = λ κs args. record {
@@ -108,7 +108,7 @@ module _ (k : Name) (P : ℕ → Game → List ℕ → Said → List ℕ → Typ
   abbrev pub Callee : {M : Type 1} (𝓤 : URA M) (H : Heap 𝓤) (A : Atoms 𝓤) → Contract 𝓤
   Callee 𝓤 H A = tripleOf 𝓤 H A callee-sig (closing 𝓤 H A callee-ended (callee-clauses 𝓤))
 
-  module _ {M : Type 1} (𝓤 : URA M) (H : Heap 𝓤) (A : Atoms 𝓤) (W : Given 𝓤 H A) (κ κ1 : Lft) (q q1 : Share) (m b o : ℕ) (γ : GName) (h : Game) (c d : ℕ)
+  module _ {M : Type 1} (𝓤 : URA M) (H : Heap 𝓤) (A : Atoms 𝓤) (W : Given 𝓤 H A) (κ κ1 : Lft) (q q1 : Share) (m b o : ℕ) (γ : GName) (h : Position) (c d : ℕ)
       (δ : GName) (ys : List ℕ) (m-fits : m < 2 ^ 8) where
     -- the slice, and its machine value
     abbrev y : RefT (List ℕ)
@@ -117,7 +117,7 @@ module _ (k : Name) (P : ℕ → Game → List ℕ → Said → List ℕ → Typ
     abbrev v : Val
     v = sliceVal (c, d) (length ys)
 
-    abbrev x : ℕ × (RefT Game × (RefT (List ℕ) × Unit {0}))
+    abbrev x : ℕ × (RefT Position × (RefT (List ℕ) × Unit {0}))
     x = (m, (record { ptr = (b, o); name = γ; now = h }, (y, tt)))
 
     abbrev at : List Val × (List Val × (List Val × Unit {0}))

@@ -5,8 +5,8 @@ use lib.ListN.{length}
 use Rattle.hand.specs.declared.Hand.{Hand}
 use Rattle.hand_record.specs.Record.{writtenOf}
 use Rattle.text.specs.Text.{lengthIn}
-use Rattle.play.specs.declared.Walk.{Walk}
-use Rattle.play.specs.Play.{linesOf}
+use Rattle.log_walk.specs.declared.Walk.{Walk}
+use Rattle.log_walk.specs.Walk.{linesOf}
 use Rattle.handset.specs.Interface.{nextEntryOf}
 use Rattle.handset.specs.laws.Lengths as laws
 

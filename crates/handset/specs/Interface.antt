@@ -5,7 +5,7 @@ use mathlib.Core.List.{List, [], _∷_}
 use Prim.Native.Nat.{ℕ, _/_, _%_}
 use lib.Dec.{eqb}
 use lib.ListN.{length}
-use Rattle.ledger.specs.declared.Game.{Game}
+use Rattle.position.specs.declared.Position.{Position}
 use Rattle.text.specs.Text.{lineOf, lengthIn, bufferWith}
 use Rattle.log.specs.Kinds.{letterOf}
 use Rattle.log.specs.Log.{partAt, refusalAt}
@@ -21,7 +21,7 @@ unfoldable pub nextEntryOf : List ℕ → ℕ → NextEntry
 nextEntryOf log at = nextEntryBy (partAt log at) (refusalAt log at)
 
 -- a line of `tally` at the start of a buffer: how many bytes come back, and what the buffer then holds
-abbrev pub Lined : Game → List ℕ → ℕ → ℕ → ℕ → ℕ → List ℕ → Type 0
-Lined g buf entry letter refusal n out =
-    let line = lineOf entry letter refusal (g .scores) (g .sticks) in
+abbrev pub Lined : Position → ℕ → ℕ → ℕ → List ℕ → ℕ → List ℕ → Type 0
+Lined p entry letter refusal buf n out =
+    let line = lineOf entry letter refusal (p .scores) (p .sticks) in
     (n ≡ lengthIn buf line) × (out ≡ bufferWith buf line)

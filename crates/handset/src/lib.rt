@@ -1,5 +1,5 @@
-// The public calls as the handset's firmware links them, with one prefix. They take all input. The bookings and the corrections are lent the book and update it
-// there: each gives 0, or its refusal with the book as it was.
+// The public calls as the handset's firmware links them, with one prefix. They take all input. The bookings and the corrections are lent the game and update it
+// there: each gives 0, or its refusal with the game as it was.
 ghost use mathlib.Core.Path.{_≡_};
 ghost use mathlib.Core.List.{[], _++_};
 ghost use Prim.Native.Nat.{_+_, _≤_, _<_};
@@ -14,25 +14,25 @@ ghost use Rattle.waits.specs.Waits.{IsWaits};
 ghost use Rattle.waits.specs.Answer.{waitsOf};
 ghost use Rattle.ready.specs.Ready.{IsAnswer};
 ghost use Rattle.card_writer.specs.Call.{answerOf, cardBuffer};
-ghost use Rattle.ledger.specs.Booking as Booking;
-ghost use Rattle.book.specs.Book.{plain, correction, freshBook};
-ghost use Rattle.book.specs.Runs.{Booked};
-ghost use Rattle.play.specs.Play.{BookedPart, started, textLeft, linesOf};
+ghost use Rattle.position.specs.Booking as Booking;
+ghost use Rattle.game.specs.Game.{booking, correction, freshGame};
+ghost use Rattle.game.specs.Runs.{Books};
+ghost use Rattle.log_walk.specs.Walk.{BooksEntry, started, textLeft, linesOf};
 ghost use mathlib.Core.Bool.{cond};
 ghost use lib.Dec.{ltb};
 ghost use Rattle.speech_score.specs.Said.{Answers};
 ghost use Rattle.speech_told.specs.Messages.{scoreSaid, fuMessage, refusalMessage};
 ghost use Rattle.speech_table.specs.Messages.{waitsMessage, SaysReady, SaysScores};
 ghost use Rattle.handset.specs.Interface.{nextEntryOf, Lined};
-use book::Book;
 use card_writer::Cards;
 use claim::Judged;
+use game::Game;
 use hand::Hand;
 use hand_record::ReadHand;
 use hand_record::Written;
-use ledger::Game;
-use play::Printed;
-use play::Walk;
+use log_walk::Printed;
+use log_walk::Walk;
+use position::Position;
 use ready::Ready;
 use score::Scored;
 use speech_score::Said;
@@ -77,11 +77,11 @@ pub extern "C" fn hb_score(s: &[u8], dealer: u8, wind: u8) -> Scored
 
 // Slip: six lines of what Score gives for a record, a dealer and a round wind, 150 bytes at the start of a page; or the refusal, and the page as it was.
 #[no_mangle]
-pub extern "C" fn hb_slip(page: &mut [u8], s: &[u8], dealer: u8, wind: u8) -> u8
+pub extern "C" fn hb_slip(s: &[u8], dealer: u8, wind: u8, page: &mut [u8]) -> u8
     ensures { λ r. ⌜ r ≡ slipRefusal (scoreOf (now (s .entry)) dealer wind) (now (page .entry)) ⌝ }
     ensures { λ _. ⌜ now (page .exit) ≡ slipPage (scoreOf (now (s .entry)) dealer wind) (now (page .entry)) ⌝ }
 {
-    slip::slip(page, s, dealer, wind)
+    slip::slip(s, dealer, wind, page)
 }
 
 // Waits: the kinds that an unfinished hand waits for, and whether it is in furiten by a list of discards; or the refusal.
@@ -120,117 +120,117 @@ pub extern "C" fn hb_judge(s: &[u8], claim: &[u8], dealer: u8, wind: u8) -> Judg
     claim::judge(s, claim, dealer, wind)
 }
 
-// A book before its first booking.
+// A game before its first booking.
 #[no_mangle]
-pub extern "C" fn hb_fresh() -> Book
-    ensures { λ r. ⌜ r ≡ freshBook ⌝ }
+pub extern "C" fn hb_fresh_game() -> Game
+    ensures { λ r. ⌜ r ≡ freshGame ⌝ }
 {
-    bookings::fresh_book()
+    game_bookings::fresh_game()
 }
 
 // Riichi of a seat.
 #[no_mangle]
-pub extern "C" fn hb_riichi(k: &mut Book, seat: u8) -> u8
-    ensures { λ r. ⌜ Booked (now (k .entry)) (plain (Booking.riichi seat)) r (now (k .exit)) ⌝ }
+pub extern "C" fn hb_riichi(g: &mut Game, seat: u8) -> u8
+    ensures { λ r. ⌜ Books (now (g .entry)) (booking (Booking.riichi seat)) r (now (g .exit)) ⌝ }
 {
-    let b = bookings::riichi(*k, seat);
-    *k = b.book;
+    let b = game_bookings::riichi(*g, seat);
+    *g = b.game;
     b.refusal
 }
 
 // A win by a record.
 #[no_mangle]
-pub extern "C" fn hb_win(k: &mut Book, s: &[u8]) -> u8
-    ensures { λ r. ⌜ Booked (now (k .entry)) (plain (Booking.win (now (s .entry)))) r (now (k .exit)) ⌝ }
+pub extern "C" fn hb_win(g: &mut Game, s: &[u8]) -> u8
+    ensures { λ r. ⌜ Books (now (g .entry)) (booking (Booking.result (Booking.win (now (s .entry))))) r (now (g .exit)) ⌝ }
 {
-    let b = bookings::win(*k, s);
-    *k = b.book;
+    let b = game_bookings::win(*g, s);
+    *g = b.game;
     b.refusal
 }
 
 // A draw, by four bits of who is ready, seat 0 first.
 #[no_mangle]
-pub extern "C" fn hb_draw(k: &mut Book, bits: u8) -> u8
-    ensures { λ r. ⌜ Booked (now (k .entry)) (plain (Booking.draw bits)) r (now (k .exit)) ⌝ }
+pub extern "C" fn hb_draw(g: &mut Game, bits: u8) -> u8
+    ensures { λ r. ⌜ Books (now (g .entry)) (booking (Booking.result (Booking.draw bits))) r (now (g .exit)) ⌝ }
 {
-    let b = bookings::draw(*k, bits);
-    *k = b.book;
+    let b = game_bookings::draw(*g, bits);
+    *g = b.game;
     b.refusal
 }
 
 // Chombo of a seat.
 #[no_mangle]
-pub extern "C" fn hb_chombo(k: &mut Book, seat: u8) -> u8
-    ensures { λ r. ⌜ Booked (now (k .entry)) (plain (Booking.chombo seat)) r (now (k .exit)) ⌝ }
+pub extern "C" fn hb_chombo(g: &mut Game, seat: u8) -> u8
+    ensures { λ r. ⌜ Books (now (g .entry)) (booking (Booking.result (Booking.chombo seat))) r (now (g .exit)) ⌝ }
 {
-    let b = bookings::chombo(*k, seat);
-    *k = b.book;
+    let b = game_bookings::chombo(*g, seat);
+    *g = b.game;
     b.refusal
 }
 
-// Several rons on one tile: their number, and the records end to end.
+// Multiple ron: one to three rons on one tile, their number, and the records end to end.
 #[no_mangle]
-pub extern "C" fn hb_many(k: &mut Book, number: u8, records: &[u8]) -> u8
-    ensures { λ r. ⌜ Booked (now (k .entry)) (plain (Booking.many number (now (records .entry)))) r (now (k .exit)) ⌝ }
+pub extern "C" fn hb_multi_ron(g: &mut Game, number: u8, records: &[u8]) -> u8
+    ensures { λ r. ⌜ Books (now (g .entry)) (booking (Booking.result (Booking.multiRon number (now (records .entry))))) r (now (g .exit)) ⌝ }
 {
-    let b = bookings::many(*k, number, records);
-    *k = b.book;
+    let b = game_bookings::multi_ron(*g, number, records);
+    *g = b.game;
     b.refusal
 }
 
-// The feeder of a holder's yaku, 28 or 29, named for this hand.
+// Pao: the feeder of a holder's yaku, 28 or 29, named for this hand.
 #[no_mangle]
-pub extern "C" fn hb_feed(k: &mut Book, holder: u8, feeder: u8, yaku: u8) -> u8
-    ensures { λ r. ⌜ Booked (now (k .entry)) (plain (Booking.feed holder feeder yaku)) r (now (k .exit)) ⌝ }
+pub extern "C" fn hb_pao(g: &mut Game, holder: u8, feeder: u8, yaku: u8) -> u8
+    ensures { λ r. ⌜ Books (now (g .entry)) (booking (Booking.pao holder feeder yaku)) r (now (g .exit)) ⌝ }
 {
-    let b = bookings::feed(*k, holder, feeder, yaku);
-    *k = b.book;
+    let b = game_bookings::pao(*g, holder, feeder, yaku);
+    *g = b.game;
     b.refusal
 }
 
-// The correction of the last finished booking by a win, which is booked in the earlier game; 20 where there is none to supersede.
+// The correction of the last finished booking by a win, which is booked in the earlier position; 9 where the game is out of form, 20 where there is none to supersede.
 #[no_mangle]
-pub extern "C" fn hb_correct_win(k: &mut Book, s: &[u8]) -> u8
-    ensures { λ r. ⌜ Booked (now (k .entry)) (correction (Booking.win (now (s .entry)))) r (now (k .exit)) ⌝ }
+pub extern "C" fn hb_correct_win(g: &mut Game, s: &[u8]) -> u8
+    ensures { λ r. ⌜ Books (now (g .entry)) (correction (Booking.win (now (s .entry)))) r (now (g .exit)) ⌝ }
 {
-    let b = bookings::correct_win(*k, s);
-    *k = b.book;
+    let b = game_bookings::correct_win(*g, s);
+    *g = b.game;
     b.refusal
 }
 
 // The same by a draw.
 #[no_mangle]
-pub extern "C" fn hb_correct_draw(k: &mut Book, bits: u8) -> u8
-    ensures { λ r. ⌜ Booked (now (k .entry)) (correction (Booking.draw bits)) r (now (k .exit)) ⌝ }
+pub extern "C" fn hb_correct_draw(g: &mut Game, bits: u8) -> u8
+    ensures { λ r. ⌜ Books (now (g .entry)) (correction (Booking.draw bits)) r (now (g .exit)) ⌝ }
 {
-    let b = bookings::correct_draw(*k, bits);
-    *k = b.book;
+    let b = game_bookings::correct_draw(*g, bits);
+    *g = b.game;
     b.refusal
 }
 
 // The same by a chombo of a seat.
 #[no_mangle]
-pub extern "C" fn hb_correct_chombo(k: &mut Book, seat: u8) -> u8
-    ensures { λ r. ⌜ Booked (now (k .entry)) (correction (Booking.chombo seat)) r (now (k .exit)) ⌝ }
+pub extern "C" fn hb_correct_chombo(g: &mut Game, seat: u8) -> u8
+    ensures { λ r. ⌜ Books (now (g .entry)) (correction (Booking.chombo seat)) r (now (g .exit)) ⌝ }
 {
-    let b = bookings::correct_chombo(*k, seat);
-    *k = b.book;
+    let b = game_bookings::correct_chombo(*g, seat);
+    *g = b.game;
     b.refusal
 }
 
-// The same by several rons on one tile.
+// The same by a multiple ron.
 #[no_mangle]
-pub extern "C" fn hb_correct_many(k: &mut Book, number: u8, records: &[u8]) -> u8
-    ensures { λ r. ⌜ Booked (now (k .entry)) (correction (Booking.many number (now (records .entry)))) r (now (k .exit)) ⌝ }
+pub extern "C" fn hb_correct_multi_ron(g: &mut Game, number: u8, records: &[u8]) -> u8
+    ensures { λ r. ⌜ Books (now (g .entry)) (correction (Booking.multiRon number (now (records .entry)))) r (now (g .exit)) ⌝ }
 {
-    let b = bookings::correct_many(*k, number, records);
-    *k = b.book;
+    let b = game_bookings::correct_multi_ron(*g, number, records);
+    *g = b.game;
     b.refusal
 }
 
 // Next entry of a log from an offset: its kind, argument, letter and length, header included. Where there is none all is zero but the refusal, 14, or `end`.
 #[no_mangle]
-pub extern "C" fn hb_next(s: &[u8], at: usize) -> NextEntry
+pub extern "C" fn hb_log_next(s: &[u8], at: usize) -> NextEntry
     ensures { λ r. ⌜ r ≡ nextEntryOf (now (s .entry)) at ⌝ }
 {
     let part = log::next_entry(s, at);
@@ -258,27 +258,27 @@ pub extern "C" fn hb_next(s: &[u8], at: usize) -> NextEntry
     }
 }
 
-// Books the entry that bytes start with, such as the part of a log that Next entry gave, into the lent book; 14 where they start with none.
+// Books the entry that bytes start with, such as the part of a log that Next entry gave, in the lent game; 14 where they start with none.
 #[no_mangle]
-pub extern "C" fn hb_book(k: &mut Book, s: &[u8]) -> u8
-    ensures { λ r. ⌜ BookedPart (now (k .entry)) (now (s .entry)) r (now (k .exit)) ⌝ }
+pub extern "C" fn hb_book_entry(g: &mut Game, s: &[u8]) -> u8
+    ensures { λ r. ⌜ BooksEntry (now (g .entry)) (now (s .entry)) r (now (g .exit)) ⌝ }
 {
-    let b = play::book_part(*k, s);
-    *k = b.book;
+    let b = log_walk::book_entry(*g, s);
+    *g = b.game;
     b.refusal
 }
 
-// A walk over a log before its first entry, with a fresh book.
+// A walk over a log before its first entry, with a fresh game.
 #[no_mangle]
-pub extern "C" fn hb_start() -> Walk
+pub extern "C" fn hb_log_start() -> Walk
     ensures { λ r. ⌜ r ≡ started ⌝ }
 {
-    play::start()
+    log_walk::start()
 }
 
 // Books entries of a log from where a walk stands and writes their lines into a buffer, as many whole lines as fit: how many bytes, and where the walk then stands.
 #[no_mangle]
-pub extern "C" fn hb_lines(w: Walk, s: &[u8], buf: &mut [u8]) -> Printed
+pub extern "C" fn hb_log_lines(w: Walk, s: &[u8], buf: &mut [u8]) -> Printed
     ensures { λ r. ⌜ r ≡ linesOf (length (now (buf .entry))) w (now (s .entry)) ⌝ }
     ensures { λ r. ⌜ now (buf .exit) ≡ take (r .written) (textLeft w (now (s .entry))) ++ drop (r .written) (now (buf .entry)) ⌝ }
     ensures { λ r. ⌜ (83 + r .written ≤ length (now (buf .entry)) → r .walk .entry < 4294967295 → textLeft (r .walk) (now (s .entry)) ≡ []) ⌝ }
@@ -286,20 +286,26 @@ pub extern "C" fn hb_lines(w: Walk, s: &[u8], buf: &mut [u8]) -> Printed
     log_text::lines(w, s, buf)
 }
 
-// A line from a game by value.
-fn line_of(g: Game, buf: &mut [u8], entry: u32, letter: u8, refusal: u8) -> usize
-    ensures { λ r. ⌜ Lined g (now (buf .entry)) entry letter refusal r (now (buf .exit)) ⌝ }
+// A line from a position by value.
+fn line_of(p: Position, entry: u32, letter: u8, refusal: u8, buf: &mut [u8]) -> usize
+    ensures { λ r. ⌜ Lined p entry letter refusal (now (buf .entry)) r (now (buf .exit)) ⌝ }
 {
-    let scores = g.scores;
-    text::line(buf, entry, letter, refusal, scores, g.sticks)
+    let scores = p.scores;
+    text::line(buf, entry, letter, refusal, scores, p.sticks)
 }
 
-// A line of `tally` at the start of a buffer, or nothing where it does not fit: an entry's number, letter and refusal, and the lent game's scores and sticks.
+// A line of `tally` at the start of a buffer, or nothing where it does not fit: an entry's number, letter and refusal, and the lent position's scores and sticks.
 #[no_mangle]
-pub extern "C" fn hb_line(g: &Game, buf: &mut [u8], entry: u32, letter: u8, refusal: u8) -> usize
-    ensures { λ r. ⌜ Lined (now (g .entry)) (now (buf .entry)) entry letter refusal r (now (buf .exit)) ⌝ }
+pub extern "C" fn hb_log_line(
+    p: &Position,
+    entry: u32,
+    letter: u8,
+    refusal: u8,
+    buf: &mut [u8],
+) -> usize
+    ensures { λ r. ⌜ Lined (now (p .entry)) entry letter refusal (now (buf .entry)) r (now (buf .exit)) ⌝ }
 {
-    line_of(*g, buf, entry, letter, refusal)
+    line_of(*p, entry, letter, refusal, buf)
 }
 
 // Score, said: the clips of what a record is worth and who pays what, in a language, at the start of a buffer, and how many they are; or the refusal, and the
@@ -319,12 +325,12 @@ pub extern "C" fn hb_say_fu(language: u8, s: &[u8], dealer: u8, wind: u8, buf: &
     speech_fu::say_fu(language, s, dealer, wind, buf)
 }
 
-// The scores of a lent game, said, with its sticks and counters; or the refusal.
+// The scores of a lent position, said, with its sticks and counters; or the refusal.
 #[no_mangle]
-pub extern "C" fn hb_say_scores(language: u8, g: &Game, buf: &mut [u8]) -> Said
-    ensures { λ r. ⌜ SaysScores language (now (g .entry)) (now (buf .entry)) r (now (buf .exit)) ⌝ }
+pub extern "C" fn hb_say_scores(language: u8, p: &Position, buf: &mut [u8]) -> Said
+    ensures { λ r. ⌜ SaysScores language (now (p .entry)) (now (buf .entry)) r (now (buf .exit)) ⌝ }
 {
-    speech_table::say_scores(language, *g, buf)
+    speech_table::say_scores(language, *p, buf)
 }
 
 // A refusal, said: the clip of its sentence, or that of 0, accepted; or the refusal of this call.

@@ -5,7 +5,7 @@ use Prim.Native.Nat.{ℕ, zero, suc, _+_, _/_, _%_}
 use lib.Dec.{ltb, leb, eqb}
 use lib.ListN.{length, getD, drop}
 use Rattle.hand_record.specs.Record.{lengthOf, countIn}
-use Rattle.record_lengths.specs.Lengths.{isBroken, recordLength}
+use Rattle.hand_record.specs.Lengths.{isBroken, recordLength}
 
 -- "kind 4 bits (0 riichi, 1 win, 2 draw, 3 chombo)"
 abbrev pub riichiKind : ℕ
@@ -21,12 +21,12 @@ abbrev pub chomboKind : ℕ
 chomboKind = 3
 
 -- S-6: "Log kind 4"
-abbrev pub manyKind : ℕ
-manyKind = 4
+abbrev pub multiRonKind : ℕ
+multiRonKind = 4
 
 -- S-8: "In the log it is kind 5"
-abbrev pub feedKind : ℕ
-feedKind = 5
+abbrev pub paoKind : ℕ
+paoKind = 5
 
 -- S-10: "In the log it is kind 6"
 abbrev pub correctionKind : ℕ
@@ -35,7 +35,8 @@ correctionKind = 6
 -- "letter R W D C"; S-6: "letter M"; S-8: "letter P"; S-10: "letter X"
 abbrev pub letterOf : ℕ → ℕ
 letterOf kind =
-    cond (eqb kind riichiKind) 82 (cond (eqb kind winKind) 87 (cond (eqb kind drawKind) 68 (cond (eqb kind manyKind) 77 (cond (eqb kind feedKind) 80 (cond (eqb kind correctionKind) 88 67)))))
+    cond (eqb kind riichiKind) 82 (cond (eqb kind winKind) 87 (cond (eqb kind drawKind) 68
+    (cond (eqb kind multiRonKind) 77 (cond (eqb kind paoKind) 80 (cond (eqb kind correctionKind) 88 67)))))
 
 -- "Header byte: kind 4 bits": that of an entry's bytes
 abbrev pub kindIn : List ℕ → ℕ
@@ -84,21 +85,24 @@ abbrev pub winLength : ℕ → List ℕ → ℕ
 winLength argument rest = cond (eqb argument 0) (withHeader (recordLength rest)) 0
 
 -- S-6: "its argument being how many records follow"; bad: "an argument of 0 or over 3, a record with m over 4, or missing bytes"
-abbrev pub manyLength : ℕ → List ℕ → ℕ
-manyLength argument rest = cond (eqb argument 0 || ltb 3 argument) 0 (withHeader (recordsLength argument rest))
+abbrev pub multiRonLength : ℕ → List ℕ → ℕ
+multiRonLength argument rest = cond (eqb argument 0 || ltb 3 argument) 0 (withHeader (recordsLength argument rest))
 
 -- S-8: "argument 0, then a byte"; bad: "any other form is 14"
-abbrev pub feedLength : ℕ → List ℕ → ℕ
-feedLength argument rest = cond (eqb argument 0) (cond (isOtherForm rest) 0 2) 0
+abbrev pub paoLength : ℕ → List ℕ → ℕ
+paoLength argument rest = cond (eqb argument 0) (cond (isOtherForm rest) 0 2) 0
 
 -- of a kind that carries no other entry: of riichi, draw and chombo the header alone; bad: "kind over 3" other than S-6's and S-8's
 unfoldable pub lengthBy : ℕ → ℕ → List ℕ → ℕ
 lengthBy kind argument rest =
-    cond (eqb kind riichiKind) 1 (cond (eqb kind winKind) (winLength argument rest) (cond (eqb kind drawKind) 1 (cond (eqb kind chomboKind) 1 (cond (eqb kind manyKind) (manyLength argument rest) (cond (eqb kind feedKind) (feedLength argument rest) 0)))))
+    cond (eqb kind riichiKind) 1 (cond (eqb kind winKind) (winLength argument rest) (cond (eqb kind drawKind) 1 (cond (eqb kind chomboKind) 1
+    (cond (eqb kind multiRonKind) (multiRonLength argument rest) (cond (eqb kind paoKind) (paoLength argument rest) 0)))))
 
 -- S-10: "argument 0, then the replacing entry": "a win, draw, chombo or multiple ron"; bad: "another argument or another kind of entry inside is 14"
 abbrev pub correctionLength : ℕ → List ℕ → ℕ
-correctionLength argument rest = cond (eqb argument 0 && (leb winKind (kindIn rest) && leb (kindIn rest) manyKind)) (withHeader (lengthBy (kindIn rest) (argumentIn rest) (drop 1 rest))) 0
+correctionLength argument rest =
+    cond (eqb argument 0 && (leb winKind (kindIn rest) && leb (kindIn rest) multiRonKind))
+    (withHeader (lengthBy (kindIn rest) (argumentIn rest) (drop 1 rest))) 0
 
 -- how many bytes the entry has that bytes start with, "from its header on"; 0 where there is none
 unfoldable pub entryLength : List ℕ → ℕ

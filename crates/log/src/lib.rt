@@ -1,7 +1,7 @@
 // The log (01, Log; 02, S-6, S-8 and S-10): the kinds of its entries, and Next entry. The public calls take all input.
 ghost use mathlib.Core.Path.{_≡_};
 ghost use Prim.Native.Nat.{_+_, _/_, _%_, _≤_};
-ghost use Rattle.log.specs.Kinds.{letterOf, recordsLength, withHeader, winLength, manyLength, feedLength, lengthBy, correctionLength, entryLength};
+ghost use Rattle.log.specs.Kinds.{letterOf, recordsLength, withHeader, winLength, multiRonLength, paoLength, lengthBy, correctionLength, entryLength};
 ghost use Rattle.log.specs.Log.{partAt, refusalAt};
 
 // The kinds by their numbers. Each one's letter stands in `letter`, its length in `length_by`.
@@ -13,9 +13,9 @@ pub const DRAW: u8 = 2;
 
 pub const CHOMBO: u8 = 3;
 
-pub const MANY: u8 = 4;
+pub const MULTI_RON: u8 = 4;
 
-pub const FEED: u8 = 5;
+pub const PAO: u8 = 5;
 
 pub const CORRECTION: u8 = 6;
 
@@ -33,14 +33,14 @@ pub fn argument(header: u8) -> u8
     header % 16
 }
 
-// Who holds the triplets, by the byte after a feed's header: its first 2 bits.
+// Who holds the triplets, by the byte after a pao's header: its first 2 bits.
 pub fn holder(byte: u8) -> u8
     ensures { λ r. ⌜ r ≡ byte / 64 ⌝ }
 {
     byte / 64
 }
 
-// Who fed them: its next 2 bits.
+// The feeder: its next 2 bits.
 pub fn feeder(byte: u8) -> u8
     ensures { λ r. ⌜ r ≡ byte / 16 % 4 ⌝ }
 {
@@ -67,10 +67,10 @@ pub fn letter(kind: u8) -> u8
     if kind == DRAW {
         return b'D';
     }
-    if kind == MANY {
+    if kind == MULTI_RON {
         return b'M';
     }
-    if kind == FEED {
+    if kind == PAO {
         return b'P';
     }
     if kind == CORRECTION {
@@ -86,7 +86,7 @@ fn records_length(n: u8, s: &[u8]) -> usize
     let mut at: usize = 0;
     let mut left = n;
     while 0 < left {
-        let k = record_lengths::record_length(&s[at..]);
+        let k = hand_record::record_length(&s[at..]);
         if k == 0 {
             return 0;
         }
@@ -114,12 +114,12 @@ fn win_length(argument: u8, rest: &[u8]) -> usize
     if argument != 0 {
         return 0;
     }
-    with_header(record_lengths::record_length(rest))
+    with_header(hand_record::record_length(rest))
 }
 
 // The same of one to three rons on one tile: so many records follow.
-fn many_length(argument: u8, rest: &[u8]) -> usize
-    ensures { λ r. ⌜ r ≡ manyLength argument (now (rest .entry)) ⌝ }
+fn multi_ron_length(argument: u8, rest: &[u8]) -> usize
+    ensures { λ r. ⌜ r ≡ multiRonLength argument (now (rest .entry)) ⌝ }
 {
     if argument == 0 {
         return 0;
@@ -130,9 +130,9 @@ fn many_length(argument: u8, rest: &[u8]) -> usize
     with_header(records_length(argument, rest))
 }
 
-// The same of a feed: one byte follows, with its last three bits zero.
-fn feed_length(argument: u8, rest: &[u8]) -> usize
-    ensures { λ r. ⌜ r ≡ feedLength argument (now (rest .entry)) ⌝ }
+// The same of a pao: one byte follows, with its last three bits zero.
+fn pao_length(argument: u8, rest: &[u8]) -> usize
+    ensures { λ r. ⌜ r ≡ paoLength argument (now (rest .entry)) ⌝ }
 {
     if 0 < argument {
         return 0;
@@ -153,11 +153,11 @@ fn length_by(kind: u8, argument: u8, rest: &[u8]) -> usize
     if kind == WIN {
         return win_length(argument, rest);
     }
-    if kind == MANY {
-        return many_length(argument, rest);
+    if kind == MULTI_RON {
+        return multi_ron_length(argument, rest);
     }
-    if kind == FEED {
-        return feed_length(argument, rest);
+    if kind == PAO {
+        return pao_length(argument, rest);
     }
     if CHOMBO < kind {
         return 0;
@@ -165,7 +165,7 @@ fn length_by(kind: u8, argument: u8, rest: &[u8]) -> usize
     1
 }
 
-// The same of a correction: the entry follows that replaces, a win, a draw, a chombo or several rons.
+// The same of a correction: the entry follows that replaces, a win, a draw, a chombo or a multiple ron.
 fn correction_length(argument: u8, rest: &[u8]) -> usize
     ensures { λ r. ⌜ r ≡ correctionLength argument (now (rest .entry)) ⌝ }
 {
@@ -180,7 +180,7 @@ fn correction_length(argument: u8, rest: &[u8]) -> usize
     if k < WIN {
         return 0;
     }
-    if MANY < k {
+    if MULTI_RON < k {
         return 0;
     }
     with_header(length_by(k, header % 16, &rest[1..]))

@@ -4,20 +4,20 @@ ghost use mathlib.Core.List.{[], _++_};
 ghost use Prim.Native.Nat.{_+_, _≤_, _<_};
 ghost use lib.ListN.{length, take, drop};
 ghost use Rattle.text.specs.Text.{lengthIn, bufferWith};
-ghost use Rattle.play.specs.Play.{entryLine, textLeft, linesOf};
-use play::Printed;
-use play::Step;
-use play::Walk;
+ghost use Rattle.log_walk.specs.Walk.{entryLine, textLeft, linesOf};
+use log_walk::Printed;
+use log_walk::Step;
+use log_walk::Walk;
 
 // The line of entry k, booked, at the start of a buffer, or nothing where the buffer is too short.
 fn entry_line(buf: &mut [u8], k: u32, t: Step) -> usize
-    ensures { λ r. ⌜ r ≡ lengthIn (now (buf .entry)) (entryLine k (t .entry .letter) (t .entry .refusal) (t .book .game)) ⌝ }
-    ensures { λ _. ⌜ now (buf .exit) ≡ bufferWith (now (buf .entry)) (entryLine k (t .entry .letter) (t .entry .refusal) (t .book .game)) ⌝ }
-    ensures { λ _. ⌜ length (entryLine k (t .entry .letter) (t .entry .refusal) (t .book .game)) ≤ 83 ⌝ }
+    ensures { λ r. ⌜ r ≡ lengthIn (now (buf .entry)) (entryLine k (t .letter) (t .refusal) (t .game .now)) ⌝ }
+    ensures { λ _. ⌜ now (buf .exit) ≡ bufferWith (now (buf .entry)) (entryLine k (t .letter) (t .refusal) (t .game .now)) ⌝ }
+    ensures { λ _. ⌜ length (entryLine k (t .letter) (t .refusal) (t .game .now)) ≤ 83 ⌝ }
 {
-    let g = t.book.game;
-    let s = g.scores;
-    text::line(buf, k, t.entry.letter, t.entry.refusal, s, g.sticks)
+    let p = t.game.now;
+    let s = p.scores;
+    text::line(buf, k, t.letter, t.refusal, s, p.sticks)
 }
 
 // Books entries of a log, from where a walk stands, and writes their lines into a buffer, one after the other: as many whole lines as fit.
@@ -30,12 +30,12 @@ pub fn lines(w: Walk, s: &[u8], buf: &mut [u8]) -> Printed
     let mut v = w;
     let mut n = 0usize;
     while v.at < s.len() {
-        let h = v.book;
+        let g = v.game;
         let at = v.at;
         let k = v.entry;
-        let b = play::book_at(h, s, at);
-        let length = b.entry.length;
-        if length == 0 {
+        let b = log_walk::book_at(g, s, at);
+        let len = b.len;
+        if len == 0 {
             return Printed {
                 written: n,
                 walk: v,
@@ -55,11 +55,11 @@ pub fn lines(w: Walk, s: &[u8], buf: &mut [u8]) -> Printed
             };
         }
         n += m;
-        let after = b.book;
+        let after = b.game;
         v = Walk {
-            book: after,
-            at: at + length,
+            game: after,
             entry: k + 1,
+            at: at + len,
         };
     }
     Printed {

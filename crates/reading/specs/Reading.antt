@@ -7,7 +7,7 @@ use lib.Dec.{leb, eqb}
 use lib.ListN.{length, getD, replicate}
 use Rattle.tiles.specs.Below.{every, number}
 use Rattle.tiles.specs.Kinds.{isYaochu}
-use Rattle.tiles.specs.Groups.{isGroup, at, uses}
+use Rattle.tiles.specs.Groups.{isGroup, atKind, uses}
 use Rattle.reading.specs.declared.Reading.{Reading}
 
 -- "using every tile exactly once": how many tiles of kind k the groups have together
@@ -34,7 +34,7 @@ pub record IsRegular (t : List ℕ) (m win : ℕ) (r : Reading) : Type 0 where
   pub groups : r .groups ≡ codes ++ replicate m 68
   pub order : Ascends 0 codes
   pub pair : r .pair < 34
-  pub tiles : (k : ℕ) → getD t k 0 ≡ at (r .pair) 2 k + usedBy codes k
+  pub tiles : (k : ℕ) → getD t k 0 ≡ atKind (r .pair) 2 k + usedBy codes k
   pub place : r .place ≤ 4 - m
   pub holding : holds (r .pair) (r .groups) (r .place) win ≡ true
 

@@ -1,4 +1,4 @@
 pub mod Readings
 pub mod Pairs
-pub mod Judged
+pub mod Folded
 pub mod Claims

@@ -12,7 +12,7 @@ use Rattle.waits.specs.Waits.{IsWait}
 use Rattle.ready.specs.declared.Ready.{Ready}
 
 -- "melds kept and no kind over four held": y is a hand beside the melds of x, with tiles that Read's 2 to 4 let pass, 13 − 3m in order and zeros after them
-pub record Beside (x y : Held) : Type 0 where
+pub record SameMelds (x y : Held) : Type 0 where
   pub number : y .m ≡ x .m
   pub melds : y .melds ≡ x .melds
   pub sound : heldRefusal y 0 ≡ 0
@@ -30,12 +30,12 @@ swaps x y = total 34 (λ k. inOthers x k - inOthers y k)
 -- y is a ready hand n swaps from x: "The number is the fewest tiles that must be swapped for others", "any one such hand that many swaps away",
 -- "and every other ready hand with those melds needs at least as many swaps"
 pub record IsNearest (x : Held) (n : ℕ) (y : Held) : Type 0 where
-  pub hand : Beside x y
+  pub hand : SameMelds x y
   pub ready : IsReady y
   pub away : swaps x y ≡ n
-  pub fewest : (z : Held) → Beside x z → IsReady z → n ≤ swaps x z
+  pub fewest : (z : Held) → SameMelds x z → IsReady z → n ≤ swaps x z
 
 -- what the call answers of the bytes s: "The input is S-1's, with its checks 1 to 4"; refused, "all else zero" (01)
 pub data IsAnswer (s : List ℕ) : Ready → Type 0 where
-  unread : 0 < refusalOf s → IsAnswer s (record { refusal = refusalOf s; swaps = 0; hand = replicate 13 0 })
+  unreadable : 0 < refusalOf s → IsAnswer s (record { refusal = refusalOf s; swaps = 0; hand = replicate 13 0 })
   nearest : refusalOf s ≡ 0 → (n : ℕ) (y : Held) → IsNearest (heldOf s) n y → IsAnswer s (record { refusal = 0; swaps = n; hand = y .concealed })

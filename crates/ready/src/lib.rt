@@ -5,8 +5,8 @@ ghost use lib.ListN.{getD};
 ghost use Rattle.tiles.specs.Below.{total};
 ghost use Rattle.tiles.specs.Tally.{tallyOf};
 ghost use Rattle.hand.specs.Held.{inMelds};
-ghost use Rattle.ready.specs.Ready.{Beside, IsNearest, IsAnswer};
-ghost use Rattle.ready.specs.search.Written.{besideWith, Written};
+ghost use Rattle.ready.specs.Ready.{SameMelds, IsNearest, IsAnswer};
+ghost use Rattle.ready.specs.search.Written.{sameMeldsWith, Written};
 use hand::Held;
 
 // What the call gives: 0, the fewest swaps and a ready hand that many swaps away, its tiles in order and zeros after them; or the refusal and zeros.
@@ -54,10 +54,10 @@ fn written(u: [u8; 34]) -> [u8; 13]
 
 // The nearest ready hand of tiles held that are not refused.
 fn nearest_to(x: Held) -> Ready
-    requires { ⌜ (x .m ≤ 4) × Beside x x ⌝ }
-    ensures { λ r. ⌜ (r .refusal ≡ 0) × IsNearest x (r .swaps) (besideWith x (r .hand)) ⌝ }
+    requires { ⌜ (x .m ≤ 4) × SameMelds x x ⌝ }
+    ensures { λ r. ⌜ (r .refusal ≡ 0) × IsNearest x (r .swaps) (sameMeldsWith x (r .hand)) ⌝ }
 {
-    let n = nearest::nearest(hand::others_tally(x), melds_tally(x), x.m);
+    let n = ready_nearest::nearest(hand::others_tally(x), melds_tally(x), x.m);
     let u = n.hand;
     Ready {
         refusal: 0,

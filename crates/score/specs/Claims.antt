@@ -11,16 +11,16 @@ use Rattle.hand_record.specs.Record.{handOf, readOf, IsSound}
 use Rattle.reading.specs.declared.Reading.{Reading}
 use Rattle.reading.specs.Order.{Before}
 use Rattle.points.specs.Points.{sumOfFour}
-use Rattle.fu_items.specs.Fu.{fu, groupFu, added, baseAlone}
-use Rattle.value.specs.Value.{yakuman}
-use Rattle.best.specs.Best.{withYakuman, upTo}
+use Rattle.points_fu.specs.Fu.{fu, groupFu, added, baseAlone}
+use Rattle.points_value.specs.Value.{yakuman}
+use Rattle.score_best.specs.Best.{withYakuman, upTo}
 use Rattle.score.specs.declared.Scored.{Scored}
 use Rattle.score.specs.Readings.{AreReadingsOf}
-use Rattle.score.specs.Named.{wonOf, groupsOf, waysOf, partsOf, worth, IsReadingOf, ReadsWithYaku, IsReported, gainIn, scoredAs, Named}
+use Rattle.score.specs.Named.{wonOf, groupsOf, waysOf, fullReadingOf, worth, IsReadingOf, ReadsWithYaku, IsReported, gainIn, scoredAs, Named}
 use Rattle.score.specs.Score.{scoreOf, is-score}
 use Rattle.score.specs.laws.Named as laws
 use Rattle.score.specs.laws.Items as items
-use Rattle.score.specs.laws.Settled as settled
+use Rattle.score.specs.laws.HandScore as hand-score
 use Rattle.score.specs.laws.Tried as tries
 use Rattle.score.specs.laws.Changes as changes
 
@@ -40,7 +40,7 @@ module _ (h : Hand) (dealer wind : ℕ) where
   most = laws.most h dealer wind
 
   -- "each of the four groups (the reading's in its order, then the melds in the record's)" (02, S-3): the item of a regular reading's i-th group
-  pub group-item : (r : Reading) → r .shape ≡ 0 → yakuman (wonOf h dealer wind) (partsOf h r) ≡ false →
+  pub group-item : (r : Reading) → r .shape ≡ 0 → yakuman (wonOf h dealer wind) (fullReadingOf h r) ≡ false →
       (i : ℕ) → i < 4 → getD (worth h dealer wind r .items .group) i (fu 0) ≡ fu (groupFu (getD (groupsOf h r) i 0) (getD (waysOf h r) i 0))
   group-item = items.group-item h dealer wind
 
@@ -67,7 +67,7 @@ module _ (h : Hand) (dealer wind : ℕ) where
 module _ (s : List ℕ) (dealer wind : ℕ) where
   -- the score of a sound record is what the papers name for its hand
   pub scored : dealer ≤ 3 → wind ≤ 1 → IsSound s → Named (handOf (readOf s)) dealer wind (scoreOf s dealer wind)
-  scored = settled.scored s dealer wind
+  scored = hand-score.scored s dealer wind
 
   -- "The items add up to the fu reported" (02, S-3)
   pub items-total : added (scoreOf s dealer wind .items) ≡ scoreOf s dealer wind .fu

@@ -14,6 +14,6 @@ pub data IsScore (s : List ℕ) (dealer wind : ℕ) : Scored → Type 0 where
   -- "8, dealer over 3 or wind over 1"
   eight : (3 < dealer) ⊎ (1 < wind) → IsScore s dealer wind (refusedWith 8)
   -- "1 to 5": "A record that fails to read ends scoring there"
-  unread : dealer ≤ 3 → wind ≤ 1 → (n : ℕ) → readOf s .answer ≡ Refused n → IsScore s dealer wind (refusedWith n)
+  unreadable : dealer ≤ 3 → wind ≤ 1 → (n : ℕ) → readOf s .answer ≡ Refused n → IsScore s dealer wind (refusedWith n)
   -- a sound record: what the papers name for its hand
   read : dealer ≤ 3 → wind ≤ 1 → (f : Fields) → readOf s .answer ≡ Sound f → {a : Scored} → Named (handOf (readOf s)) dealer wind a → IsScore s dealer wind a

@@ -13,15 +13,15 @@ use Rattle.hand.specs.Held.{isClosed}
 use Rattle.hand.specs.Hand.{isRon, concealedTally, handTally}
 use Rattle.reading.specs.declared.Reading.{Reading}
 use Rattle.reading.specs.Reading.{IsReading}
-use Rattle.groups.specs.Melds.{meldCode, meldWay}
+use Rattle.yaku_basics.specs.Melds.{meldCode, meldWay}
 use Rattle.yaku.specs.declared.Won.{Won}
-use Rattle.yaku.specs.declared.Parts.{Parts}
+use Rattle.yaku.specs.declared.FullReading.{FullReading}
 use Rattle.points.specs.declared.Seats.{Seats}
 use Rattle.points.specs.Points.{changes}
-use Rattle.value.specs.declared.Value.{Value}
-use Rattle.fu_items.specs.Fu.{baseAlone}
-use Rattle.value.specs.Value.{valueOf}
-use Rattle.best.specs.Best.{withYaku, Over, withYakuman, upTo}
+use Rattle.points_value.specs.declared.Value.{Value}
+use Rattle.points_fu.specs.Fu.{baseAlone}
+use Rattle.points_value.specs.Value.{valueOf}
+use Rattle.score_best.specs.Best.{withYaku, Over, withYakuman, upTo}
 use Rattle.score.specs.declared.Scored.{Scored}
 use Rattle.score.specs.Readings.{readingsOf}
 
@@ -38,7 +38,7 @@ wonOf h dealer wind = record {
   situation = h .fields .situation;
   ron = isRon (h .fields);
   closed = isClosed (h .held);
-  bare = eqb (h .held .m) 0;
+  meldless = eqb (h .held .m) 0;
 }
 
 -- who wins, who deals, who discards (01, Fu and points: "ron, 4A to a child, 6A to the dealer")
@@ -57,12 +57,12 @@ unfoldable pub waysOf : Hand → Reading → List ℕ
 waysOf h r = tabulate (4 - h .held .m) 0 (λ i. cond (isRon (h .fields) && eqb (r .place) (i + 1)) 1 0) ++ map meldWay (take (h .held .m) (h .held .melds))
 
 -- the reading with the melds
-unfoldable pub partsOf : Hand → Reading → Parts
-partsOf h r = record { shape = r .shape; pair = r .pair; groups = groupsOf h r; ways = waysOf h r; place = r .place }
+unfoldable pub fullReadingOf : Hand → Reading → FullReading
+fullReadingOf h r = record { shape = r .shape; pair = r .pair; groups = groupsOf h r; ways = waysOf h r; place = r .place }
 
 -- its yaku, h, fu item by item and "winner's gain" (01, Yaku; Fu and points); "Dora is the kind after the indicator"
 unfoldable pub worth : Hand → ℕ → ℕ → Reading → Value
-worth h dealer wind r = valueOf (wonOf h dealer wind) (partsOf h r) (doraOf (h .fields .indicator)) (seatsOf h dealer)
+worth h dealer wind r = valueOf (wonOf h dealer wind) (fullReadingOf h r) (doraOf (h .fields .indicator)) (seatsOf h dealer)
 
 -- ---- what is answered
 

@@ -1,11 +1,11 @@
-pub mod Parts
+pub mod FullReading
 pub mod Paid
 pub mod Found
 pub mod Best
 pub mod Named
 pub mod Items
 pub mod Exact
-pub mod Settled
+pub mod HandScore
 pub mod Written
 pub mod Tried
 pub mod Z

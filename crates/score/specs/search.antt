@@ -1,2 +1,2 @@
-pub mod Setting
-pub mod Settled
+pub mod HandCommon
+pub mod HandScore

@@ -6,20 +6,20 @@ ghost use Prim.Native.Nat.{_-_, _<_, _≤_};
 ghost use lib.Dec.{ltb};
 ghost use lib.ListN.{getD};
 ghost use Rattle.hand.specs.Refusals.{wrongDiscarder};
-ghost use Rattle.groups.specs.Melds.{meldCode, meldWay};
-ghost use Rattle.setting.specs.search.Setting.{Ready};
+ghost use Rattle.yaku_basics.specs.Melds.{meldCode, meldWay};
+ghost use Rattle.score_best.specs.search.HandCommon.{IsHandCommon};
 ghost use Rattle.score.specs.Named.{wonOf, refusedWith, acceptedAs, Named};
-ghost use Rattle.score.specs.search.Setting.{meldCodes, meldWays, settingOf};
-ghost use Rattle.score.specs.search.Settled.{settledOf};
+ghost use Rattle.score.specs.search.HandCommon.{meldCodes, meldWays, handCommonOf};
+ghost use Rattle.score.specs.search.HandScore.{handScoreOf};
 ghost use Rattle.score.specs.IsScore.{IsScore};
 ghost use Rattle.score.specs.Score.{scoreOf};
-use fu_items::Items;
 use hand::Hand;
 use hand_record::Answer;
 use points::Seats;
-use setting::Setting;
+use points_fu::Items;
+use points_value::Value;
+use score_best::HandCommon;
 use units::Fu;
-use value::Value;
 use yaku::Won;
 
 // What Score gives: 0 and h, fu, the items that add up to it, the yaku set (yaku n at n), how many readings were tried and the four changes, or the
@@ -52,7 +52,7 @@ fn won_of(h: Hand, dealer: u8, wind: u8) -> Won
         situation: f.situation,
         ron: f.how == 1,
         closed: hand::is_closed(x),
-        bare: x.m == 0,
+        meldless: x.m == 0,
     }
 }
 
@@ -65,7 +65,7 @@ fn code_at(d: [u8; 4], m: u8, i: u8) -> u8
     if i < free {
         68
     } else {
-        groups::meld_code(d[(i - free) as usize])
+        yaku_basics::meld_code(d[(i - free) as usize])
     }
 }
 
@@ -78,7 +78,7 @@ fn way_at(d: [u8; 4], m: u8, i: u8) -> u8
     if i < free {
         0
     } else {
-        groups::meld_way(d[(i - free) as usize])
+        yaku_basics::meld_way(d[(i - free) as usize])
     }
 }
 
@@ -115,13 +115,13 @@ fn meld_ways(h: Hand) -> [u8; 4]
 }
 
 // What is the same in every reading of the hand.
-pub fn setting_of(h: Hand, dealer: u8, wind: u8) -> Setting
+pub fn hand_common_of(h: Hand, dealer: u8, wind: u8) -> HandCommon
     requires { ⌜ (h .held .m ≤ 4) × (h .fields .winner ≤ 3) × (dealer ≤ 3) × (wind ≤ 1) ⌝ }
-    ensures { λ r. ⌜ (r ≡ settingOf h dealer wind) × Ready r ⌝ }
+    ensures { λ r. ⌜ (r ≡ handCommonOf h dealer wind) × IsHandCommon r ⌝ }
 {
     let won = won_of(h, dealer, wind);
     let t = won.tally;
-    let tests = tile_yaku::tile_tests(t, won.bare);
+    let tests = yaku_tiles::tile_tests(t, won.meldless);
     let codes = meld_codes(h);
     let ways = meld_ways(h);
     let seats = Seats {
@@ -129,7 +129,7 @@ pub fn setting_of(h: Hand, dealer: u8, wind: u8) -> Setting
         dealer,
         discarder: h.fields.discarder,
     };
-    Setting {
+    HandCommon {
         won,
         tests,
         seats,
@@ -145,7 +145,7 @@ fn refused(n: u8) -> Scored
 {
     let none = [false; 37];
     let zero = [0i32; 4];
-    let items = fu_items::base_alone(Fu(0));
+    let items = points_fu::base_alone(Fu(0));
     Scored {
         refusal: n,
         h: 0,
@@ -179,14 +179,14 @@ fn accepted(v: Value, s: Seats, ron: bool, tried: u32) -> Scored
 
 // What a hand that read as sound scores, the answer that the papers name for it: an inner call of Score and of the game. That a ron is from another
 // seat makes each yakuman a paid one, at which the search may end.
-pub fn settle(h: Hand, dealer: u8, wind: u8) -> Scored
+pub fn score_hand(h: Hand, dealer: u8, wind: u8) -> Scored
     requires { ⌜ (h .held .m ≤ 4) × (h .fields .winner ≤ 3) × (dealer ≤ 3) × (wind ≤ 1) × (h .fields .discarder ≤ 3) × (wrongDiscarder (h .fields) ≡ false) ⌝ }
     ensures { λ r. ⌜ Named h dealer wind r ⌝ }
-    ensures { λ r. ⌜ r ≡ settledOf h dealer wind ⌝ }
+    ensures { λ r. ⌜ r ≡ handScoreOf h dealer wind ⌝ }
 {
-    let t = setting_of(h, dealer, wind);
+    let t = hand_common_of(h, dealer, wind);
     let c = hand::concealed_tally(h);
-    let b = search::best_of(t, c, h.held.m, h.fields.winning);
+    let b = score_search::best_of(t, c, h.held.m, h.fields.winning);
     if 0 < b.tried {
         if b.valued {
             let v = b.value;
@@ -217,5 +217,5 @@ pub fn score(s: &[u8], dealer: u8, wind: u8) -> Scored
     };
     let held = r.held;
     let h = Hand { fields: f, held };
-    settle(h, dealer, wind)
+    score_hand(h, dealer, wind)
 }

@@ -7,8 +7,8 @@ use lib.ListN.{length, getD, drop}
 use Rattle.yaku.specs.Yaku.{isYakuman}
 use Rattle.score.specs.declared.Scored.{Scored}
 use Rattle.text.specs.Text.{digitsOf, scoreText}
-use Rattle.slip_lines.specs.Words.{bytesOf}
-use Rattle.slip_lines.specs.Line.{slipLine, labels}
+use Rattle.text.specs.Words.{bytesOf}
+use Rattle.slip.specs.Line.{slipLine, labels}
 
 -- "HAN carries h and the seats the four changes of a scored hand, with a minus where negative"; FU carries fu.
 -- "A yakuman has the value YAKUMAN on the first line and 0 on the second."

@@ -1,3 +1,5 @@
+pub mod Line
+pub mod Lines
 pub mod Text
 pub mod Score
 pub mod Short

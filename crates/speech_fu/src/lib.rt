@@ -7,7 +7,7 @@ ghost use Rattle.speech_told.specs.Phrases.{countedClips};
 ghost use Rattle.score.specs.Score.{scoreOf};
 ghost use Rattle.speech_score.specs.Said.{Answers};
 ghost use Rattle.speech_told.specs.Messages.{groupAt, itemsClips, fuMessage};
-use fu_items::Items;
+use points_fu::Items;
 use score::Scored;
 use speech_score::Said;
 use units::Fu;

@@ -40,7 +40,7 @@ fn put_pays(buf: &mut [u8], at: usize, language: u8, dealer: u8, seat: u8, chang
     requires { ⌜ (at + 30 ≤ length (now buf)) × (seat ≤ 3) ⌝ }
     ensures { λ r. ⌜ Put (now (buf .entry)) at (paysClips language dealer seat change) (now (buf .exit)) r × (r ≤ at + 16) ⌝ }
 {
-    let n = text::size(change);
+    let n = text::absolute(change);
     let who = player(dealer, seat);
     if change < 0 {
         return put_amount(buf, at, language, who, 66, n);
@@ -161,7 +161,7 @@ pub fn put_score(buf: &mut [u8], at: usize, language: u8, dealer: u8, seat: u8, 
     requires { ⌜ (at + 30 ≤ length (now buf)) × (seat ≤ 3) ⌝ }
     ensures { λ r. ⌜ Put (now (buf .entry)) at (scoreClips language dealer seat score) (now (buf .exit)) r × (r ≤ at + 16) ⌝ }
 {
-    let n = text::size(score);
+    let n = text::absolute(score);
     let i = put_clip(buf, at, player(dealer, seat));
     if score < 0 {
         let j = put_clip(buf, i, 76);

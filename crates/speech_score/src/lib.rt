@@ -66,7 +66,7 @@ fn gain_of(c: [i32; 4], winner: u8) -> u32
     requires { ⌜ winner ≤ 3 ⌝ }
     ensures { λ r. ⌜ r ≡ natAbs (getD c winner (pos 0)) ⌝ }
 {
-    text::size(c[winner as usize])
+    text::absolute(c[winner as usize])
 }
 
 // The winner, the way of winning and the yaku, at the start of a buffer.

@@ -5,14 +5,14 @@ use mathlib.Core.List.{List·Memᴰ as Member}
 use Prim.Native.Nat.{ℕ, _≤_, _<_}
 use lib.IntN.{pos, natAbs}
 use lib.ListN.{length, getD}
-use Rattle.ledger.specs.declared.Game.{Game}
+use Rattle.position.specs.declared.Position.{Position}
 use Rattle.waits.specs.declared.Waits.{Waits}
 use Rattle.speech_told.specs.Sheet.{hasClip}
 use Rattle.speech_table.specs.Messages.{scoresMessage, waitsMessage, readyMessage}
 use Rattle.speech_table.specs.laws.Short as laws
 
 -- of any game whose numbers have 32 bits
-module _ (l : ℕ) (g : Game) (scores : (k : ℕ) → natAbs (getD (g .scores) k (pos 0)) < 4294967296) (sticks : g .sticks < 4294967296) (counter : g .counter < 4294967296) where
+module _ (l : ℕ) (g : Position) (scores : (k : ℕ) → natAbs (getD (g .scores) k (pos 0)) < 4294967296) (sticks : g .sticks < 4294967296) (counter : g .counter < 4294967296) where
   pub scores-short : length (scoresMessage l g) ≤ 92
   scores-short = laws.scores-short l g scores sticks counter
 

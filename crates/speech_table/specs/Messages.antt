@@ -6,7 +6,7 @@ use lib.Dec.{eqb}
 use lib.IntN.{ℤ, pos}
 use lib.ListN.{getD}
 use Rattle.tiles.specs.Below.{some}
-use Rattle.ledger.specs.declared.Game.{Game}
+use Rattle.position.specs.declared.Position.{Position}
 use Rattle.waits.specs.declared.Waits.{Waits}
 use Rattle.ready.specs.declared.Ready.{Ready}
 use Rattle.ready.specs.Ready.{IsAnswer}
@@ -21,11 +21,11 @@ fourScores l dealer s =
     scoreClips l dealer 0 (getD s 0 (pos 0)) ++ (scoreClips l dealer 1 (getD s 1 (pos 0)) ++ (scoreClips l dealer 2 (getD s 2 (pos 0)) ++ scoreClips l dealer 3 (getD s 3 (pos 0))))
 
 -- "Scores of a game: ..; 77 and the sticks where there are any; 78 and the counters where there are any"
-unfoldable pub scoresMessage : ℕ → Game → List ℕ
+unfoldable pub scoresMessage : ℕ → Position → List ℕ
 scoresMessage l g = fourScores l (g .dealer) (g .scores) ++ (countedClips l 77 (g .sticks) ++ countedClips l 78 (g .counter))
 
 -- what a call that says it answers, with the buffer before and after: "Any value of the game may be given"
-abbrev pub SaysScores : ℕ → Game → List ℕ → Said → List ℕ → Type 0
+abbrev pub SaysScores : ℕ → Position → List ℕ → Said → List ℕ → Type 0
 SaysScores l g old r new = Answers l 0 (scoresMessage l g) old r new
 
 -- "Waits ..: 79 and the tiles ascending, or 80; 81 where it is in furiten"

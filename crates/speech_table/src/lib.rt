@@ -8,7 +8,7 @@ ghost use Rattle.text.specs.laws.Put.{Put};
 ghost use Rattle.waits.specs.Answer.{waitsOf};
 ghost use Rattle.speech_score.specs.Said.{Answers};
 ghost use Rattle.speech_table.specs.Messages.{fourScores, scoresMessage, waitsMessage, readyMessage, SaysReady, SaysScores};
-use ledger::Game;
+use position::Position;
 use speech_score::Said;
 use waits::Waits;
 
@@ -24,7 +24,7 @@ fn put_four(buf: &mut [u8], language: u8, dealer: u8, s: [i32; 4]) -> usize
 }
 
 // The message of a game's scores, in a buffer with room for the work.
-fn put_scores(buf: &mut [u8], language: u8, g: Game) -> usize
+fn put_scores(buf: &mut [u8], language: u8, g: Position) -> usize
     requires { ⌜ 192 ≤ length (now buf) ⌝ }
     ensures { λ r. ⌜ Put (now (buf .entry)) 0 (scoresMessage language g) (now (buf .exit)) r × (r ≤ 92) ⌝ }
 {
@@ -35,7 +35,7 @@ fn put_scores(buf: &mut [u8], language: u8, g: Game) -> usize
 }
 
 // A game's scores, said; any value of the game may be given.
-pub fn say_scores(language: u8, g: Game, buf: &mut [u8]) -> Said
+pub fn say_scores(language: u8, g: Position, buf: &mut [u8]) -> Said
     ensures { λ r. ⌜ SaysScores language g (now (buf .entry)) r (now (buf .exit)) ⌝ }
 {
     if !speech_score::is_known(language) {

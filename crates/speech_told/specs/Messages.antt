@@ -8,8 +8,8 @@ use Rattle.units.specs.declared.Fu.{Fu}
 use Rattle.hand.specs.Hand.{isRon}
 use Rattle.hand_record.specs.Record.{handOf, readOf}
 use Rattle.yaku.specs.Yaku.{isYakuman}
-use Rattle.fu_items.specs.declared.Items.{Items}
-use Rattle.fu_items.specs.Fu.{fu}
+use Rattle.points_fu.specs.declared.Items.{Items}
+use Rattle.points_fu.specs.Fu.{fu}
 use Rattle.score.specs.declared.Scored.{Scored}
 use Rattle.score.specs.Score.{scoreOf}
 use Rattle.speech_numerals.specs.Numerals.{numeral}

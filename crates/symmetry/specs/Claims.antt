@@ -7,31 +7,31 @@ use lib.IntN.{pos}
 use lib.ListN.{getD}
 use Rattle.hand_record.specs.Record.{handOf, readOf, IsSound}
 use Rattle.score.specs.Score.{scoreOf}
-use Rattle.symmetry.specs.Turned.{on, turnedHand, turnedRecord, turnedScore}
+use Rattle.symmetry.specs.Rotated.{on, rotatedHand, rotatedRecord, rotatedScore}
 use Rattle.symmetry.specs.Renamed.{IsRenaming, renamedHand, renamedRecord, isAllGreen, SameScore, Tie}
 use Rattle.symmetry.specs.laws.Kinds as kinds
-use Rattle.symmetry.specs.laws.Turned as turned
+use Rattle.symmetry.specs.laws.Rotated as rotated
 use Rattle.symmetry.specs.laws.Renamed as renamed
 
 -- ---- "moving winner, discarder and dealer on by the same number of seats": by n
 
 module _ (n : ℕ) (s : List ℕ) (i : IsSound s) where
   -- the record with the seats moved on is sound
-  pub turned-sound : IsSound (turnedRecord n s)
-  turned-sound = turned.turned-sound n s i
+  pub rotated-sound : IsSound (rotatedRecord n s)
+  rotated-sound = rotated.rotated-sound n s i
 
   -- and it is the hand's with the seats moved on
-  pub turned-hand : handOf (readOf (turnedRecord n s)) ≡ turnedHand n (handOf (readOf s))
-  turned-hand = turned.turned-hand n s i
+  pub rotated-hand : handOf (readOf (rotatedRecord n s)) ≡ rotatedHand n (handOf (readOf s))
+  rotated-hand = rotated.rotated-hand n s i
 
   -- "in a sound record, with a dealer up to 3, moving .. moves the four changes on by that number and alters nothing else": whatever the wind
-  pub turned-scores : (dealer wind : ℕ) → dealer ≤ 3 → scoreOf (turnedRecord n s) (on n dealer) wind ≡ turnedScore n (scoreOf s dealer wind)
-  turned-scores = turned.turned-score n s i
+  pub rotated-scores : (dealer wind : ℕ) → dealer ≤ 3 → scoreOf (rotatedRecord n s) (on n dealer) wind ≡ rotatedScore n (scoreOf s dealer wind)
+  rotated-scores = rotated.rotated-score n s i
 
   -- "moves the four changes on by that number": seat by seat
   pub change-moves : (dealer wind seat : ℕ) → dealer ≤ 3 → seat < 4 →
-      getD (scoreOf (turnedRecord n s) (on n dealer) wind .changes) (on n seat) (pos 0) ≡ getD (scoreOf s dealer wind .changes) seat (pos 0)
-  change-moves = turned.change-moves n s i
+      getD (scoreOf (rotatedRecord n s) (on n dealer) wind .changes) (on n seat) (pos 0) ≡ getD (scoreOf s dealer wind .changes) seat (pos 0)
+  change-moves = rotated.change-moves n s i
 
 -- ---- "any renaming of the three suits": by σ
 

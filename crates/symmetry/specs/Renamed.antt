@@ -15,10 +15,10 @@ use Rattle.hand.specs.Held.{meldKind, meldTile, others}
 use Rattle.hand.specs.Hand.{handTally}
 use Rattle.hand_record.specs.Record.{handOf, readOf, recordOf}
 use Rattle.reading.specs.declared.Reading.{Reading}
-use Rattle.tile_yaku.specs.OfTiles.{only, isGreen}
-use Rattle.fu_items.specs.declared.Items.{Items}
-use Rattle.fu_items.specs.Fu.{fu}
-use Rattle.best.specs.Best.{figures}
+use Rattle.yaku_tiles.specs.OfTiles.{only, isGreen}
+use Rattle.points_fu.specs.declared.Items.{Items}
+use Rattle.points_fu.specs.Fu.{fu}
+use Rattle.score_best.specs.Best.{figures}
 use Rattle.score.specs.declared.Scored.{Scored}
 use Rattle.score.specs.Named.{worth, ReadsWithYaku, IsReported}
 

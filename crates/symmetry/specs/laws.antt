@@ -1,5 +1,5 @@
 pub mod Seats
-pub mod Turned
+pub mod Rotated
 pub mod Kinds
 pub mod Codes
 pub mod Sorted

@@ -1,5 +1,5 @@
 pub mod Digits
 pub mod Back
 pub mod Put
-pub mod Size
+pub mod Absolute
 pub mod Examples

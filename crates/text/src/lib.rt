@@ -22,7 +22,7 @@ fn digits(buf: &mut [u8], at: usize, n: u32) -> usize
 }
 
 // How far n is from zero.
-pub fn size(n: i32) -> u32
+pub fn absolute(n: i32) -> u32
     ensures { λ r. ⌜ r ≡ natAbs n ⌝ }
 {
     if n < 0 {
@@ -36,7 +36,7 @@ pub fn signed(buf: &mut [u8], at: usize, n: i32) -> usize
     requires { ⌜ at + length (signedOf n) ≤ length (now buf) ⌝ }
     ensures { λ r. ⌜ Put (now (buf .entry)) at (signedOf n) (now (buf .exit)) r ⌝ }
 {
-    let m = size(n);
+    let m = absolute(n);
     if n < 0 {
         buf[at] = b'-';
         return digits(buf, at + 1, m);

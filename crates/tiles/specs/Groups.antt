@@ -17,9 +17,9 @@ unfoldable pub isGroup : ℕ → Bool
 isGroup c = cond (isRun c) (isRunStart c) (ltb c 68)
 
 -- n at the kind a, 0 at any other kind k: a tool for counts by kind
-unfoldable pub at : ℕ → ℕ → ℕ → ℕ
-at a n k = cond (eqb a k) n 0
+unfoldable pub atKind : ℕ → ℕ → ℕ → ℕ
+atKind a n k = cond (eqb a k) n 0
 
 -- how many tiles of kind k the group c has, for "using every tile exactly once": a run one of each, a triplet three
 unfoldable pub uses : ℕ → ℕ → ℕ
-uses c k = cond (isRun c) (at c 1 k + at (c + 1) 1 k + at (c + 2) 1 k) (at (c - 34) 3 k)
+uses c k = cond (isRun c) (atKind c 1 k + atKind (c + 1) 1 k + atKind (c + 2) 1 k) (atKind (c - 34) 3 k)

@@ -53,7 +53,7 @@ refusalOf s = cond (wrongLength (length s) (countIn s)) 1 (heldRefusal (heldOf s
 
 -- an input that meets none of them
 pub record IsSound (s : List ℕ) : Type 0 where
-  pub length : wrongLength (length s) (countIn s) ≡ false
+  pub len : wrongLength (length s) (countIn s) ≡ false
   pub held : wrongHeld (heldOf s) (paddingOf s) ≡ false
   pub order : descends (heldOf s) ≡ false
   pub four : overFour (inHeld (heldOf s)) ≡ false

@@ -36,14 +36,14 @@ fn refused(n: u8) -> Unfinished
 fn held_refusal(x: Held, padding: u32) -> u8
     ensures { λ r. ⌜ r ≡ heldRefusal x padding ⌝ }
 {
-    if faults::wrong_held(x, padding) {
+    if hand_refusals::wrong_held(x, padding) {
         return 2;
     }
-    if faults::descends(x) {
+    if hand_refusals::descends(x) {
         return 3;
     }
     let t = hand::held_tally(x);
-    if faults::over_four(t) {
+    if hand_refusals::over_four(t) {
         return 4;
     }
     0

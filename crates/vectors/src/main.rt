@@ -4,9 +4,9 @@
 ghost use mathlib.Core.Path.{_≡_};
 ghost use Prim.Native.Nat.{_+_, _<_, _≤_};
 ghost use lib.ListN.{length};
-use fu_items::Items;
 use libc::STDIN_FILENO;
 use libc::STDOUT_FILENO;
+use points_fu::Items;
 use score::Scored;
 
 fn wide(x: u8) -> u64
@@ -37,7 +37,7 @@ fn tall(x: u16) -> u64 {
 fn is_change(n: u64, c: i32) -> bool
     requires { ⌜ n < 4294967296 ⌝ }
 {
-    let size = long(text::size(c));
+    let size = long(text::absolute(c));
     if c < 0 {
         n + size == 4294967296
     } else {
@@ -120,7 +120,7 @@ fn say(n: u64, text: &[u8]) {
 }
 
 // 1 where the entry agrees; where it differs, its number n is said.
-fn judged(e: &[u8], n: u64) -> u64
+fn compared(e: &[u8], n: u64) -> u64
     requires { ⌜ length (now e) ≡ 54 ⌝ }
     ensures { λ r. ⌜ r ≤ 1 ⌝ }
 {
@@ -140,7 +140,7 @@ fn main() {
             break;
         }
         n += 1;
-        agree += judged(&e, n);
+        agree += compared(&e, n);
     }
     say(agree, b" agree\n");
     say(n - agree, b" differ\n");

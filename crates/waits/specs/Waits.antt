@@ -5,7 +5,7 @@ use mathlib.Core.List.{List, List·Memᴰ as Member}
 use mathlib.Core.Logic.{_↔_}
 use Prim.Native.Nat.{ℕ, _+_, _<_}
 use lib.ListN.{length, getD, replicate}
-use Rattle.tiles.specs.Groups.{at}
+use Rattle.tiles.specs.Groups.{atKind}
 use Rattle.tiles.specs.Tally.{tallyOf}
 use Rattle.hand.specs.declared.Held.{Held}
 use Rattle.hand.specs.Held.{inOthers, inHeld}
@@ -16,7 +16,7 @@ use Rattle.waits.specs.declared.Waits.{Waits}
 
 -- "when added": the concealed tiles with one of kind k more
 unfoldable pub withOne : Held → ℕ → List ℕ
-withOne x k = tallyOf (λ j. inOthers x j + at k 1 j)
+withOne x k = tallyOf (λ j. inOthers x j + atKind k 1 j)
 
 -- "kinds that give a reading when added, yaku or not. A kind already held four times is never among them"
 pub record IsWait (x : Held) (k : ℕ) : Type 0 where
@@ -40,7 +40,7 @@ refusedWith n = record { refusal = n; waits = replicate 34 false; furiten = fals
 -- what the call answers of the bytes s of an unfinished hand and a list of discards
 pub data IsWaits (s discards : List ℕ) : Waits → Type 0 where
   -- "Read's checks 1 to 4"
-  unread : 0 < refusalOf s → IsWaits s discards (refusedWith (refusalOf s))
+  unreadable : 0 < refusalOf s → IsWaits s discards (refusedWith (refusalOf s))
   -- "It refuses a discard over 33 with 15, after the checks above"
   fifteen : refusalOf s ≡ 0 → OverAmong discards → IsWaits s discards (refusedWith 15)
   -- "the set of kinds"; "in furiten exactly when a discarded kind is a wait"

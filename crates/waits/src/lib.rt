@@ -9,7 +9,7 @@ ghost use Rattle.waits.specs.Waits.{refusedWith, IsWaits};
 ghost use Rattle.waits.specs.Answer.{waitsOf};
 ghost use Rattle.waits.specs.search.Found.{reads as readsOf, waitSet, someIn};
 ghost use Rattle.waits.specs.search.Over.{sortOf, ofSort};
-ghost use Rattle.splits.specs.search.Parts.{isParts};
+ghost use Rattle.reading_splits.specs.search.SplitsInto.{splitsInto};
 use hand::Held;
 
 // What the call gives: 0, the set of waits and furiten; or the refusal, no wait and no furiten.
@@ -33,19 +33,19 @@ fn refused(n: u8) -> Waits
 
 // The tiles have a reading with m melds: a pair and groups, which is asked only where they may be, or without melds seven pairs or thirteen orphans.
 fn reads(t: [u8; 34], m: u8, may: bool) -> bool
-    requires { ⌜ (m ≤ 4) × (may ≡ false → isParts (suc (4 - m)) true t ≡ false) ⌝ }
+    requires { ⌜ (m ≤ 4) × (may ≡ false → splitsInto (suc (4 - m)) true t ≡ false) ⌝ }
     ensures { λ r. ⌜ r ≡ readsOf t m ⌝ }
 {
     let mut s = false;
     if may {
-        s = splits::splits(t, 4 - m);
+        s = reading_splits::splits(t, 4 - m);
     }
     s | ((m == 0) & (reading_steps::is_seven_pairs(t) | reading_steps::is_orphans(t)))
 }
 
 // A kind of which n are held is a wait of the concealed tiles t; with it they may be a pair and groups, or are none.
 fn is_wait(t: [u8; 34], n: u8, m: u8, k: u8, may: bool) -> bool
-    requires { ⌜ (m ≤ 4) × (getD t k 0 ≤ 13) × (may ≡ false → isParts (suc (4 - m)) true (more t k 1) ≡ false) ⌝ }
+    requires { ⌜ (m ≤ 4) × (getD t k 0 ≤ 13) × (may ≡ false → splitsInto (suc (4 - m)) true (more t k 1) ≡ false) ⌝ }
     ensures { λ r. ⌜ r ≡ (ltb n 4 && readsOf (more t k 1) m) ⌝ }
 {
     if n < 4 {
@@ -96,7 +96,7 @@ fn one(b: bool) -> u8
 // The suits and honours of which a tile more may make a pair and groups: those with tiles over threes, where there are two at most.
 fn open_sorts(t: &[u8; 34]) -> [bool; 10]
     requires { ⌜ (length (now t) ≡ 34) × ((k : ℕ) → getD (now t) k 0 ≤ 13) ⌝ }
-    ensures { λ r. ⌜ ((k n : ℕ) → k < 34 → getD r (sortOf k) false ≡ false → isParts (suc n) true (more (now (t .entry)) k 1) ≡ false) ⌝ }
+    ensures { λ r. ⌜ ((k n : ℕ) → k < 34 → getD r (sortOf k) false ≡ false → splitsInto (suc n) true (more (now (t .entry)) k 1) ≡ false) ⌝ }
 {
     let mut o = [false; 10];
     let mut n: u8 = 0;

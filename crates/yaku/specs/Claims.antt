@@ -6,10 +6,10 @@ use lib.ListN.{getD}
 use Rattle.tiles.specs.Below.{all}
 use Rattle.yaku.specs.Yaku.{closedOnly, testsOf, isYakuman, yakuOf}
 use Rattle.yaku.specs.declared.Won.{Won}
-use Rattle.yaku.specs.declared.Parts.{Parts}
+use Rattle.yaku.specs.declared.FullReading.{FullReading}
 use Rattle.yaku.specs.laws.Claims as laws
 
-module _ (w : Won) (p : Parts) where
+module _ (w : Won) (p : FullReading) where
   -- "c" closed only
   pub closed-only : w .closed ≡ false → all 8 (λ i. not (getD (testsOf w p) (getD closedOnly i 0) false)) ≡ true
   closed-only e = laws.closed-only w p e

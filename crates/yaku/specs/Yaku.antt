@@ -6,21 +6,21 @@ use lib.ListN.{getD}
 use lib.Dec.{eqb, leb, ltb}
 use Rattle.tiles.specs.Below.{any, tabulate, some}
 use Rattle.tiles.specs.Kinds.{isHonour, isTerminal, isYaochu, isSimple}
-use Rattle.tile_yaku.specs.OfTiles.{only, honourPresent, halfFlush, flush, isGreen, gates}
-use Rattle.groups.specs.Tests.{littleDragons, valueHan, pinfu, twins, inThreeSuits, straight, outside, triplets, concealed, kans, dragons, fourWinds}
+use Rattle.yaku_tiles.specs.OfTiles.{only, honourPresent, halfFlush, flush, isGreen, gates}
+use Rattle.yaku_basics.specs.Tests.{littleDragons, valueHan, pinfu, twins, inThreeSuits, straight, outside, triplets, concealed, kans, dragons, fourWinds}
 use Rattle.yaku.specs.declared.Won.{Won}
-use Rattle.yaku.specs.declared.Parts.{Parts}
+use Rattle.yaku.specs.declared.FullReading.{FullReading}
 
 -- the yaku marked "c": "closed only"
 abbrev pub closedOnly : List ℕ
 closedOnly = 1 ∷ 4 ∷ 5 ∷ 10 ∷ 11 ∷ 12 ∷ 21 ∷ 30 ∷ []
 
 -- 3 "value triplet 1 each": how many han it counts
-abbrev pub valueHanOf : Won → Parts → ℕ
+abbrev pub valueHanOf : Won → FullReading → ℕ
 valueHanOf w p = valueHan (p .groups) (w .round) (w .own) (littleDragons (p .groups) (p .pair))
 
 -- each of the 36 (01, Yaku), whatever the others say; "c" is `w .closed`
-unfoldable pub testsOf : Won → Parts → List Bool
+unfoldable pub testsOf : Won → FullReading → List Bool
 testsOf w p =
     false
     -- 1 "tsumo c"
@@ -92,7 +92,7 @@ testsOf w p =
     -- 34 "only sou 2 3 4 6 8 and hatsu"
     ∷ only (w .tally) isGreen
     -- 35 "m = 0, one suit's 1112345678999 and one more of it"
-    ∷ gates (w .tally) (w .bare)
+    ∷ gates (w .tally) (w .meldless)
     -- 36 "thirteen orphans"
     ∷ eqb (p .shape) 2
     ∷ []
@@ -106,7 +106,7 @@ unfoldable pub listed : List Bool → List Bool
 listed y = cond (isYakuman y) (tabulate 37 0 (λ n. leb 26 n && getD y n false)) y
 
 -- the "yaku set" of a reading (01, Score)
-unfoldable pub yakuOf : Won → Parts → List Bool
+unfoldable pub yakuOf : Won → FullReading → List Bool
 yakuOf w p = listed (testsOf w p)
 
 -- "with a yaku": one is listed

@@ -1,12 +1,12 @@
 // The 36 yaku of a reading, and which of them are listed.
 ghost use mathlib.Core.Path.{_≡_};
 ghost use Prim.Native.Nat.{_<_, _≤_};
-ghost use Rattle.groups.specs.Tests.{concealed, kans};
-ghost use Rattle.tile_yaku.specs.search.TileTests.{tileTestsOf};
+ghost use Rattle.yaku_basics.specs.Tests.{concealed, kans};
+ghost use Rattle.yaku_tiles.specs.search.TileTests.{tileTestsOf};
 ghost use Rattle.yaku.specs.Yaku.{testsOf, isYakuman, listed as listedOf, yakuOf, hasYaku};
 ghost use Rattle.yaku.specs.search.Common.{groupTestsOf, placeTestsOf};
-use tile_yaku::TileTests;
 use units::Han;
+use yaku_tiles::TileTests;
 
 // What is the same in every reading of a hand. The tally has all tiles, kans whole; round and own are kinds of wind;
 // bare is a hand with no meld.
@@ -19,13 +19,13 @@ pub struct Won {
     pub situation: u8,
     pub ron: bool,
     pub closed: bool,
-    pub bare: bool,
+    pub meldless: bool,
 }
 
 // A reading with its melds. Shape 0 is regular, 1 seven pairs, 2 thirteen orphans. The four groups are the reading's in its
 // order and then the melds; a way is 0 concealed, 1 open, 2 an open kan, 3 a closed kan. Where there is none, the pair is 34
 // and a group 68.
-pub struct Parts {
+pub struct FullReading {
     pub shape: u8,
     pub pair: u8,
     pub groups: [u8; 4],
@@ -49,7 +49,7 @@ pub struct GroupTests {
 pub struct PlaceTests {
     pub wait: bool,
     pub pinfu: bool,
-    pub hidden: u8,
+    pub ankou: u8,
     pub kan: u8,
     pub yakuman: bool,
     pub any: bool,
@@ -57,7 +57,7 @@ pub struct PlaceTests {
 
 // The tests of the pair and the groups, to be made once for all places.
 pub fn group_tests(w: Won, x: TileTests, shape: u8, pair: u8, g: [u8; 4]) -> GroupTests
-    requires { ⌜ x ≡ tileTestsOf (w .tally) (w .bare) ⌝ }
+    requires { ⌜ x ≡ tileTestsOf (w .tally) (w .meldless) ⌝ }
     requires { ⌜ (w .round < 34) × (w .own < 34) ⌝ }
     ensures { λ r. ⌜ r ≡ groupTestsOf w shape pair g ⌝ }
     ensures { λ r. ⌜ r .values .0 ≤ 5 ⌝ }
@@ -68,11 +68,11 @@ pub fn group_tests(w: Won, x: TileTests, shape: u8, pair: u8, g: [u8; 4]) -> Gro
     let situation = w.situation;
     let ron = w.ron;
     let closed = w.closed;
-    let little = groups::little_dragons(g, pair);
-    let values = groups::value_han(g, round, own, little);
-    let twin = run_yaku::twins(g);
-    let outside = group_yaku::outside(g, pair);
-    let value = groups::is_value(round, own, pair);
+    let little = yaku_basics::little_dragons(g, pair);
+    let values = yaku_basics::value_han(g, round, own, little);
+    let twin = yaku_groups::twins(g);
+    let outside = yaku_groups::outside(g, pair);
+    let value = yaku_basics::is_value(round, own, pair);
     let yaku = [
         false,
         closed & !ron,
@@ -87,11 +87,11 @@ pub fn group_tests(w: Won, x: TileTests, shape: u8, pair: u8, g: [u8; 4]) -> Gro
         closed & (riichi == 1),
         closed & (riichi == 2),
         closed & (shape == 1),
-        run_yaku::in_three_suits(0, g),
-        run_yaku::straight(g),
+        yaku_groups::in_three_suits(0, g),
+        yaku_groups::straight(g),
         outside & x.honour,
-        run_yaku::in_three_suits(34, g),
-        group_yaku::triplets(g),
+        yaku_groups::in_three_suits(34, g),
+        yaku_groups::triplets(g),
         false,
         false,
         x.yaochus,
@@ -102,8 +102,8 @@ pub fn group_tests(w: Won, x: TileTests, shape: u8, pair: u8, g: [u8; 4]) -> Gro
         x.flush,
         (situation == 4) & (own == 27),
         (situation == 4) & !(own == 27),
-        groups::dragons(g) == 3,
-        group_yaku::four_winds(g, pair),
+        yaku_basics::dragons(g) == 3,
+        yaku_groups::four_winds(g, pair),
         false,
         false,
         x.honours,
@@ -112,7 +112,7 @@ pub fn group_tests(w: Won, x: TileTests, shape: u8, pair: u8, g: [u8; 4]) -> Gro
         x.gates,
         shape == 2,
     ];
-    let runs = groups::may_be_pinfu(closed, g, value);
+    let runs = yaku_basics::may_be_pinfu(closed, g, value);
     let yakuman = is_yakuman(yaku);
     let any = has_yaku(yaku);
     GroupTests {
@@ -125,37 +125,37 @@ pub fn group_tests(w: Won, x: TileTests, shape: u8, pair: u8, g: [u8; 4]) -> Gro
     }
 }
 
-// The tests of the place, where `hidden` triplets are concealed and `kan` groups are kans.
-pub fn place_tests(w: Won, k: GroupTests, p: Parts, hidden: u8, kan: u8) -> PlaceTests
+// The tests of the place, where `ankou` triplets are concealed and `kan` groups are kans.
+pub fn place_tests(w: Won, k: GroupTests, p: FullReading, ankou: u8, kan: u8) -> PlaceTests
     requires { ⌜ k ≡ groupTestsOf w (p .shape) (p .pair) (p .groups) ⌝ }
-    requires { ⌜ (hidden ≡ concealed (p .groups) (p .ways)) × (kan ≡ kans (p .ways)) × (p .place ≤ 4) ⌝ }
+    requires { ⌜ (ankou ≡ concealed (p .groups) (p .ways)) × (kan ≡ kans (p .ways)) × (p .place ≤ 4) ⌝ }
     ensures { λ r. ⌜ r ≡ placeTestsOf w p ⌝ }
 {
     let g = p.groups;
-    let wait = groups::earns_wait(p.place, groups::placed(g, p.place), w.win);
+    let wait = yaku_basics::earns_wait(p.place, yaku_basics::placed(g, p.place), w.win);
     let pinfu = k.runs & !wait;
-    let all_hidden = w.closed & (hidden == 4);
+    let all_ankou = w.closed & (ankou == 4);
     PlaceTests {
         wait,
         pinfu,
-        hidden,
+        ankou,
         kan,
-        yakuman: k.yakuman | (all_hidden | (kan == 4)),
-        any: k.any | (pinfu | (hidden == 3) | (kan == 3) | all_hidden | (kan == 4)),
+        yakuman: k.yakuman | (all_ankou | (kan == 4)),
+        any: k.any | (pinfu | (ankou == 3) | (kan == 3) | all_ankou | (kan == 4)),
     }
 }
 
 // Each of the 36 yaku, whatever the others say: yaku n at place n.
-pub fn tests(w: Won, k: GroupTests, q: PlaceTests, p: Parts) -> [bool; 37]
+pub fn tests(w: Won, k: GroupTests, q: PlaceTests, p: FullReading) -> [bool; 37]
     requires { ⌜ k ≡ groupTestsOf w (p .shape) (p .pair) (p .groups) ⌝ }
     requires { ⌜ q ≡ placeTestsOf w p ⌝ }
     ensures { λ y. ⌜ y ≡ testsOf w p ⌝ }
 {
     let mut y = k.yaku;
     y[4] = q.pinfu;
-    y[18] = q.hidden == 3;
+    y[18] = q.ankou == 3;
     y[19] = q.kan == 3;
-    y[30] = w.closed & (q.hidden == 4);
+    y[30] = w.closed & (q.ankou == 4);
     y[31] = q.kan == 4;
     y
 }
@@ -192,7 +192,7 @@ fn listed(y: [bool; 37], yakuman: bool) -> [bool; 37]
 }
 
 // The yaku that are listed for a reading: with a yakuman only yakuman.
-pub fn yaku_of(w: Won, k: GroupTests, q: PlaceTests, p: Parts) -> [bool; 37]
+pub fn yaku_of(w: Won, k: GroupTests, q: PlaceTests, p: FullReading) -> [bool; 37]
     requires { ⌜ k ≡ groupTestsOf w (p .shape) (p .pair) (p .groups) ⌝ }
     requires { ⌜ q ≡ placeTestsOf w p ⌝ }
     ensures { λ y. ⌜ y ≡ yakuOf w p ⌝ }

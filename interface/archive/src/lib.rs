@@ -158,7 +158,7 @@ pub struct Said {
 
 #[repr(C)]
 #[derive(Clone, Copy, Debug, PartialEq, Eq)]
-pub struct Game {
+pub struct Position {
     pub scores: [i32; 4],
     pub sticks: u32,
     pub declared: [u8; 4],
@@ -172,10 +172,10 @@ pub struct Game {
 
 #[repr(C)]
 #[derive(Clone, Copy, Debug, PartialEq, Eq)]
-pub struct Book {
-    pub game: Game,
-    pub earlier: Game,
-    pub held: u32,
+pub struct Game {
+    pub now: Position,
+    pub earlier: Position,
+    pub correctable: u32,
 }
 
 #[repr(C)]
@@ -192,9 +192,9 @@ pub struct NextEntry {
 #[repr(C)]
 #[derive(Clone, Copy, Debug, PartialEq, Eq)]
 pub struct Walk {
-    pub book: Book,
-    pub at: usize,
+    pub game: Game,
     pub entry: u32,
+    pub at: usize,
 }
 
 #[repr(C)]
@@ -243,30 +243,30 @@ extern "C" {
     fn hb_read(record: *const u8, len: usize) -> ReadHand;
     fn hb_write(hand: Hand, buffer: *mut u8, len: usize) -> Written;
     fn hb_score(record: *const u8, len: usize, dealer: u8, wind: u8) -> Scored;
-    fn hb_slip(page: *mut u8, page_len: usize, record: *const u8, len: usize, dealer: u8, wind: u8) -> u8;
+    fn hb_slip(record: *const u8, record_len: usize, dealer: u8, wind: u8, page: *mut u8, len: usize) -> u8;
     fn hb_waits(hand: *const u8, len: usize, discards: *const u8, discards_len: usize) -> Waits;
     fn hb_ready(hand: *const u8, len: usize) -> Ready;
     fn hb_cards(suit: u8, size: u8, buffer: *mut u8, len: usize) -> Cards;
     fn hb_judge(record: *const u8, len: usize, claim: *const u8, claim_len: usize, dealer: u8, wind: u8) -> Judged;
-    fn hb_fresh() -> Book;
-    fn hb_riichi(book: &mut Book, seat: u8) -> u8;
-    fn hb_win(book: &mut Book, record: *const u8, len: usize) -> u8;
-    fn hb_draw(book: &mut Book, bits: u8) -> u8;
-    fn hb_chombo(book: &mut Book, seat: u8) -> u8;
-    fn hb_many(book: &mut Book, number: u8, records: *const u8, len: usize) -> u8;
-    fn hb_feed(book: &mut Book, holder: u8, feeder: u8, yaku: u8) -> u8;
-    fn hb_correct_win(book: &mut Book, record: *const u8, len: usize) -> u8;
-    fn hb_correct_draw(book: &mut Book, bits: u8) -> u8;
-    fn hb_correct_chombo(book: &mut Book, seat: u8) -> u8;
-    fn hb_correct_many(book: &mut Book, number: u8, records: *const u8, len: usize) -> u8;
-    fn hb_next(log: *const u8, len: usize, at: usize) -> NextEntry;
-    fn hb_book(book: &mut Book, part: *const u8, len: usize) -> u8;
-    fn hb_start() -> Walk;
-    fn hb_lines(walk: Walk, log: *const u8, log_len: usize, buffer: *mut u8, len: usize) -> Printed;
-    fn hb_line(game: &Game, buffer: *mut u8, len: usize, entry: u32, letter: u8, refusal: u8) -> usize;
+    fn hb_fresh_game() -> Game;
+    fn hb_riichi(game: &mut Game, seat: u8) -> u8;
+    fn hb_win(game: &mut Game, record: *const u8, len: usize) -> u8;
+    fn hb_draw(game: &mut Game, bits: u8) -> u8;
+    fn hb_chombo(game: &mut Game, seat: u8) -> u8;
+    fn hb_multi_ron(game: &mut Game, number: u8, records: *const u8, len: usize) -> u8;
+    fn hb_pao(game: &mut Game, holder: u8, feeder: u8, yaku: u8) -> u8;
+    fn hb_correct_win(game: &mut Game, record: *const u8, len: usize) -> u8;
+    fn hb_correct_draw(game: &mut Game, bits: u8) -> u8;
+    fn hb_correct_chombo(game: &mut Game, seat: u8) -> u8;
+    fn hb_correct_multi_ron(game: &mut Game, number: u8, records: *const u8, len: usize) -> u8;
+    fn hb_log_next(log: *const u8, len: usize, at: usize) -> NextEntry;
+    fn hb_book_entry(game: &mut Game, part: *const u8, len: usize) -> u8;
+    fn hb_log_start() -> Walk;
+    fn hb_log_lines(walk: Walk, log: *const u8, log_len: usize, buffer: *mut u8, len: usize) -> Printed;
+    fn hb_log_line(position: &Position, entry: u32, letter: u8, refusal: u8, buffer: *mut u8, len: usize) -> usize;
     fn hb_say_score(language: u8, record: *const u8, record_len: usize, dealer: u8, wind: u8, buffer: *mut u8, len: usize) -> Said;
     fn hb_say_fu(language: u8, record: *const u8, record_len: usize, dealer: u8, wind: u8, buffer: *mut u8, len: usize) -> Said;
-    fn hb_say_scores(language: u8, game: &Game, buffer: *mut u8, len: usize) -> Said;
+    fn hb_say_scores(language: u8, position: &Position, buffer: *mut u8, len: usize) -> Said;
     fn hb_say_refusal(language: u8, number: u8, buffer: *mut u8, len: usize) -> Said;
     fn hb_say_waits(
         language: u8,
@@ -280,8 +280,8 @@ extern "C" {
     fn hb_say_ready(language: u8, hand: *const u8, hand_len: usize, buffer: *mut u8, len: usize) -> Said;
 }
 
-// SAFETY, for every call below: the pointers and lengths are a slice's, which is never null; a book and a buffer that a
-// call writes are borrowed alone, so nothing overlaps them; any bytes are a book.
+// SAFETY, for every call below: the pointers and lengths are a slice's, which is never null; a game and a buffer that a
+// call writes are borrowed alone, so nothing overlaps them; any bytes are a game, and a position.
 
 /// Read.
 pub fn read(record: &[u8]) -> ReadHand {
@@ -299,8 +299,8 @@ pub fn score(record: &[u8], dealer: u8, wind: u8) -> Scored {
 }
 
 /// A slip.
-pub fn slip(page: &mut [u8], record: &[u8], dealer: u8, wind: u8) -> u8 {
-    unsafe { hb_slip(page.as_mut_ptr(), page.len(), record.as_ptr(), record.len(), dealer, wind) }
+pub fn slip(record: &[u8], dealer: u8, wind: u8, page: &mut [u8]) -> u8 {
+    unsafe { hb_slip(record.as_ptr(), record.len(), dealer, wind, page.as_mut_ptr(), page.len()) }
 }
 
 /// Waits.
@@ -323,84 +323,84 @@ pub fn judge(record: &[u8], claim: &[u8], dealer: u8, wind: u8) -> Judged {
     unsafe { hb_judge(record.as_ptr(), record.len(), claim.as_ptr(), claim.len(), dealer, wind) }
 }
 
-/// A book at its start.
-pub fn fresh() -> Book {
-    unsafe { hb_fresh() }
+/// A fresh game.
+pub fn fresh_game() -> Game {
+    unsafe { hb_fresh_game() }
 }
 
 /// Riichi.
-pub fn riichi(book: &mut Book, seat: u8) -> u8 {
-    unsafe { hb_riichi(book, seat) }
+pub fn riichi(game: &mut Game, seat: u8) -> u8 {
+    unsafe { hb_riichi(game, seat) }
 }
 
 /// Win.
-pub fn win(book: &mut Book, record: &[u8]) -> u8 {
-    unsafe { hb_win(book, record.as_ptr(), record.len()) }
+pub fn win(game: &mut Game, record: &[u8]) -> u8 {
+    unsafe { hb_win(game, record.as_ptr(), record.len()) }
 }
 
 /// Draw.
-pub fn draw(book: &mut Book, bits: u8) -> u8 {
-    unsafe { hb_draw(book, bits) }
+pub fn draw(game: &mut Game, bits: u8) -> u8 {
+    unsafe { hb_draw(game, bits) }
 }
 
 /// Chombo.
-pub fn chombo(book: &mut Book, seat: u8) -> u8 {
-    unsafe { hb_chombo(book, seat) }
+pub fn chombo(game: &mut Game, seat: u8) -> u8 {
+    unsafe { hb_chombo(game, seat) }
 }
 
-/// Many: so many rons on one tile.
-pub fn many(book: &mut Book, number: u8, records: &[u8]) -> u8 {
-    unsafe { hb_many(book, number, records.as_ptr(), records.len()) }
+/// Multiple ron: so many rons on one tile.
+pub fn multi_ron(game: &mut Game, number: u8, records: &[u8]) -> u8 {
+    unsafe { hb_multi_ron(game, number, records.as_ptr(), records.len()) }
 }
 
-/// Feed.
-pub fn feed(book: &mut Book, holder: u8, feeder: u8, yaku: u8) -> u8 {
-    unsafe { hb_feed(book, holder, feeder, yaku) }
+/// Pao.
+pub fn pao(game: &mut Game, holder: u8, feeder: u8, yaku: u8) -> u8 {
+    unsafe { hb_pao(game, holder, feeder, yaku) }
 }
 
 /// A win instead of the last result.
-pub fn correct_win(book: &mut Book, record: &[u8]) -> u8 {
-    unsafe { hb_correct_win(book, record.as_ptr(), record.len()) }
+pub fn correct_win(game: &mut Game, record: &[u8]) -> u8 {
+    unsafe { hb_correct_win(game, record.as_ptr(), record.len()) }
 }
 
 /// A draw instead of the last result.
-pub fn correct_draw(book: &mut Book, bits: u8) -> u8 {
-    unsafe { hb_correct_draw(book, bits) }
+pub fn correct_draw(game: &mut Game, bits: u8) -> u8 {
+    unsafe { hb_correct_draw(game, bits) }
 }
 
 /// A chombo instead of the last result.
-pub fn correct_chombo(book: &mut Book, seat: u8) -> u8 {
-    unsafe { hb_correct_chombo(book, seat) }
+pub fn correct_chombo(game: &mut Game, seat: u8) -> u8 {
+    unsafe { hb_correct_chombo(game, seat) }
 }
 
-/// So many rons on one tile instead of the last result.
-pub fn correct_many(book: &mut Book, number: u8, records: &[u8]) -> u8 {
-    unsafe { hb_correct_many(book, number, records.as_ptr(), records.len()) }
+/// A multiple ron instead of the last result.
+pub fn correct_multi_ron(game: &mut Game, number: u8, records: &[u8]) -> u8 {
+    unsafe { hb_correct_multi_ron(game, number, records.as_ptr(), records.len()) }
 }
 
 /// Next entry.
-pub fn next(log: &[u8], at: usize) -> NextEntry {
-    unsafe { hb_next(log.as_ptr(), log.len(), at) }
+pub fn log_next(log: &[u8], at: usize) -> NextEntry {
+    unsafe { hb_log_next(log.as_ptr(), log.len(), at) }
 }
 
 /// Books the entry that a part of a log begins with.
-pub fn book(book: &mut Book, part: &[u8]) -> u8 {
-    unsafe { hb_book(book, part.as_ptr(), part.len()) }
+pub fn book_entry(game: &mut Game, part: &[u8]) -> u8 {
+    unsafe { hb_book_entry(game, part.as_ptr(), part.len()) }
 }
 
 /// A walk before a log's first entry.
-pub fn start() -> Walk {
-    unsafe { hb_start() }
+pub fn log_start() -> Walk {
+    unsafe { hb_log_start() }
 }
 
 /// Books entries from where a walk stands, with their lines of tally.
-pub fn lines(walk: Walk, log: &[u8], buffer: &mut [u8]) -> Printed {
-    unsafe { hb_lines(walk, log.as_ptr(), log.len(), buffer.as_mut_ptr(), buffer.len()) }
+pub fn log_lines(walk: Walk, log: &[u8], buffer: &mut [u8]) -> Printed {
+    unsafe { hb_log_lines(walk, log.as_ptr(), log.len(), buffer.as_mut_ptr(), buffer.len()) }
 }
 
 /// A line of tally.
-pub fn line(game: &Game, buffer: &mut [u8], entry: u32, letter: u8, refusal: u8) -> usize {
-    unsafe { hb_line(game, buffer.as_mut_ptr(), buffer.len(), entry, letter, refusal) }
+pub fn log_line(position: &Position, entry: u32, letter: u8, refusal: u8, buffer: &mut [u8]) -> usize {
+    unsafe { hb_log_line(position, entry, letter, refusal, buffer.as_mut_ptr(), buffer.len()) }
 }
 
 /// The Score message.
@@ -414,8 +414,8 @@ pub fn say_fu(language: u8, record: &[u8], dealer: u8, wind: u8, buffer: &mut [u
 }
 
 /// The Scores message.
-pub fn say_scores(language: u8, game: &Game, buffer: &mut [u8]) -> Said {
-    unsafe { hb_say_scores(language, game, buffer.as_mut_ptr(), buffer.len()) }
+pub fn say_scores(language: u8, position: &Position, buffer: &mut [u8]) -> Said {
+    unsafe { hb_say_scores(language, position, buffer.as_mut_ptr(), buffer.len()) }
 }
 
 /// The sentence for a refusal.
@@ -425,8 +425,8 @@ pub fn say_refusal(language: u8, number: u8, buffer: &mut [u8]) -> Said {
 
 /// The Waits message.
 pub fn say_waits(language: u8, hand: &[u8], discards: &[u8], buffer: &mut [u8]) -> Said {
-    let (discards, many) = (discards.as_ptr(), discards.len());
-    unsafe { hb_say_waits(language, hand.as_ptr(), hand.len(), discards, many, buffer.as_mut_ptr(), buffer.len()) }
+    let (discards, discards_len) = (discards.as_ptr(), discards.len());
+    unsafe { hb_say_waits(language, hand.as_ptr(), hand.len(), discards, discards_len, buffer.as_mut_ptr(), buffer.len()) }
 }
 
 /// The Ready message.
@@ -436,9 +436,9 @@ pub fn say_ready(language: u8, hand: &[u8], buffer: &mut [u8]) -> Said {
 
 /// All lines of a log, a buffer at a time. Each call that writes books an entry, so there are fewer of them than bytes.
 pub fn text(log: &[u8]) -> Vec<u8> {
-    let (mut walk, mut text, mut buffer) = (start(), Vec::new(), [0; 4096]);
+    let (mut walk, mut text, mut buffer) = (log_start(), Vec::new(), [0; 4096]);
     for _ in 0..=log.len() {
-        let printed = lines(walk, log, &mut buffer);
+        let printed = log_lines(walk, log, &mut buffer);
         if printed.written == 0 {
             break;
         }

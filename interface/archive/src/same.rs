@@ -2,11 +2,11 @@
 
 use std::collections::BTreeMap;
 
-use other_scorer::log::{booking, letter, next, Next};
+use other_scorer::log::{entry, letter, next, Next};
 use other_scorer::record::Meld;
+use other_scorer::rotate::moved_changes;
 use other_scorer::say::calls::{put, Message};
-use other_scorer::turn::moved_changes;
-use other_scorer::Booking;
+use other_scorer::Entry;
 
 use crate as archive;
 
@@ -88,8 +88,8 @@ pub fn judge(record: &[u8], claim: &[u8], dealer: u8, wind: u8) -> archive::Judg
     archive::Judged { refusal, verdict }
 }
 
-/// What Score should give once the table is turned by so many seats: the changes moved on, nothing else altered (02, S-12).
-pub fn turned(scored: &archive::Scored, by: u8) -> archive::Scored {
+/// What Score should give once the table is rotated by so many seats: the changes moved on, nothing else altered (02, S-12).
+pub fn rotated(scored: &archive::Scored, by: u8) -> archive::Scored {
     archive::Scored { changes: moved_changes(scored.changes, by), ..*scored }
 }
 
@@ -135,33 +135,33 @@ pub fn said(message: &Message, buffer: &mut [u8]) -> archive::Said {
     archive::Said { refusal: refusal.into(), len }
 }
 
-/// A game in the archive's form.
-pub fn game(game: &other_scorer::Game) -> archive::Game {
-    archive::Game {
-        scores: game.scores,
-        sticks: game.sticks,
-        declared: game.declared.map(u8::from),
-        dealer: game.dealer,
-        wind: game.wind,
-        hands: game.hands,
-        over: game.over as u8,
-        counter: game.counter,
-        feeders: game.feeders,
+/// A position in the archive's form.
+pub fn position(position: &other_scorer::Position) -> archive::Position {
+    archive::Position {
+        scores: position.scores,
+        sticks: position.sticks,
+        declared: position.declared.map(u8::from),
+        dealer: position.dealer,
+        wind: position.wind,
+        hands: position.hands,
+        over: position.over as u8,
+        counter: position.counter,
+        feeders: position.feeders,
     }
 }
 
-/// A game of the other scorer from the archive's form: a mark that is not 0 is set.
-pub fn to_other_game(game: &archive::Game) -> other_scorer::Game {
-    other_scorer::Game {
-        scores: game.scores,
-        sticks: game.sticks,
-        declared: game.declared.map(|mark| mark != 0),
-        dealer: game.dealer,
-        wind: game.wind,
-        hands: game.hands,
-        over: game.over != 0,
-        counter: game.counter,
-        feeders: game.feeders,
+/// A position of the other scorer from the archive's form: a mark that is not 0 is set.
+pub fn to_other_position(position: &archive::Position) -> other_scorer::Position {
+    other_scorer::Position {
+        scores: position.scores,
+        sticks: position.sticks,
+        declared: position.declared.map(|mark| mark != 0),
+        dealer: position.dealer,
+        wind: position.wind,
+        hands: position.hands,
+        over: position.over != 0,
+        counter: position.counter,
+        feeders: position.feeders,
     }
 }
 
@@ -171,59 +171,60 @@ fn named(feeders: &[u8; 8]) -> BTreeMap<(u8, u8), u8> {
     places.map(|(place, feeder)| ((place % 4, 28 + place / 4), feeder - 1)).collect()
 }
 
-/// A book at its start in the archive's form.
-pub fn fresh() -> archive::Book {
-    let fresh = game(&other_scorer::Game::fresh());
-    archive::Book { game: fresh, earlier: fresh, held: 0 }
+/// A fresh game in the archive's form.
+pub fn fresh_game() -> archive::Game {
+    let fresh = position(&other_scorer::Position::fresh());
+    archive::Game { now: fresh, earlier: fresh, correctable: 0 }
 }
 
-/// The earlier game of the archive's book, none where it does not hold one (02, S-10).
-pub fn earlier(book: &archive::Book) -> Option<archive::Game> {
-    (book.held != 0).then_some(book.earlier)
+/// The earlier position of the archive's game, none where it keeps none (02, S-10).
+pub fn earlier(game: &archive::Game) -> Option<archive::Position> {
+    (game.correctable != 0).then_some(game.earlier)
 }
 
-/// A book of the other scorer from the archive's form.
-pub fn to_other_book(book: &archive::Book) -> other_scorer::Book {
-    other_scorer::Book::lent(to_other_game(&book.game), earlier(book).as_ref().map(to_other_game))
+/// A game of the other scorer from the archive's form.
+pub fn to_other_game(game: &archive::Game) -> other_scorer::Game {
+    other_scorer::Game::lent(to_other_position(&game.now), earlier(game).as_ref().map(to_other_position))
 }
 
-/// What a book should hold after a booking with a refusal, from the book before and the other scorer's game then: a refused one leaves
-/// every byte; an accepted one keeps the game before, a correction the earlier one, and marks whether it can be superseded (02, S-10).
-pub fn after(before: &archive::Book, booking: &Booking, refusal: u8, other: &other_scorer::Game) -> archive::Book {
-    let kept = if let Booking::Correction(_) = booking { before.earlier } else { before.game };
+/// What a game should hold after an entry with a refusal, from the game before and the other scorer's position then: a refused one
+/// leaves every byte; an accepted one keeps the position before, a correction the earlier one, and marks whether it can be superseded
+/// (02, S-10).
+pub fn after(before: &archive::Game, entry: &Entry, refusal: u8, other: &other_scorer::Position) -> archive::Game {
+    let kept = if let Entry::Correction(_) = entry { before.earlier } else { before.now };
     match refusal {
-        0 => archive::Book { game: game(other), earlier: kept, held: booking.finishes() as u32 },
+        0 => archive::Game { now: position(other), earlier: kept, correctable: entry.finishes() as u32 },
         _ => *before,
     }
 }
 
-/// The archive's book as a ledger (01, Ledger; 02, S-10).
-pub fn ledger(book: &archive::Book) -> other_scorer::Ledger {
-    let earlier = earlier(book).map(|earlier| Box::new(ledger_of(&earlier)));
-    other_scorer::Ledger { earlier, ..ledger_of(&book.game) }
+/// The archive's game as a ledger (01, Ledger; 02, S-10).
+pub fn ledger(game: &archive::Game) -> other_scorer::Ledger {
+    let earlier = earlier(game).map(|earlier| Box::new(ledger_of(&earlier)));
+    other_scorer::Ledger { earlier, ..ledger_of(&game.now) }
 }
 
-/// The archive's game as a ledger.
-fn ledger_of(game: &archive::Game) -> other_scorer::Ledger {
+/// The archive's position as a ledger.
+fn ledger_of(position: &archive::Position) -> other_scorer::Ledger {
     other_scorer::Ledger {
-        scores: game.scores.map(i64::from),
-        sticks: game.sticks as i64,
-        declared: (0..4).filter(|&seat| game.declared[seat as usize] != 0).collect(),
-        dealer: game.dealer,
-        wind: game.wind,
-        hands: game.hands as u32,
-        over: game.over != 0,
-        counter: game.counter as i64,
-        fed: named(&game.feeders),
+        scores: position.scores.map(i64::from),
+        sticks: position.sticks as i64,
+        declared: (0..4).filter(|&seat| position.declared[seat as usize] != 0).collect(),
+        dealer: position.dealer,
+        wind: position.wind,
+        hands: position.hands as u32,
+        over: position.over != 0,
+        counter: position.counter as i64,
+        pao: named(&position.feeders),
         earlier: None,
     }
 }
 
 /// What Next entry should give (01, Next entry).
-pub fn entry(log: &[u8], at: usize) -> archive::NextEntry {
+pub fn next_entry(log: &[u8], at: usize) -> archive::NextEntry {
     match next(log, at) {
         Next::Entry { kind, argument, part } => {
-            let letter = letter(&booking(kind, argument, part)) as u8;
+            let letter = letter(&entry(kind, argument, part)) as u8;
             archive::NextEntry { refusal: 0, end: 0, kind, argument, letter, length: part.len() }
         }
         Next::End => archive::NextEntry { end: 1, ..archive::NextEntry::default() },
@@ -234,14 +235,14 @@ pub fn entry(log: &[u8], at: usize) -> archive::NextEntry {
 /// The lines of a log from where a walk stands, each with where the walk then stands (01, Log). The number of an entry
 /// has 32 bits; the highest is never reached.
 pub fn lines(walk: archive::Walk, log: &[u8]) -> Vec<(String, archive::Walk)> {
-    let (mut walk, mut other, mut lines) = (walk, to_other_book(&walk.book), Vec::new());
+    let (mut walk, mut other, mut lines) = (walk, to_other_game(&walk.game), Vec::new());
     while let (Next::Entry { kind, argument, part }, true) = (next(log, walk.at), walk.entry < u32::MAX) {
-        let booking = booking(kind, argument, part);
-        let refusal = other.book(&booking);
-        let ([a, b, c, d], sticks) = (other.game().scores, other.game().sticks);
-        let line = format!("{} {} {refusal} {a} {b} {c} {d} {sticks}\n", walk.entry, letter(&booking));
-        let book = after(&walk.book, &booking, refusal, other.game());
-        walk = archive::Walk { book, at: walk.at + part.len(), entry: walk.entry + 1 };
+        let entry = entry(kind, argument, part);
+        let refusal = other.book(&entry);
+        let ([a, b, c, d], sticks) = (other.now().scores, other.now().sticks);
+        let line = format!("{} {} {refusal} {a} {b} {c} {d} {sticks}\n", walk.entry, letter(&entry));
+        let game = after(&walk.game, &entry, refusal, other.now());
+        walk = archive::Walk { game, entry: walk.entry + 1, at: walk.at + part.len() };
         lines.push((line, walk));
     }
     lines

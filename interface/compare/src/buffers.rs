@@ -32,7 +32,7 @@ pub fn compare(report: &mut Report, rng: &mut Rng, from: Walk, log: &[u8]) -> St
     loop {
         let length = length(rng);
         let (mut archive, mut other) = (any[..length + BEHIND].to_vec(), any[..length + BEHIND].to_vec());
-        let got = archive::lines(walk, log, &mut archive[..length]);
+        let got = archive::log_lines(walk, log, &mut archive[..length]);
         let (before, mut written) = (walk, 0);
         while let Some(((line, after), rest)) = left.split_first().filter(|((line, _), _)| written + line.len() <= length) {
             other[written..written + line.len()].copy_from_slice(line.as_bytes());

@@ -4,17 +4,17 @@ use archive::same;
 use other_scorer::codec::{pack, unpack};
 use other_scorer::damage::damaged;
 use other_scorer::deal::themed;
-use other_scorer::entry::make;
 use other_scorer::notation::hex::to_hex as hex;
 use other_scorer::rng::Rng;
 use other_scorer::score;
+use other_scorer::vector::make;
 
 use crate::claims;
 use crate::ready;
 use crate::report::Report;
+use crate::rotations;
 use crate::said;
 use crate::slips;
-use crate::turns;
 use crate::waits;
 
 /// Ready is compared for one of so many inputs: the other scorer tries every whole suit.
@@ -45,8 +45,8 @@ fn input(rng: &mut Rng, index: usize) -> (Vec<u8>, u8, u8, other_scorer::Scored)
             damaged(rng, sound)
         }
         _ => {
-            let entry = make(rng, index);
-            return (entry.record, entry.dealer, entry.wind, entry.scored);
+            let vector = make(rng, index);
+            return (vector.record, vector.dealer, vector.wind, vector.scored);
         }
     };
     let (dealer, wind) = match rng.below(10) {
@@ -128,7 +128,7 @@ fn compare(report: &mut Report, rng: &mut Rng, index: usize) {
     let total = got.items.list().iter().map(|&item| item as u32).sum::<u32>();
     report.same("the sum of the items, and fu", total, got.fu as u32, input);
     if let 0 | 6 | 7 = got.refusal {
-        turns::compare(report, &same::to_other(&read.hand), dealer, wind, &got);
+        rotations::compare(report, &same::to_other(&read.hand), dealer, wind, &got);
     }
 
     slips::compare(report, rng, &record, dealer, wind, &scored);

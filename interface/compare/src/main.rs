@@ -10,18 +10,18 @@ mod lines;
 mod logs;
 mod ready;
 mod report;
+mod rotations;
 mod said;
 mod slips;
-mod turns;
 mod waits;
 
-// The generators of random bookings and games that the other scorer's own tests use, and the cases that these have to meet.
+// The generators of random entries and positions that the other scorer's own tests use, and the cases that these have to meet.
 #[path = "../../../other_scorer/tests/chance/mod.rs"]
 mod chance;
 #[path = "../../../other_scorer/tests/chance/cases.rs"]
 mod cases;
-#[path = "../../../other_scorer/tests/chance/games.rs"]
-mod games;
+#[path = "../../../other_scorer/tests/chance/positions.rs"]
+mod positions;
 
 use std::{env, process::ExitCode, time::Instant};
 

@@ -6,7 +6,7 @@ use other_scorer::rng::Rng;
 use other_scorer::say::calls::{self, Message};
 use other_scorer::Scored;
 
-use crate::logs::{any_bytes, any_game};
+use crate::logs::{any_bytes, any_position};
 use crate::report::Report;
 
 /// So many bytes more are looked at behind a buffer.
@@ -79,24 +79,24 @@ fn fewer(rng: &mut Rng, number: u32) -> u32 {
     }
 }
 
-/// A game of any state or of any bytes; its numbers with fewer digits or with zeros in them at times.
-fn game(rng: &mut Rng) -> archive::Game {
-    let mut game = if rng.percent(50) { any_game(rng) } else { any_bytes(rng) };
+/// A position of any state or of any bytes; its numbers with fewer digits or with zeros in them at times.
+fn position(rng: &mut Rng) -> archive::Position {
+    let mut position = if rng.percent(50) { any_position(rng) } else { any_bytes(rng) };
     if rng.percent(60) {
-        game.scores = game.scores.map(|score| score.signum().wrapping_mul(fewer(rng, score.unsigned_abs()) as i32));
-        (game.sticks, game.counter) = (fewer(rng, game.sticks), fewer(rng, game.counter));
+        position.scores = position.scores.map(|score| score.signum().wrapping_mul(fewer(rng, score.unsigned_abs()) as i32));
+        (position.sticks, position.counter) = (fewer(rng, position.sticks), fewer(rng, position.counter));
     }
-    game
+    position
 }
 
-/// Compares the Scores message of so many games, and the sentence for every number in every language that a byte names.
+/// Compares the Scores message of so many positions, and the sentence for every number in every language that a byte names.
 pub fn run(report: &mut Report, rng: &mut Rng, count: usize) {
     for _ in 0..count {
-        let game = game(rng);
-        let other = same::to_other_game(&game);
+        let position = position(rng);
+        let other = same::to_other_position(&position);
         for key in 0..=KEYS {
-            let input = || format!("{game:?} language {key}");
-            compare(report, rng, "a Scores message", &calls::scores(key, &other), |buf| archive::say_scores(key, &game, buf), &input);
+            let input = || format!("{position:?} language {key}");
+            compare(report, rng, "a Scores message", &calls::scores(key, &other), |buf| archive::say_scores(key, &position, buf), &input);
         }
     }
     for key in 0..=u8::MAX {

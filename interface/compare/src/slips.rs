@@ -28,7 +28,7 @@ pub fn compare(report: &mut Report, rng: &mut Rng, record: &[u8], dealer: u8, wi
     let length = length(rng);
     let mut archive: Vec<u8> = (0..length + BEHIND).map(|_| rng.next() as u8).collect();
     let mut other = archive.clone();
-    let got = archive::slip(&mut archive[..length], record, dealer, wind);
+    let got = archive::slip(record, dealer, wind, &mut archive[..length]);
     let wanted = slip::write(scored, &mut other[..length]);
     report.count("slips by refusal", wanted);
     report.same("a slip", (got, archive), (wanted, other), || {

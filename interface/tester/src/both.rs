@@ -1,6 +1,6 @@
 //! The proved core, each answer compared with the other scorer's.
 
-use archive::{same, Cards, Differences, Game, Judged, NextEntry, ReadHand, Ready, Said, Scored, Waits, Written, RECORD_MAX};
+use archive::{same, Cards, Differences, Judged, NextEntry, Position, ReadHand, Ready, Said, Scored, Waits, Written, RECORD_MAX};
 use other_scorer::log::tally_lines;
 use other_scorer::notation::hex::to_hex;
 use other_scorer::say::calls::{self, Message};
@@ -50,7 +50,7 @@ impl Core {
     /// The slip of a record on a page that was blank, and its refusal.
     pub fn slip(&mut self, record: &[u8], dealer: u8, wind: u8, length: usize) -> (u8, Vec<u8>) {
         let (mut core, mut other) = (vec![b' '; length], vec![b' '; length]);
-        let answer = archive::slip(&mut core, record, dealer, wind);
+        let answer = archive::slip(record, dealer, wind, &mut core);
         let wanted = slip::write(&score(record, dealer, wind), &mut other);
         let input = || format!("{} dealer {dealer} wind {wind}, page of {length}", to_hex(record));
         self.differences.same("a slip", (answer, &core), (wanted, &other), input);
@@ -115,10 +115,10 @@ impl Core {
     }
 
     /// The Scores message.
-    pub fn say_scores(&mut self, language: u8, game: &Game, length: usize) -> (Said, Vec<u8>) {
-        let wanted = calls::scores(language, &same::to_other_game(game));
-        let input = || format!("Scores of {game:?} language {language}");
-        self.said(&wanted, length, |buf| archive::say_scores(language, game, buf), input)
+    pub fn say_scores(&mut self, language: u8, position: &Position, length: usize) -> (Said, Vec<u8>) {
+        let wanted = calls::scores(language, &same::to_other_position(position));
+        let input = || format!("Scores of {position:?} language {language}");
+        self.said(&wanted, length, |buf| archive::say_scores(language, position, buf), input)
     }
 
     /// The sentence for a refusal.
@@ -141,9 +141,9 @@ impl Core {
     }
 
     /// Next entry.
-    pub fn next(&mut self, log: &[u8], at: usize) -> NextEntry {
-        let answer = archive::next(log, at);
-        self.differences.same("Next entry", answer, same::entry(log, at), || format!("{} at {at}", to_hex(log)));
+    pub fn log_next(&mut self, log: &[u8], at: usize) -> NextEntry {
+        let answer = archive::log_next(log, at);
+        self.differences.same("Next entry", answer, same::next_entry(log, at), || format!("{} at {at}", to_hex(log)));
         answer
     }
 

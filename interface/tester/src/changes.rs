@@ -32,7 +32,7 @@ pub fn every(bytes: &[u8]) -> impl Iterator<Item = Change> + '_ {
 }
 
 /// How many changes `every` makes of so many bytes, at most.
-pub fn how_many(n: usize) -> usize {
+pub fn number_of(n: usize) -> usize {
     8 * n + n + n * n.saturating_sub(1) / 2
 }
 

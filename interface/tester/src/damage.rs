@@ -4,7 +4,7 @@ use archive::Games;
 use other_scorer::notation::hex::to_hex;
 
 use crate::both::Core;
-use crate::changes::{every, how_many, random, Change, EVERY, RANDOM};
+use crate::changes::{every, number_of, random, Change, EVERY, RANDOM};
 use crate::input;
 use crate::log::entries;
 use crate::names::{count, points};
@@ -17,7 +17,7 @@ use crate::words::{Bad, Words};
 const REFUSALS: usize = LAST as usize + 1;
 
 /// With more changes than this a word is said before they are tried.
-const MANY: usize = 100_000;
+const LOTS: usize = 100_000;
 
 /// What is damaged: a record at a table, or a log with its walk.
 enum Subject {
@@ -42,8 +42,8 @@ pub fn run(core: &mut Core, mut words: Words) -> Result<String, Bad> {
     };
     let subject = subject(core, words)?;
     let bytes = subject.bytes();
-    let total = number.unwrap_or_else(|| how_many(bytes.len()));
-    if total > MANY {
+    let total = number.unwrap_or_else(|| number_of(bytes.len()));
+    if total > LOTS {
         eprintln!("tester: up to {} changes to try; random=N tries N", points(total as i64));
     }
     let changes: Box<dyn Iterator<Item = Change>> = match number {

@@ -6,7 +6,7 @@ tester COMMAND WORDS: asks the proved core, and compares every answer with the o
 
   hand       a hand in notation or hexadecimal: its record, refusal, h, fu, yaku, and who pays what
   readings   every reading of a hand in order, the reported one, and why the others lose
-  turn       a hand keyed from another side of the table: both scores side by side
+  rotate     a hand keyed from another side of the table: both scores side by side
   rename     a hand with its suits renamed: both scores side by side
   slip       the slip of a hand for the club book, six lines
   waits      what an unfinished hand waits for, and furiten
@@ -14,8 +14,8 @@ tester COMMAND WORDS: asks the proved core, and compares every answer with the o
   cards      the practice cards of a suit and a size
   judge      another scorer's claim for a hand: accepted, or what is false in it
   say        what the handset says of a hand, its fu, an unfinished hand or a refusal, in words and as clips
-  log        a text of bookings to the bytes of a log, or back
-  tally      a log's bookings one after the other, and the game after each
+  log        a text of entries to the bytes of a log, or back
+  tally      a log's entries one after the other, and the game after each
   damage     a record or a log damaged in every way: refusals counted, both scorers compared
 
   tester COMMAND --help says more of each
@@ -54,13 +54,13 @@ or that it was not tried, as one before it is a yakuman.
 For scripts: the lines of `hand` up to why, tried, then reading N SHAPE PAIR GROUPS PLACE YAKU H FU GAIN reported|loses.
 ";
 
-pub const TURN: &str = "\
-tester turn HAND [dealer=N] [wind=E|S] by=N [--plain]
+pub const ROTATE: &str = "\
+tester rotate HAND [dealer=N] [wind=E|S] by=N [--plain]
 
 HAND as for `tester hand`. Winner, discarder and dealer are moved on by N seats (a tsumo has no discarder), as when the table is
 keyed from another side. The four changes move on by N, and nothing else is altered; if it were, the tool would say so loudly.
 
-For scripts: the lines of `hand` up to changes, turned N, those lines for the turned hand, differences.
+For scripts: the lines of `hand` up to changes, rotated N, those lines for the rotated hand, differences.
 ";
 
 pub const RENAME: &str = "\
@@ -154,15 +154,15 @@ of clips, clips, words of each part, differences.
 pub const LOG: &str = "\
 tester log FILE|-|HEX [to=FILE] [--bytes] [--plain]
 
-A text of bookings gives the bytes of a log; the bytes of a log, or hexadecimal digits, give the text.
+A text of entries gives the bytes of a log; the bytes of a log, or hexadecimal digits, give the text.
 
   riichi 1                                  seat 1 declares
   win 234567m345p67s22s+8s seat=1 ron=3     as for `tester hand`, or win HEX; dealer and wind are the game's
   draw 0 2                                  seats 0 and 2 are ready; draw alone: nobody
   chombo 3
-  many 234567m345p67s22s+8s seat=1 ron=3 / HAND / HAND     one to three rons on one tile, each as for a win
-  feed holder=1 feeder=3 yaku=28            seat 3 feeds seat 1's three dragon triplets; 29: four wind triplets
-  correct draw 0 2                          the last result was this: win, draw, chombo or many, as above
+  multi 234567m345p67s22s+8s seat=1 ron=3 / HAND / HAND    a multiple ron: one to three rons on one tile, each as for a win
+  pao holder=1 feeder=3 yaku=28             seat 3 is the feeder of seat 1's three dragon triplets; 29: four wind triplets
+  correct draw 0 2                          the last result was this: win, draw, chombo or multi, as above
   bytes 40 ff                               these bytes as they are
   # a comment
 
@@ -176,11 +176,11 @@ pub const TALLY: &str = "\
 tester tally FILE|-|HEX [--words] [--say L] [--bytes] [--plain]
 
 The game of a log, text or bytes as for `tester log`: a line for each entry with the deal it was made in (E1 to S4),
-its refusal (0 accepted), the scores, sticks and counter after it, and the feeders named (3 to 1 28: seat 3 feeds yaku 28
-to seat 1), if there are any. The deal of a correction is that of the result which it supersedes. Bytes past 65,536 are not read.
+its refusal (0 accepted), the scores, sticks and counter after it, and the paos named (3 to 1 28: seat 3 is the feeder of
+seat 1's yaku 28), if there are any. The deal of a correction is that of the result which it supersedes. Bytes past 65,536 are not read.
 
-  --words    why an entry was refused, which entry a correction supersedes, whose chombo a draw was, who fed a win
-             and pays for it, or who takes sticks and counters of several rons, below it
+  --words    why an entry was refused, which entry a correction supersedes, whose chombo a draw was, who pays a win
+             by pao, or who takes sticks and counters of a multiple ron, below it
   --say L    what the handset says of the scores after it, in words and as clips, below it; L as for `tester say`
   --bytes    FILE holds the bytes of a log, even if they look like text
 

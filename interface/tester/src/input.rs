@@ -94,7 +94,7 @@ pub fn log(core: &mut Core, words: &Words, raw: bool) -> Result<Log, Bad> {
     })
 }
 
-/// What a file holds: bookings in words, a log in hexadecimal, or the log itself.
+/// What a file holds: entries in words, a log in hexadecimal, or the log itself.
 enum Form<'a> {
     Text(&'a str),
     Digits(Vec<u8>),

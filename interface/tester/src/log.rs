@@ -1,4 +1,4 @@
-//! `log`: the bytes of a text of bookings, or the text of a log's bytes.
+//! `log`: the bytes of a text of entries, or the text of a log's bytes.
 
 use std::fs;
 
@@ -8,7 +8,7 @@ use crate::both::Core;
 use crate::input;
 use crate::names::count;
 use crate::page::{table, Page};
-use crate::refusals::{of_entry, sentence};
+use crate::refusals::{of_part, sentence};
 use crate::text;
 use crate::walk::{whole, Walk};
 use crate::words::{Bad, Words};
@@ -40,23 +40,23 @@ pub fn run(core: &mut Core, mut words: Words) -> Result<String, Bad> {
 /// The text of a log: bytes that are no entry stand in hexadecimal, so that the text gives the log again.
 fn lines(log: &[u8], walk: &Walk) -> String {
     let mut page = Page::default();
-    walk.steps.iter().for_each(|step| page.line(text::line(&step.booking)));
+    walk.steps.iter().for_each(|step| page.line(text::line(&step.entry)));
     if let Some(at) = walk.stopped {
-        page.line(format!("bytes {}  # {}", to_hex(&log[at..]), sentence(14, &of_entry(&log[at..]))));
+        page.line(format!("bytes {}  # {}", to_hex(&log[at..]), sentence(14, &of_part(&log[at..]))));
     }
     page.finish()
 }
 
-/// Each entry's offset, bytes and booking.
+/// Each entry's offset, bytes and text.
 fn listing(core: &Core, log: &[u8], walk: &Walk) -> String {
-    let heads = ["byte", "entry", "bytes", "booking"].map(String::from).to_vec();
+    let heads = ["byte", "entry", "bytes", "text"].map(String::from).to_vec();
     let mut rows = vec![heads];
     for (n, step) in (1..).zip(&walk.steps) {
-        let bytes = to_hex(&step.booking.bytes());
-        rows.push(vec![step.at.to_string(), n.to_string(), bytes, text::line(&step.booking)]);
+        let bytes = to_hex(&step.entry.bytes());
+        rows.push(vec![step.at.to_string(), n.to_string(), bytes, text::line(&step.entry)]);
     }
     if let Some(at) = walk.stopped {
-        rows.push(vec![at.to_string(), "-".into(), to_hex(&log[at..]), sentence(14, &of_entry(&log[at..]))]);
+        rows.push(vec![at.to_string(), "-".into(), to_hex(&log[at..]), sentence(14, &of_part(&log[at..]))]);
     }
     let mut page = Page::default();
     table(&rows, &[0, 1]).iter().for_each(|line| page.line(line));

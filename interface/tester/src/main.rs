@@ -1,4 +1,4 @@
-//! `tester COMMAND WORDS`: hands, readings, tables turned, suits renamed, slips, unfinished hands, practice cards, claims, messages,
+//! `tester COMMAND WORDS`: hands, readings, tables rotated, suits renamed, slips, unfinished hands, practice cards, claims, messages,
 //! logs, games and damaged bytes, answered by the proved core and compared with the other scorer. Exit status 0: answered, refusals too;
 //! 1: the two differ; 2: bad input, told in one line.
 
@@ -20,13 +20,13 @@ mod readings;
 mod ready;
 mod refusals;
 mod rename;
+mod rotate;
 mod say;
 mod sheet;
 mod sides;
 mod slip;
 mod tally;
 mod text;
-mod turn;
 mod waits;
 mod walk;
 mod wav;
@@ -45,7 +45,7 @@ type Command = fn(&mut Core, Words) -> Result<String, Bad>;
 const COMMANDS: [(&str, Command, &str); 13] = [
     ("hand", hand::run, help::HAND),
     ("readings", readings::run, help::READINGS),
-    ("turn", turn::run, help::TURN),
+    ("rotate", rotate::run, help::ROTATE),
     ("rename", rename::run, help::RENAME),
     ("slip", slip::run, help::SLIP),
     ("waits", waits::run, help::WAITS),
@@ -64,14 +64,14 @@ fn run(core: &mut Core, mut words: Words) -> Result<String, Bad> {
     let Some(name) = words.take_first() else {
         return match wants_help {
             true => Ok(help::TOOL.into()),
-            false => Err(Bad::new("no command: hand, readings, turn, rename, slip, waits, ready, cards, judge, say, log, tally or damage; --help says more")),
+            false => Err(Bad::new("no command: hand, readings, rotate, rename, slip, waits, ready, cards, judge, say, log, tally or damage; --help says more")),
         };
     };
     match COMMANDS.iter().find(|(command, ..)| *command == name) {
         Some((.., help)) if wants_help => Ok(help.to_string()),
         Some((_, command, _)) => command(core, words),
         None => {
-            let why = "no command; there are hand, readings, turn, rename, slip, waits, ready, cards, judge, say, log, tally and damage";
+            let why = "no command; there are hand, readings, rotate, rename, slip, waits, ready, cards, judge, say, log, tally and damage";
             Err(Bad::new(format!("word 1, \"{name}\": {why}")))
         }
     }

@@ -1,14 +1,14 @@
 //! Each refusal in words, and which of its conditions was met, worked out by the other scorer.
 
 use other_scorer::codec::{length, length_fault, meld_count, read, unpack, LENGTH_FAULTS};
-use other_scorer::fed;
-use other_scorer::game::{book, liable};
 use other_scorer::log::{size, ENTRY_FAULTS};
 use other_scorer::notation::text;
+use other_scorer::pao;
+use other_scorer::position::{book, pao_feeder};
 use other_scorer::record::RON;
 use other_scorer::score::valued;
 use other_scorer::sound::{field_faults, situation_faults, FIELD_FAULTS, SITUATION_FAULTS};
-use other_scorer::{set, unfinished, Book, Booking, Game, Hand};
+use other_scorer::{multi_ron, unfinished, Entry, Game, Hand, Position};
 
 use crate::names::{count, points};
 
@@ -36,7 +36,7 @@ pub fn refusal(number: u8) -> &'static str {
         15 => "a discard is no kind",
         16 => "the page is shorter than a slip",
         17 => "the hands are no rons on one tile, or none or over three",
-        18 => "the feed does not fit, or is named already",
+        18 => "the pao does not fit, or is named already",
         19 => "no such suit or size, or the buffer is shorter than the list",
         20 => "there is no result to supersede",
         21 => "the seat has no 1,000 points for the stick",
@@ -119,91 +119,91 @@ pub fn of_unfinished(refusal: u8, bytes: &[u8], discards: &[u8]) -> Vec<String> 
     }
 }
 
-/// The conditions met by the refusal of a set: how its hands do not belong together, or those of the first record that meets the
-/// refusal, with its number from 1 (02, S-6).
-fn of_set(refusal: u8, list: &[&[u8]], game: &Game) -> Vec<String> {
+/// The conditions met by the refusal of a multiple ron: how its hands do not belong together, or those of the first record that meets
+/// the refusal, with its number from 1 (02, S-6).
+fn of_multi_ron(refusal: u8, list: &[&[u8]], position: &Position) -> Vec<String> {
     if refusal == 17 {
         let hands: Vec<Hand> = list.iter().filter_map(|record| read(record).ok()).collect();
-        return holding(&set::FAULTS, &set::faults(&hands));
+        return holding(&multi_ron::FAULTS, &multi_ron::faults(&hands));
     }
     let refused = |record: &&[u8]| match read(record) {
         Err(_) => refusal <= 5,
-        Ok(_) => refusal > 5 && book(&mut { *game }, &Booking::Win(record.to_vec())) != 0,
+        Ok(_) => refusal > 5 && book(&mut { *position }, &Entry::Win(record.to_vec())) != 0,
     };
     let at = list.iter().position(refused);
-    let own = at.map_or(Vec::new(), |at| in_game(refusal, &Booking::Win(list[at].to_vec()), game));
+    let own = at.map_or(Vec::new(), |at| in_position(refusal, &Entry::Win(list[at].to_vec()), position));
     own.iter().map(|why| format!("record {}: {why}", at.unwrap_or(0) + 1)).collect()
 }
 
-/// The conditions met by the refusal of a booking in a book; a correction's new booking is refused in the earlier game (02, S-10).
-pub fn of_booking(refusal: u8, booking: &Booking, book: &Book) -> Vec<String> {
-    match (booking, book.earlier()) {
-        (Booking::Correction(new), Some(earlier)) => in_game(refusal, new, &earlier),
-        (Booking::Correction(_), None) => vec![match book.last() {
+/// The conditions met by the refusal of an entry in a game; a correction's result is refused in the earlier position (02, S-10).
+pub fn of_entry(refusal: u8, entry: &Entry, game: &Game) -> Vec<String> {
+    match (entry, game.earlier()) {
+        (Entry::Correction(new), Some(earlier)) => in_position(refusal, new, &earlier),
+        (Entry::Correction(_), None) => vec![match game.last() {
             None => "nothing is booked yet".into(),
-            Some(Booking::Riichi(_)) => "a riichi has been accepted since".into(),
-            Some(_) => "a feed has been accepted since".into(),
+            Some(Entry::Riichi(_)) => "a riichi has been accepted since".into(),
+            Some(_) => "a pao has been accepted since".into(),
         }],
-        _ => in_game(refusal, booking, book.game()),
+        _ => in_position(refusal, entry, game.now()),
     }
 }
 
-/// The conditions met by the refusal of a booking in a game (01, The game; 02, S-6, S-8 and S-11).
-fn in_game(refusal: u8, booking: &Booking, game: &Game) -> Vec<String> {
+/// The conditions met by the refusal of a booking in a position (01, The game; 02, S-6, S-8 and S-11).
+fn in_position(refusal: u8, booking: &Entry, position: &Position) -> Vec<String> {
     match (refusal, booking) {
-        (9, _) if game.hands == 200 => vec!["200 hands are finished".into()],
+        (9, _) if position.hands == 200 => vec!["200 hands are finished".into()],
         (9, _) => vec!["it is over".into()],
-        (8, Booking::Riichi(seat) | Booking::Chombo(seat)) => vec![format!("seat {seat} over 3")],
-        (10, Booking::Riichi(seat)) => vec![format!("seat {seat}")],
-        (21, Booking::Riichi(seat)) => vec![format!("seat {seat} has {}", points(game.scores[*seat as usize].into()))],
-        (11, Booking::Win(record)) => unpack(record).map_or(Vec::new(), |(hand, _)| match hand.riichi {
+        (8, Entry::Riichi(seat) | Entry::Chombo(seat)) => vec![format!("seat {seat} over 3")],
+        (10, Entry::Riichi(seat)) => vec![format!("seat {seat}")],
+        (21, Entry::Riichi(seat)) => vec![format!("seat {seat} has {}", points(position.scores[*seat as usize].into()))],
+        (11, Entry::Win(record)) => unpack(record).map_or(Vec::new(), |(hand, _)| match hand.riichi {
             0 => vec![format!("seat {} has declared, the record has no riichi", hand.winner)],
             _ => vec![format!("the record has riichi, seat {} has not declared", hand.winner)],
         }),
-        (18, Booking::Feed { holder, feeder, .. }) if holder == feeder => vec![format!("seat {holder} is holder and feeder")],
-        (18, Booking::Feed { holder, yaku, .. }) => {
-            let feeder = game.feeder(*holder, *yaku).map(|seat| format!("seat {seat} is named for yaku {yaku} of seat {holder}"));
+        (18, Entry::Pao { holder, feeder, .. }) if holder == feeder => vec![format!("seat {holder} is holder and feeder")],
+        (18, Entry::Pao { holder, yaku, .. }) => {
+            let feeder = position.feeder(*holder, *yaku).map(|seat| format!("seat {seat} is named for yaku {yaku} of seat {holder}"));
             feeder.into_iter().collect()
         }
-        (_, Booking::Many { number, records }) => of_set(refusal, &set::split(*number, records), game),
-        (_, Booking::Win(record)) => of_record(refusal, record, game.dealer, game.wind),
+        (_, Entry::MultiRon { number, records }) => of_multi_ron(refusal, &multi_ron::split(*number, records), position),
+        (_, Entry::Win(record)) => of_record(refusal, record, position.dealer, position.wind),
         _ => Vec::new(),
     }
 }
 
 /// What an accepted draw was where a declared seat was not ready: a chombo of these seats (02, S-7).
-pub fn of_draw(booking: &Booking, game: &Game) -> Option<String> {
-    let Booking::Draw(bits) = booking else { return None };
-    let seats: Vec<String> = game.unready(*bits).iter().map(|seat| format!("seat {seat}")).collect();
+pub fn of_draw(booking: &Entry, position: &Position) -> Option<String> {
+    let Entry::Draw(bits) = booking else { return None };
+    let seats: Vec<String> = position.unready(*bits).iter().map(|seat| format!("seat {seat}")).collect();
     (!seats.is_empty()).then(|| format!("a chombo, declared and not ready: {}", seats.join("; ")))
 }
 
-/// Who pays an accepted win that was fed, by article 67, and who takes sticks and counters of several (02, S-6 and S-8).
-pub fn of_wins(booking: &Booking, game: &Game) -> Option<String> {
+/// Who pays an accepted win by pao, article 67, and who takes sticks and counters of a multiple ron (02, S-6 and S-8).
+pub fn of_wins(booking: &Entry, position: &Position) -> Option<String> {
     let hands = match booking {
-        Booking::Win(record) => read(record).map(|hand| vec![hand]),
-        Booking::Many { number, records } => set::hands(*number, records),
+        Entry::Win(record) => read(record).map(|hand| vec![hand]),
+        Entry::MultiRon { number, records } => multi_ron::hands(*number, records),
         _ => return None,
     };
     let hands = hands.ok()?;
-    let first = (hands.len() > 1).then(|| format!("sticks and counters are seat {}'s", set::first_winner(&hands)));
+    let first = (hands.len() > 1).then(|| format!("sticks and counters are seat {}'s", multi_ron::first_winner(&hands)));
     let counters = if hands.len() > 1 { ["", ""] } else { [" and the counters", ", with the counters"] };
-    let said: Vec<String> = first.into_iter().chain(hands.iter().filter_map(|hand| of_fed(hand, game, counters))).collect();
+    let said: Vec<String> = first.into_iter().chain(hands.iter().filter_map(|hand| of_pao(hand, position, counters))).collect();
     (!said.is_empty()).then(|| said.join("; "))
 }
 
-/// Who pays a win that was fed, by article 67, with words on the counters by ron and by tsumo (02, S-8).
-fn of_fed(hand: &Hand, game: &Game, counters: [&str; 2]) -> Option<String> {
-    let (feeder, yaku) = (liable(game, hand)?, fed::yaku(hand, game.dealer, game.wind)?);
+/// Who pays a win by pao, article 67, with words on the counters by ron and by tsumo (02, S-8).
+fn of_pao(hand: &Hand, position: &Position, counters: [&str; 2]) -> Option<String> {
+    let (feeder, yaku) = (pao_feeder(position, hand)?, pao::yaku(hand, position.dealer, position.wind)?);
     let pays = match hand.how {
         RON if hand.discarder == feeder => "pays all, as the discarder too".to_string(),
         RON => format!("pays half, seat {} the other half{}", hand.discarder, counters[0]),
         _ => format!("pays the whole{}", counters[1]),
     };
-    Some(format!("seat {feeder} fed yaku {yaku} to seat {} and {pays}", hand.winner))
+    Some(format!("pao: seat {feeder}, the feeder of seat {}'s yaku {yaku}, {pays}", hand.winner))
 }
 
 /// The condition met by refusal 14 at the start of a stretch of a log (01, Next entry).
-pub fn of_entry(rest: &[u8]) -> Vec<String> {
+pub fn of_part(rest: &[u8]) -> Vec<String> {
     size(rest).err().map(|fault| ENTRY_FAULTS[fault].to_string()).into_iter().collect()
 }

@@ -1,7 +1,7 @@
 //! `rename`: a hand with its suits renamed, beside the hand as typed.
 
 use archive::same;
-use other_scorer::turn::{is_green, renamed, Suits};
+use other_scorer::rotate::{is_green, renamed, Suits};
 
 use crate::answer::Answer;
 use crate::both::Core;

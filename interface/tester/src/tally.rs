@@ -1,15 +1,15 @@
-//! `tally`: a log's bookings one after the other, and the game after each.
+//! `tally`: a log's entries one after the other, and the game after each.
 
 use archive::MESSAGE_MAX;
 use other_scorer::log::LONGEST;
-use other_scorer::{Booking, Game};
+use other_scorer::{Entry, Position};
 
 use crate::both::Core;
 use crate::input;
 use crate::log::entries;
 use crate::names::{count, points, wind};
 use crate::page::{table, Page};
-use crate::refusals::{of_booking, of_draw, of_entry, of_wins, sentence};
+use crate::refusals::{of_draw, of_entry, of_part, of_wins, sentence};
 use crate::say::numbers;
 use crate::sheet::{self, parts};
 use crate::text;
@@ -17,7 +17,7 @@ use crate::walk::{whole, Step, Walk};
 use crate::words::{Bad, Words};
 
 /// The game of a log, entry by entry; with --words also why an entry is refused, what a correction supersedes, that a draw was a
-/// chombo, that a win was fed, or who takes sticks and counters of several; with --say what the handset says of the scores.
+/// chombo, who pays a win by pao, or who takes sticks and counters of a multiple ron; with --say what the handset says of the scores.
 pub fn run(core: &mut Core, mut words: Words) -> Result<String, Bad> {
     let (plain, raw, why) = (words.take_flag("--plain"), words.take_flag("--bytes"), words.take_flag("--words"));
     let language = language(&mut words)?;
@@ -45,23 +45,23 @@ pub fn run(core: &mut Core, mut words: Words) -> Result<String, Bad> {
     }
     page.line("");
     if let Some(at) = walk.stopped {
-        page.line(format!("stopped at byte {at}, {:02x}: {}", log[at], sentence(14, &of_entry(&log[at..]))));
+        page.line(format!("stopped at byte {at}, {:02x}: {}", log[at], sentence(14, &of_part(&log[at..]))));
     }
-    let game = walk.steps.last().map_or(Game::fresh(), |step| *step.after.other.game());
+    let position = walk.steps.last().map_or(Position::fresh(), |step| *step.after.other.now());
     let refused = walk.steps.iter().filter(|step| step.refusal != 0).count();
-    let state = if game.over { "the game is over".to_string() } else { format!("{} is on", deal(&game)) };
-    let hands = count(game.hands as usize, "hand");
+    let state = if position.over { "the game is over".to_string() } else { format!("{} is on", deal(&position)) };
+    let hands = count(position.hands as usize, "hand");
     page.line(format!("{}, {refused} refused; {hands} finished; {state}", entries(&walk)));
     page.line(core.verdict());
     Ok(page.finish())
 }
 
-/// The game that a step's booking is made in: a correction's is the earlier one, if there is one (02, S-10).
-fn made_in(step: &Step) -> Game {
-    let book = &step.before.other;
-    match (&step.booking, book.earlier()) {
-        (Booking::Correction(_), Some(earlier)) => earlier,
-        _ => *book.game(),
+/// The position that a step's entry is booked in: a correction's is the earlier one, if there is one (02, S-10).
+fn made_in(step: &Step) -> Position {
+    let game = &step.before.other;
+    match (&step.entry, game.earlier()) {
+        (Entry::Correction(_), Some(earlier)) => earlier,
+        _ => *game.now(),
     }
 }
 
@@ -71,15 +71,15 @@ fn remarks(walk: &Walk) -> Vec<Option<String>> {
     let mut last = 0;
     let each = (1..).zip(&walk.steps).map(|(n, step)| {
         if step.refusal != 0 {
-            return Some(sentence(step.refusal, &of_booking(step.refusal, &step.booking, &step.before.other)));
+            return Some(sentence(step.refusal, &of_entry(step.refusal, &step.entry, &step.before.other)));
         }
-        let (superseded, booking) = match &step.booking {
-            Booking::Correction(new) => (Some(format!("supersedes entry {last}")), new.as_ref()),
-            plain => (None, plain),
+        let (superseded, booking) = match &step.entry {
+            Entry::Correction(new) => (Some(format!("supersedes entry {last}")), new.as_ref()),
+            booking => (None, booking),
         };
         last = n;
-        let game = made_in(step);
-        let said: Vec<String> = superseded.into_iter().chain(of_draw(booking, &game)).chain(of_wins(booking, &game)).collect();
+        let position = made_in(step);
+        let said: Vec<String> = superseded.into_iter().chain(of_draw(booking, &position)).chain(of_wins(booking, &position)).collect();
         (!said.is_empty()).then(|| said.join("; "))
     });
     each.collect()
@@ -104,7 +104,7 @@ fn language(words: &mut Words) -> Result<Option<u8>, Bad> {
 fn said(core: &mut Core, walk: &Walk, language: Option<u8>) -> Vec<(Option<String>, Option<String>)> {
     let mut of_step = |step: &Step| {
         let Some(language) = language else { return (None, None) };
-        let (said, clips) = core.say_scores(language, &step.after.archive.game, MESSAGE_MAX);
+        let (said, clips) = core.say_scores(language, &step.after.archive.now, MESSAGE_MAX);
         if said.refusal != 0 {
             return (None, Some(sentence(said.refusal as u8, &[])));
         }
@@ -115,31 +115,31 @@ fn said(core: &mut Core, walk: &Walk, language: Option<u8>) -> Vec<(Option<Strin
 }
 
 /// The deal by its wind and the dealer's number from 1.
-fn deal(game: &Game) -> String {
-    format!("{}{}", wind(game.wind), game.dealer + 1)
+fn deal(position: &Position) -> String {
+    format!("{}{}", wind(position.wind), position.dealer + 1)
 }
 
-/// The feeders named in a game: the feeder, the holder and the yaku of each.
-fn feeders(game: &Game) -> String {
+/// The paos named in a position: the feeder, the holder and the yaku of each.
+fn paos(position: &Position) -> String {
     let named = (0..4).flat_map(|holder| [28, 29].map(|yaku| (holder, yaku)));
-    let each = named.filter_map(|(holder, yaku)| Some(format!("{} to {holder} {yaku}", game.feeder(holder, yaku)?)));
+    let each = named.filter_map(|(holder, yaku)| Some(format!("{} to {holder} {yaku}", position.feeder(holder, yaku)?)));
     each.collect::<Vec<_>>().join(", ")
 }
 
-/// A line for each entry, after a line of heads; a column for the feeders where one is named.
+/// A line for each entry, after a line of heads; a column for the paos where one is named.
 fn listing(walk: &Walk) -> Vec<String> {
-    let fed = walk.steps.iter().any(|step| step.after.archive.game.feeders != [0; 8]);
+    let pao = walk.steps.iter().any(|step| step.after.archive.now.feeders != [0; 8]);
     let mut heads = vec!["entry", "deal", "refusal", "seat 0", "seat 1", "seat 2", "seat 3", "sticks", "counter"];
-    heads.extend(fed.then_some("fed"));
-    heads.push("booking");
+    heads.extend(pao.then_some("pao"));
+    heads.push("text");
     let mut rows = vec![heads.into_iter().map(String::from).collect()];
     for (n, step) in (1..).zip(&walk.steps) {
-        let game = &step.after.archive.game;
+        let position = &step.after.archive.now;
         let mut row = vec![n.to_string(), deal(&made_in(step)), step.refusal.to_string()];
-        row.extend(game.scores.map(|score| points(score as i64)));
-        row.extend([game.sticks.to_string(), game.counter.to_string()]);
-        row.extend(fed.then(|| feeders(step.after.other.game())));
-        row.push(text::line(&step.booking));
+        row.extend(position.scores.map(|score| points(score as i64)));
+        row.extend([position.sticks.to_string(), position.counter.to_string()]);
+        row.extend(pao.then(|| paos(step.after.other.now())));
+        row.push(text::line(&step.entry));
         rows.push(row);
     }
     table(&rows, &[0, 1, 2, 3, 4, 5, 6, 7, 8])

@@ -1,14 +1,17 @@
-//! A log as text: one booking a line, # before a comment.
+//! A log as text: one entry a line, # before a comment.
 
 use other_scorer::codec::unpack;
-use other_scorer::game::is_ready;
 use other_scorer::notation::hex::to_hex;
 use other_scorer::notation::print;
-use other_scorer::{set, Booking};
+use other_scorer::position::is_ready;
+use other_scorer::{multi_ron, Entry};
 
 use crate::both::Core;
 use crate::input;
 use crate::words::{Bad, Words};
+
+/// What is said to the word of older texts.
+const MULTI: &str = "the word is multi: multi HAND / HAND";
 
 /// The bytes of a log's text; `name` is the file's, for messages.
 pub fn log(core: &mut Core, name: &str, text: &str) -> Result<Vec<u8>, Bad> {
@@ -25,20 +28,25 @@ fn entry(core: &mut Core, mut words: Words) -> Result<Vec<u8>, Bad> {
     let first = words.texts().first().map(|word| word.to_ascii_lowercase());
     let kind = match first.as_deref() {
         None => return Ok(Vec::new()),
-        Some(kind @ ("riichi" | "win" | "draw" | "chombo" | "many" | "feed" | "correct" | "bytes")) => kind,
+        Some(kind @ ("riichi" | "win" | "draw" | "chombo" | "multi" | "pao" | "correct" | "bytes")) => kind,
+        Some("many") => return Err(words.bad(0, MULTI)),
+        Some("feed") => return Err(words.bad(0, "the word is pao: pao holder=1 feeder=3 yaku=28")),
         Some(_) => {
-            let why = "a line begins with riichi, win, draw, chombo, many, feed, correct or bytes (--bytes if the file is no text)";
+            let why = "a line begins with riichi, win, draw, chombo, multi, pao, correct or bytes (--bytes if the file is no text)";
             return Err(words.bad(0, why));
         }
     };
     words.take_first();
-    let booking = match kind {
-        "riichi" => Booking::Riichi(argument(&words)?),
-        "feed" => feed(words)?,
+    let entry = match kind {
+        "riichi" => Entry::Riichi(argument(&words)?),
+        "pao" => pao(words)?,
         "correct" => {
             let kind = words.texts().first().map_or(String::new(), |word| word.to_ascii_lowercase());
-            if !["win", "draw", "chombo", "many"].contains(&kind.as_str()) {
-                return Err(words.bad(0, "what the result was is needed: win, draw, chombo or many"));
+            if kind == "many" {
+                return Err(words.bad(0, MULTI));
+            }
+            if !["win", "draw", "chombo", "multi"].contains(&kind.as_str()) {
+                return Err(words.bad(0, "what the result was is needed: win, draw, chombo or multi"));
             }
             words.take_first();
             result(core, &kind, &words)?.as_correction()
@@ -46,16 +54,16 @@ fn entry(core: &mut Core, mut words: Words) -> Result<Vec<u8>, Bad> {
         "bytes" => return input::bytes(&words).unwrap_or_else(|| Err(words.bad(0, "hexadecimal digits are needed"))),
         _ => result(core, kind, &words)?,
     };
-    Ok(booking.bytes())
+    Ok(entry.bytes())
 }
 
-/// A win, a draw, a chombo or a many, whose word has been taken.
-fn result(core: &mut Core, kind: &str, words: &Words) -> Result<Booking, Bad> {
+/// A win, a draw, a chombo or a multiple ron, whose word has been taken.
+fn result(core: &mut Core, kind: &str, words: &Words) -> Result<Entry, Bad> {
     Ok(match kind {
-        "chombo" => Booking::Chombo(argument(words)?),
-        "draw" => Booking::Draw(ready(words)?),
-        "win" => Booking::Win(record(core, words)?),
-        _ => many(core, words)?,
+        "chombo" => Entry::Chombo(argument(words)?),
+        "draw" => Entry::Draw(ready(words)?),
+        "win" => Entry::Win(record(core, words)?),
+        _ => multi_ron(core, words)?,
     })
 }
 
@@ -84,18 +92,18 @@ fn ready(words: &Words) -> Result<u8, Bad> {
     Ok(bits)
 }
 
-/// The rons of a set, as for a win, with / between them.
-fn many(core: &mut Core, words: &Words) -> Result<Booking, Bad> {
+/// The hands of a multiple ron, as for a win, with / between them.
+fn multi_ron(core: &mut Core, words: &Words) -> Result<Entry, Bad> {
     let parts = words.split("/");
     if let Some(fourth) = parts.get(3) {
         return Err(fourth.bad(0, "a fourth hand, at most 3 fit"));
     }
     let records: Vec<Vec<u8>> = parts.iter().map(|part| record(core, part)).collect::<Result<_, _>>()?;
-    Ok(Booking::Many { number: records.len() as u8, records: records.concat() })
+    Ok(Entry::MultiRon { number: records.len() as u8, records: records.concat() })
 }
 
-/// Who fed whom with which yaku; the holder himself has a place in a log, and is refused by the game.
-fn feed(mut words: Words) -> Result<Booking, Bad> {
+/// The feeder of a holder's yaku; the holder himself has a place in a log, and is refused by the game.
+fn pao(mut words: Words) -> Result<Entry, Bad> {
     let number = |low: u8, high: u8, why: &'static str| {
         move |value: &str| value.parse().ok().filter(|number| (low..=high).contains(number)).ok_or(why.to_string())
     };
@@ -106,7 +114,7 @@ fn feed(mut words: Words) -> Result<Booking, Bad> {
         return Err(words.bad(0, "one of holder=, feeder= and yaku= is needed"));
     }
     match (holder, feeder, yaku) {
-        (Some(holder), Some(feeder), Some(yaku)) => Ok(Booking::Feed { holder, feeder, yaku }),
+        (Some(holder), Some(feeder), Some(yaku)) => Ok(Entry::Pao { holder, feeder, yaku }),
         _ => Err(words.bad(0, "holder=, feeder= and yaku= are needed, such as holder=1 feeder=3 yaku=28")),
     }
 }
@@ -120,22 +128,22 @@ fn record(core: &mut Core, words: &Words) -> Result<Vec<u8>, Bad> {
     }
 }
 
-/// The line of a booking.
-pub fn line(booking: &Booking) -> String {
-    match booking {
-        Booking::Riichi(seat) => format!("riichi {seat}"),
-        Booking::Chombo(seat) => format!("chombo {seat}"),
-        Booking::Feed { holder, feeder, yaku } => format!("feed holder={holder} feeder={feeder} yaku={yaku}"),
-        Booking::Draw(bits) => {
+/// The line of an entry.
+pub fn line(entry: &Entry) -> String {
+    match entry {
+        Entry::Riichi(seat) => format!("riichi {seat}"),
+        Entry::Chombo(seat) => format!("chombo {seat}"),
+        Entry::Pao { holder, feeder, yaku } => format!("pao holder={holder} feeder={feeder} yaku={yaku}"),
+        Entry::Draw(bits) => {
             let seats = (0..4).filter(|&seat| is_ready(*bits, seat)).map(|seat| format!(" {seat}"));
             format!("draw{}", seats.collect::<String>())
         }
-        Booking::Win(record) => format!("win {}", hand(record)),
-        Booking::Many { number, records } => {
-            let hands: Vec<String> = set::split(*number, records).into_iter().map(hand).collect();
-            format!("many {}", hands.join(" / "))
+        Entry::Win(record) => format!("win {}", hand(record)),
+        Entry::MultiRon { number, records } => {
+            let hands: Vec<String> = multi_ron::split(*number, records).into_iter().map(hand).collect();
+            format!("multi {}", hands.join(" / "))
         }
-        Booking::Correction(new) => format!("correct {}", line(new)),
+        Entry::Correction(new) => format!("correct {}", line(new)),
     }
 }
 

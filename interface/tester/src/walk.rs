@@ -2,14 +2,14 @@
 
 use archive::Games;
 use other_scorer::notation::hex::to_hex;
-use other_scorer::Booking;
+use other_scorer::Entry;
 
 use crate::both::Core;
 
-/// An entry: where it stands, its booking, the games before it, its refusal and the games after it.
+/// An entry with where it stands, the games before it, its refusal and the games after it.
 pub struct Step {
     pub at: usize,
-    pub booking: Booking,
+    pub entry: Entry,
     pub before: Games,
     pub refusal: u8,
     pub after: Games,
@@ -25,19 +25,19 @@ pub struct Walk {
 pub fn walk(core: &mut Core, log: &[u8], from: usize, games: Games) -> Walk {
     let (mut at, mut games, mut steps) = (from, games, Vec::new());
     loop {
-        let entry = core.next(log, at);
-        if entry.end != 0 || entry.refusal != 0 {
-            return Walk { steps, stopped: (entry.refusal != 0).then_some(at) };
+        let next = core.log_next(log, at);
+        if next.end != 0 || next.refusal != 0 {
+            return Walk { steps, stopped: (next.refusal != 0).then_some(at) };
         }
         // A length that is not the entry's is a difference already, and leaves the part no entry or some bytes longer.
-        let part = log.get(at..at.saturating_add(entry.length)).unwrap_or_default();
+        let part = log.get(at..at.saturating_add(next.length)).unwrap_or_default();
         let before = games.clone();
         let input = || format!("log {}", to_hex(log));
-        let (refusal, booking) = games.book_entry(&mut core.differences, part, &input);
-        let Some(booking) = booking else {
+        let (refusal, entry) = games.book_entry(&mut core.differences, part, &input);
+        let Some(entry) = entry else {
             return Walk { steps, stopped: Some(at) };
         };
-        steps.push(Step { at, booking, before, refusal, after: games.clone() });
+        steps.push(Step { at, entry, before, refusal, after: games.clone() });
         at += part.len();
     }
 }

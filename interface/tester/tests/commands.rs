@@ -300,7 +300,7 @@ fn readings_tried() {
     assert!(!answer(&format!("readings {refused}")).contains("\ntried "));
 }
 
-/// The lines of a hand in the plain output of `turn` or `rename`: before and after the line that begins with the key.
+/// The lines of a hand in the plain output of `rotate` or `rename`: before and after the line that begins with the key.
 fn two_sides(line: &str, key: &str) -> [Vec<String>; 2] {
     let out = answer(&format!("{line} --plain"));
     let lines: Vec<String> = out.lines().map(String::from).collect();
@@ -310,16 +310,16 @@ fn two_sides(line: &str, key: &str) -> [Vec<String>; 2] {
 }
 
 #[test]
-fn a_table_turned() {
+fn a_table_rotated() {
     let (closed, open) = ("234567m345p67s22s+8s", "456p78s234s99p+9s chi=123m");
-    for (tiles, as_typed, by, turned, changes) in [
+    for (tiles, as_typed, by, rotated, changes) in [
         (closed, "seat=1 ron=3", 1, "seat=2 ron=0 dealer=1", "-2000 0 2000 0"),
         (closed, "seat=1 ron=3", 6, "seat=3 ron=1 dealer=2", "0 -2000 0 2000"),
         (closed, "seat=3 tsumo dealer=2 wind=S", 2, "seat=1 tsumo dealer=0 wind=S", "-1300 2700 -700 -700"),
         (open, "seat=1 ron=3", 3, "seat=0 ron=2 dealer=3", "0 0 0 0"),
     ] {
-        let (hand, second) = (format!("{tiles} {as_typed}"), format!("{tiles} {turned}"));
-        let [one, two] = two_sides(&format!("turn {hand} by={by}"), &format!("turned {by}"));
+        let (hand, second) = (format!("{tiles} {as_typed}"), format!("{tiles} {rotated}"));
+        let [one, two] = two_sides(&format!("rotate {hand} by={by}"), &format!("rotated {by}"));
         let alone = |words: &str| answer(&format!("hand {words} --plain")).replace("differences 0\n", "");
         assert_eq!([one.join("\n"), two.join("\n")].map(|text| text + "\n"), [alone(&hand), alone(&second)]);
         assert!(two.contains(&format!("changes {changes}")), "{two:?}");
@@ -327,9 +327,9 @@ fn a_table_turned() {
         let rest = |lines: &[String]| lines.iter().filter(|line| !moved(line)).cloned().collect::<Vec<_>>();
         assert_eq!(rest(&one), rest(&two));
     }
-    let out = answer("turn 46mPP+5m kan=9999s kan=2222p ankan=EEEE seat=1 tsumo dealer=2 by=3");
+    let out = answer("rotate 46mPP+5m kan=9999s kan=2222p ankan=EEEE seat=1 tsumo dealer=2 by=3");
     for row in [
-        "           as typed                                                          turned by 3\n",
+        "           as typed                                                          rotated by 3\n",
         "yaku        3 value triplet                                                   3 value triplet\n           19 three kans",
         "fu         90 = 20 + 2 + 16 + 8 + 32 + 2 + 2 + 8                             90 = 20 + 2 + 16 + 8 + 32 + 2 + 2 + 8\n",
         "seat 0     W   -3,000                                                        N  +12,000\n",
@@ -370,10 +370,10 @@ fn suits_renamed() {
 }
 
 #[test]
-fn a_hand_that_is_not_turned() {
+fn a_hand_that_is_not_rotated() {
     let closed = "234567m345p67s22s+8s seat=1 tsumo";
     for (hand, refusal) in [("b8", 1), (&format!("{closed} chankan"), 5), (&format!("{closed} dealer=4"), 8)] {
-        for (command, word) in [("turn", "by=1"), ("rename", "suits=psm")] {
+        for (command, word) in [("rotate", "by=1"), ("rename", "suits=psm")] {
             let out = answer(&format!("{command} {hand} {word}"));
             assert!(out.contains(&format!("\nanswer     refusal {refusal}, ")), "{out}");
             assert!(out.contains("\na hand that is refused so is not "), "{out}");
@@ -403,7 +403,7 @@ fn the_worked_logs() {
 }
 
 #[test]
-fn refusals_of_bookings_say_which_condition_was_met() {
+fn refusals_of_entries_say_which_condition_was_met() {
     let text = "riichi 1\nriichi 1\nwin 234567m345p67s22s+8s seat=1 ron=3\n\
         WIN 234567m345p67s22s+8s seat=2 ron=3 double # no riichi of seat 2\nwin b822640210620a31661a9a6bb0\nchombo 9\n";
     let ran = run_in(Path::new("."), "tally - --plain --words", text.as_bytes());
@@ -457,39 +457,39 @@ fn a_draw_with_a_declared_seat_that_is_not_ready_is_a_chombo() {
 const DRAGONS: &str = "201684021068a2fbefc10410c2";
 
 #[test]
-fn a_win_that_was_fed() {
+fn a_win_paid_by_pao() {
     let dragons = "234m99pPPPFFFCC+C seat=1";
     for (how, changes, words) in [
-        ("tsumo", "30000 62000 30000 -2000", "seat 3 fed yaku 28 to seat 1 and pays the whole, with the counters"),
-        ("ron=2", "30000 62000 14000 14000", "seat 3 fed yaku 28 to seat 1 and pays half, seat 2 the other half and the counters"),
-        ("ron=3", "30000 62000 30000 -2000", "seat 3 fed yaku 28 to seat 1 and pays all, as the discarder too"),
+        ("tsumo", "30000 62000 30000 -2000", "pao: seat 3, the feeder of seat 1's yaku 28, pays the whole, with the counters"),
+        ("ron=2", "30000 62000 14000 14000", "pao: seat 3, the feeder of seat 1's yaku 28, pays half, seat 2 the other half and the counters"),
+        ("ron=3", "30000 62000 30000 -2000", "pao: seat 3, the feeder of seat 1's yaku 28, pays all, as the discarder too"),
     ] {
-        let text = format!("FEED yaku=28 holder=1 feeder=3\nwin {dragons} {how} indicator=5s\n");
+        let text = format!("PAO yaku=28 holder=1 feeder=3\nwin {dragons} {how} indicator=5s\n");
         let ran = run_in(Path::new("."), "tally - --plain --words", text.as_bytes());
         assert_eq!(ran.out, format!("1 P 0 30000 30000 30000 30000 0\n2 W 0 {changes} 0 {words}\n"));
         let out = run_in(Path::new("."), "tally - --words", text.as_bytes()).out;
         assert!(out.contains(&format!("\n      {words}\n")), "{out}");
-        for row in ["  counter  fed        booking\n", "        0  3 to 1 28  feed holder=1 feeder=3 yaku=28\n", "        0             win 234m99p"] {
+        for row in ["  counter  pao        text\n", "        0  3 to 1 28  pao holder=1 feeder=3 yaku=28\n", "        0             win 234m99p"] {
             assert!(out.contains(row), "{row} in\n{out}");
         }
     }
     let log = format!("50 70 10 {DRAGONS} 50 50 50 68 50 78 51");
-    let lines = "1 P 0 30000 30000 30000 30000 0\n2 W 0 30000 62000 30000 -2000 0 seat 3 fed yaku 28 to seat 1 and pays the whole, with the counters\n\
-        3 P 18 30000 62000 30000 -2000 0 refusal 18, the feed does not fit, or is named already: seat 1 is holder and feeder\n\
+    let lines = "1 P 0 30000 30000 30000 30000 0\n2 W 0 30000 62000 30000 -2000 0 pao: seat 3, the feeder of seat 1's yaku 28, pays the whole, with the counters\n\
+        3 P 18 30000 62000 30000 -2000 0 refusal 18, the pao does not fit, or is named already: seat 1 is holder and feeder\n\
         4 P 0 30000 62000 30000 -2000 0\n\
-        5 P 18 30000 62000 30000 -2000 0 refusal 18, the feed does not fit, or is named already: seat 2 is named for yaku 29 of seat 1\n";
+        5 P 18 30000 62000 30000 -2000 0 refusal 18, the pao does not fit, or is named already: seat 2 is named for yaku 29 of seat 1\n";
     assert_eq!(answer(&format!("tally {log} --plain --words")), lines);
-    let text = "feed holder=1 feeder=3 yaku=28\nwin 234m99pPPPFFFCC+C seat=1 tsumo indicator=5s\nfeed holder=1 feeder=1 yaku=28\n\
-        feed holder=1 feeder=2 yaku=29\nfeed holder=1 feeder=3 yaku=29\nbytes 51  # refusal 14, the log's entry is bad or cut: feed argument not 0\n";
+    let text = "pao holder=1 feeder=3 yaku=28\nwin 234m99pPPPFFFCC+C seat=1 tsumo indicator=5s\npao holder=1 feeder=1 yaku=28\n\
+        pao holder=1 feeder=2 yaku=29\npao holder=1 feeder=3 yaku=29\nbytes 51  # refusal 14, the log's entry is bad or cut: pao argument not 0\n";
     assert_eq!(answer(&format!("log {log}")), text);
-    for (log, why) in [("50", "bytes missing"), ("50 71", "a zero bit of a feed set"), ("5f 70", "feed argument not 0"), ("70", "kind over 6")] {
+    for (log, why) in [("50", "bytes missing"), ("50 71", "a zero bit of a pao set"), ("5f 70", "pao argument not 0"), ("70", "kind over 6")] {
         let out = answer(&format!("tally {log}"));
         assert!(out.contains(&format!(": refusal 14, the log's entry is bad or cut: {why}\n")), "{out}");
     }
 }
 
 #[test]
-fn rons_on_one_tile() {
+fn a_multiple_ron() {
     let two = LINE_1.replacen("b8", "d8", 1);
     let log = format!("2f 42 {LINE_1} {two} 41 {} 4f", LINE_1.replacen("b8", "20", 1));
     let lines = "1 D 0 30000 30000 30000 30000 0\n2 M 0 30000 32300 32000 25700 0 sticks and counters are seat 1's\n\
@@ -497,7 +497,7 @@ fn rons_on_one_tile() {
     assert_eq!(answer(&format!("tally {log} --plain --words")), lines);
     let hand = "234567m345p2267s+8s";
     let text = format!(
-        "draw 0 1 2 3\nmany {hand} seat=1 ron=3 indicator=N / {hand} seat=2 ron=3 indicator=N\nmany {hand} seat=1 tsumo indicator=N\n\
+        "draw 0 1 2 3\nmulti {hand} seat=1 ron=3 indicator=N / {hand} seat=2 ron=3 indicator=N\nmulti {hand} seat=1 tsumo indicator=N\n\
         bytes 4f  # refusal 14, the log's entry is bad or cut: no records or over three\n"
     );
     assert_eq!(answer(&format!("log {log}")), text);
@@ -516,7 +516,7 @@ fn rons_on_one_tile() {
 }
 
 #[test]
-fn refusals_of_a_set_say_which_record_meets_them() {
+fn refusals_of_a_multiple_ron_say_which_record_meets_them() {
     let hand = "234567m345p67s22s+8s";
     for (text, words) in [
         (format!("{hand} seat=1 ron=3 / {hand} seat=1 ron=3"), "17, the hands are no rons on one tile, or none or over three: two have one winner"),
@@ -532,14 +532,14 @@ fn refusals_of_a_set_say_which_record_meets_them() {
             "11, the riichi field and the declaration differ: record 1: the record has riichi, seat 1 has not declared",
         ),
     ] {
-        let ran = run_in(Path::new("."), "tally - --plain --words", format!("many {text}\n").as_bytes());
+        let ran = run_in(Path::new("."), "tally - --plain --words", format!("multi {text}\n").as_bytes());
         let refusal: &str = words.split(',').next().unwrap_or("");
         assert_eq!(ran.out, format!("1 M {refusal} 30000 30000 30000 30000 0 refusal {words}\n"));
     }
-    let fed = "feed holder=0 feeder=1 yaku=28\nfeed holder=2 feeder=0 yaku=28\nMANY 234m99pPPPFFFCC+C seat=2 ron=3 indicator=5s / 234m99pPPPFFFCC+C seat=0 ron=3 indicator=5s\n";
-    let ran = run_in(Path::new("."), "tally - --plain --words", fed.as_bytes());
-    let last = "3 M 0 62000 6000 62000 -10000 0 sticks and counters are seat 0's; seat 0 fed yaku 28 to seat 2 and pays half, seat 3 the other half; \
-        seat 1 fed yaku 28 to seat 0 and pays half, seat 3 the other half\n";
+    let pao = "pao holder=0 feeder=1 yaku=28\npao holder=2 feeder=0 yaku=28\nMULTI 234m99pPPPFFFCC+C seat=2 ron=3 indicator=5s / 234m99pPPPFFFCC+C seat=0 ron=3 indicator=5s\n";
+    let ran = run_in(Path::new("."), "tally - --plain --words", pao.as_bytes());
+    let last = "3 M 0 62000 6000 62000 -10000 0 sticks and counters are seat 0's; pao: seat 0, the feeder of seat 2's yaku 28, pays half, seat 3 the other half; \
+        pao: seat 1, the feeder of seat 0's yaku 28, pays half, seat 3 the other half\n";
     assert!(ran.out.ends_with(last), "{}", ran.out);
 }
 
@@ -552,7 +552,7 @@ fn results_put_right() {
         6 X 20 33000 33000 32000 21000 1 refusal 20, there is no result to supersede: a riichi has been accepted since\n";
     assert_eq!(answer(&format!("tally {log} --plain --words")), lines);
     let text = "riichi 1\ndraw 1\ncorrect win 234567m345p2267s+8s seat=1 ron=3 riichi indicator=N\ncorrect chombo 3\nriichi 2\ncorrect draw 0 1 2 3\n\
-        bytes 6002  # refusal 14, the log's entry is bad or cut: a correction of no win, draw, chombo or many\n";
+        bytes 6002  # refusal 14, the log's entry is bad or cut: a correction of no win, draw, chombo or multiple ron\n";
     assert_eq!(answer(&format!("log {log}")), text);
     let back = run_in(Path::new("."), "log - --plain", text.replace("correct", "CORRECT").replace("T win", "T Win").as_bytes());
     assert_eq!(back.out.trim_end(), log.replace(' ', ""), "{}", back.err);
@@ -561,19 +561,19 @@ fn results_put_right() {
         assert!(out.contains(row), "{row} in\n{out}");
     }
     // The deal of a correction is that of the result which it supersedes; so are declared seats, feeders and counters.
-    let text = "draw 0\nriichi 2\nfeed holder=1 feeder=3 yaku=28\ndraw 2\ncorrect win 234m99pPPPFFFCC+C seat=1 ron=0 indicator=5s\n\
-        riichi 9\ncorrect draw\ncorrect many 234567m345p67s22s+8s seat=1 ron=3 / 234567m345p67s22s+8s seat=0 ron=3\nfeed holder=1 feeder=3 yaku=28\ncorrect draw 1\n";
+    let text = "draw 0\nriichi 2\npao holder=1 feeder=3 yaku=28\ndraw 2\ncorrect win 234m99pPPPFFFCC+C seat=1 ron=0 indicator=5s\n\
+        riichi 9\ncorrect draw\ncorrect multi 234567m345p67s22s+8s seat=1 ron=3 / 234567m345p67s22s+8s seat=0 ron=3\npao holder=1 feeder=3 yaku=28\ncorrect draw 1\n";
     let ran = run_in(Path::new("."), "tally - --words", text.as_bytes());
     for row in [
         "    4    E1        0  32,000  28,000  31,000  28,000       1        2             draw 2\n    5    E1        0  16,700  62,300  28,000  13,000       0        0             correct win",
-        "\n      supersedes entry 4; seat 3 fed yaku 28 to seat 1 and pays half, seat 0 the other half and the counters\n",
+        "\n      supersedes entry 4; pao: seat 3, the feeder of seat 1's yaku 28, pays half, seat 0 the other half and the counters\n",
         "\n      supersedes entry 5; a chombo, declared and not ready: seat 2\n",
         "\n      supersedes entry 7; sticks and counters are seat 0's\n",
-        "\n      refusal 20, there is no result to supersede: a feed has been accepted since\n",
+        "\n      refusal 20, there is no result to supersede: a pao has been accepted since\n",
     ] {
         assert!(ran.out.contains(row), "{row} in\n{}", ran.out);
     }
-    let text = "correct draw\nriichi 1\ndraw 1\ncorrect chombo 4\ncorrect win 234567m345p67s22s+8s seat=1 ron=3\ncorrect many 456p79s234s99p+8s chi=123m seat=2 ron=3\n";
+    let text = "correct draw\nriichi 1\ndraw 1\ncorrect chombo 4\ncorrect win 234567m345p67s22s+8s seat=1 ron=3\ncorrect multi 456p79s234s99p+8s chi=123m seat=2 ron=3\n";
     let ran = run_in(Path::new("."), "tally - --plain --words", text.as_bytes());
     let words: Vec<&str> = ran.out.lines().map(|line| line.splitn(9, ' ').nth(8).unwrap_or("")).collect();
     let wanted = [
@@ -591,9 +591,9 @@ fn results_put_right() {
     for (log, why) in [
         ("60".into(), "bytes missing"),
         ("61 20".into(), "correction argument not 0"),
-        ("60 01".into(), "a correction of no win, draw, chombo or many"),
-        ("60 50 70".into(), "a correction of no win, draw, chombo or many"),
-        ("60 60 20".into(), "a correction of no win, draw, chombo or many"),
+        ("60 01".into(), "a correction of no win, draw, chombo or multiple ron"),
+        ("60 50 70".into(), "a correction of no win, draw, chombo or multiple ron"),
+        ("60 60 20".into(), "a correction of no win, draw, chombo or multiple ron"),
         ("60 44".into(), "no records or over three"),
         ("60 11".into(), "win argument not 0"),
         (format!("60 10 {}", &LINE_1[..24]), "bytes missing"),
@@ -640,7 +640,7 @@ fn damage_counts_refusals() {
 #[test]
 fn help_for_the_tool_and_each_command() {
     let tool = answer("--help");
-    for command in ["hand", "readings", "turn", "rename", "slip", "waits", "ready", "cards", "judge", "say", "log", "tally", "damage"] {
+    for command in ["hand", "readings", "rotate", "rename", "slip", "waits", "ready", "cards", "judge", "say", "log", "tally", "damage"] {
         assert!(tool.contains(&format!("\n  {command} ")));
         let help = answer(&format!("{command} --help"));
         assert!(help.starts_with(&format!("tester {command} ")) && help.contains("--plain"));

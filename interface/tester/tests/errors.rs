@@ -12,8 +12,8 @@ fn fails(line: &str, input: &str, message: &str) {
 
 #[test]
 fn of_the_tool() {
-    fails("", "", "no command: hand, readings, turn, rename, slip, waits, ready, cards, judge, say, log, tally or damage; --help says more");
-    fails("hands", "", "word 1, \"hands\": no command; there are hand, readings, turn, rename, slip, waits, ready, cards, judge, say, log, tally and damage");
+    fails("", "", "no command: hand, readings, rotate, rename, slip, waits, ready, cards, judge, say, log, tally or damage; --help says more");
+    fails("hands", "", "word 1, \"hands\": no command; there are hand, readings, rotate, rename, slip, waits, ready, cards, judge, say, log, tally and damage");
 }
 
 #[test]
@@ -55,14 +55,14 @@ fn of_a_hand() {
 }
 
 #[test]
-fn of_a_turn_and_a_renaming() {
+fn of_a_rotation_and_a_renaming() {
     let hand = "234567m345p67s22s+8s seat=1 ron=3";
-    fails(&format!("turn {hand}"), "", "after word 4, \"ron=3\": the number of seats is missing, such as by=1");
+    fails(&format!("rotate {hand}"), "", "after word 4, \"ron=3\": the number of seats is missing, such as by=1");
     fails(&format!("rename {hand}"), "", "after word 4, \"ron=3\": what the suits become is missing, such as suits=psm");
-    fails("turn by=1", "", "after word 2, \"by=1\": no hand, such as 234567m345p67s22s+8s seat=1 ron=3");
+    fails("rotate by=1", "", "after word 2, \"by=1\": no hand, such as 234567m345p67s22s+8s seat=1 ron=3");
     for by in ["", "x", "-1", "256"] {
         let message = format!("word 5, \"by={by}\": a number of seats, such as 1, is needed");
-        fails(&format!("turn {hand} by={by}"), "", &message);
+        fails(&format!("rotate {hand} by={by}"), "", &message);
     }
     for suits in ["", "m", "mpp", "psmm", "mpz"] {
         let message = format!("word 5, \"suits={suits}\": what m, p and s become is needed, such as psm");
@@ -131,7 +131,7 @@ fn of_a_log() {
 #[test]
 fn of_a_text() {
     for (line, message) in [
-        ("richi 1", "word 1, \"richi\": a line begins with riichi, win, draw, chombo, many, feed, correct or bytes (--bytes if the file is no text)"),
+        ("richi 1", "word 1, \"richi\": a line begins with riichi, win, draw, chombo, multi, pao, correct or bytes (--bytes if the file is no text)"),
         ("riichi", "after word 1, \"riichi\": the seat is missing, 0 to 3"),
         ("riichi 1 2", "word 3, \"2\": one seat is enough"),
         ("chombo 16", "word 2, \"16\": a seat is 0, 1, 2 or 3 (up to 15 to see it refused)"),
@@ -140,26 +140,29 @@ fn of_a_text() {
         ("win # nothing", "after word 1, \"win\": no hand, such as 234567m345p67s22s+8s seat=1 ron=3"),
         ("win 234567m345p67s22s+8s seat=1", "after word 3, \"seat=1\": tsumo or ron=, such as ron=3, is missing"),
         ("win 234567m345p67s22s+8s seat=1 tsumo wind=E", "word 5, \"wind=E\": in a log the game says who deals and which wind blows"),
-        ("many", "after word 1, \"many\": no hand, such as 234567m345p67s22s+8s seat=1 ron=3"),
-        ("many 234567m345p67s22s+8s seat=1 ron=3 /", "after word 5, \"/\": no hand, such as 234567m345p67s22s+8s seat=1 ron=3"),
-        ("many / 00", "after word 2, \"/\": no hand, such as 234567m345p67s22s+8s seat=1 ron=3"),
-        ("many 234567m345p67s22s+8s seat=1 / 00", "after word 3, \"seat=1\": tsumo or ron=, such as ron=3, is missing"),
-        ("many 00 / 234567m345p67s22s+8s seat=5", "word 5, \"seat=5\": a seat is 0, 1, 2 or 3"),
-        ("many 00 / 00 / 00 / 00", "word 8, \"00\": a fourth hand, at most 3 fit"),
-        ("feed", "after word 1, \"feed\": holder=, feeder= and yaku= are needed, such as holder=1 feeder=3 yaku=28"),
-        ("feed holder=1 yaku=28", "after word 3, \"yaku=28\": holder=, feeder= and yaku= are needed, such as holder=1 feeder=3 yaku=28"),
-        ("feed holder=4 feeder=1 yaku=28", "word 2, \"holder=4\": a seat is 0, 1, 2 or 3"),
-        ("feed holder=0 feeder=x yaku=28", "word 3, \"feeder=x\": a seat is 0, 1, 2 or 3"),
-        ("feed holder=0 feeder=1 yaku=30", "word 4, \"yaku=30\": 28 for three dragon triplets or 29 for four wind triplets is needed"),
-        ("feed holder=0 feeder=1 yaku=28 yaku=28", "word 5, \"yaku=28\": an earlier word has said this already"),
-        ("feed 0 1 28", "word 2, \"0\": one of holder=, feeder= and yaku= is needed"),
-        ("correct", "after word 1, \"correct\": what the result was is needed: win, draw, chombo or many"),
-        ("correct riichi 1", "word 2, \"riichi\": what the result was is needed: win, draw, chombo or many"),
-        ("correct correct draw", "word 2, \"correct\": what the result was is needed: win, draw, chombo or many"),
+        ("many 00 / 00", "word 1, \"many\": the word is multi: multi HAND / HAND"),
+        ("correct many 00 / 00", "word 2, \"many\": the word is multi: multi HAND / HAND"),
+        ("feed holder=1 feeder=3 yaku=28", "word 1, \"feed\": the word is pao: pao holder=1 feeder=3 yaku=28"),
+        ("multi", "after word 1, \"multi\": no hand, such as 234567m345p67s22s+8s seat=1 ron=3"),
+        ("multi 234567m345p67s22s+8s seat=1 ron=3 /", "after word 5, \"/\": no hand, such as 234567m345p67s22s+8s seat=1 ron=3"),
+        ("multi / 00", "after word 2, \"/\": no hand, such as 234567m345p67s22s+8s seat=1 ron=3"),
+        ("multi 234567m345p67s22s+8s seat=1 / 00", "after word 3, \"seat=1\": tsumo or ron=, such as ron=3, is missing"),
+        ("multi 00 / 234567m345p67s22s+8s seat=5", "word 5, \"seat=5\": a seat is 0, 1, 2 or 3"),
+        ("multi 00 / 00 / 00 / 00", "word 8, \"00\": a fourth hand, at most 3 fit"),
+        ("pao", "after word 1, \"pao\": holder=, feeder= and yaku= are needed, such as holder=1 feeder=3 yaku=28"),
+        ("pao holder=1 yaku=28", "after word 3, \"yaku=28\": holder=, feeder= and yaku= are needed, such as holder=1 feeder=3 yaku=28"),
+        ("pao holder=4 feeder=1 yaku=28", "word 2, \"holder=4\": a seat is 0, 1, 2 or 3"),
+        ("pao holder=0 feeder=x yaku=28", "word 3, \"feeder=x\": a seat is 0, 1, 2 or 3"),
+        ("pao holder=0 feeder=1 yaku=30", "word 4, \"yaku=30\": 28 for three dragon triplets or 29 for four wind triplets is needed"),
+        ("pao holder=0 feeder=1 yaku=28 yaku=28", "word 5, \"yaku=28\": an earlier word has said this already"),
+        ("pao 0 1 28", "word 2, \"0\": one of holder=, feeder= and yaku= is needed"),
+        ("correct", "after word 1, \"correct\": what the result was is needed: win, draw, chombo or multi"),
+        ("correct riichi 1", "word 2, \"riichi\": what the result was is needed: win, draw, chombo or multi"),
+        ("correct correct draw", "word 2, \"correct\": what the result was is needed: win, draw, chombo or multi"),
         ("correct draw 4", "word 3, \"4\": a ready seat is 0, 1, 2 or 3"),
         ("correct chombo", "after word 2, \"chombo\": the seat is missing, 0 to 3"),
         ("correct win 234567m345p67s22s+8s seat=1 tsumo wind=E", "word 6, \"wind=E\": in a log the game says who deals and which wind blows"),
-        ("correct many", "after word 2, \"many\": no hand, such as 234567m345p67s22s+8s seat=1 ron=3"),
+        ("correct multi", "after word 2, \"multi\": no hand, such as 234567m345p67s22s+8s seat=1 ron=3"),
         ("bytes 4", "word 2, \"4\": two hexadecimal digits make a byte, one is left over"),
         ("bytes xy", "word 2, \"xy\": hexadecimal digits are needed"),
     ] {

@@ -4,18 +4,18 @@
 use std::{env, fs, process::ExitCode};
 
 use other_scorer::claim::{pack, Claim};
-use other_scorer::entry::LENGTH;
 use other_scorer::read;
 use other_scorer::score::{best, valued};
+use other_scorer::vector::LENGTH;
 
-/// The 24 bytes of an entry, if it scores.
-fn claim(entry: &[u8]) -> Option<[u8; 24]> {
-    let (length, dealer, wind) = (entry[0] as usize, entry[17], entry[18]);
-    let hand = read(&entry[1..1 + length]).ok().filter(|_| dealer < 4 && wind < 2)?;
+/// The 24 bytes of a vector, if it scores.
+fn claim(vector: &[u8]) -> Option<[u8; 24]> {
+    let (length, dealer, wind) = (vector[0] as usize, vector[17], vector[18]);
+    let hand = read(&vector[1..1 + length]).ok().filter(|_| dealer < 4 && wind < 2)?;
     let (reading, value) = valued(&hand, dealer, wind).into_iter().nth(best(&valued(&hand, dealer, wind))?)?;
     let claim = pack(&Claim { reading, gain: value?.gain as u32 });
     let mut bytes = [0; 24];
-    bytes[..1 + length].copy_from_slice(&entry[..1 + length]);
+    bytes[..1 + length].copy_from_slice(&vector[..1 + length]);
     bytes[14..17].copy_from_slice(&[dealer, wind, claim.len() as u8]);
     bytes[17..17 + claim.len()].copy_from_slice(&claim);
     Some(bytes)

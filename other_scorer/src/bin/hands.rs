@@ -2,22 +2,22 @@
 
 use std::{env, fs, process::ExitCode};
 
-use other_scorer::entry::{make, LENGTH};
 use other_scorer::rng::Rng;
 use other_scorer::survey::Survey;
+use other_scorer::vector::{make, LENGTH};
 
-/// Makes the entries, writes the file, prints the coverage.
+/// Makes the vectors, writes the file, prints the coverage.
 fn run(seed: u64, count: usize, out: &str) -> std::io::Result<bool> {
     let mut rng = Rng::new(seed);
     let mut survey = Survey::new();
     let mut file = Vec::with_capacity(LENGTH * count);
     for index in 0..count {
-        let entry = make(&mut rng, index);
-        survey.note(&entry);
-        file.extend(entry.bytes());
+        let vector = make(&mut rng, index);
+        survey.note(&vector);
+        file.extend(vector.bytes());
     }
     fs::write(out, file)?;
-    println!("seed {seed}, {count} entries of {LENGTH} bytes");
+    println!("seed {seed}, {count} vectors of {LENGTH} bytes");
     let whole = survey.report(count as u64 / 1000);
     Ok(whole)
 }

@@ -2,10 +2,10 @@
 
 use super::scene::{named, refused_record, unfit};
 use super::script::Script;
-use crate::booking::Booking::{self, Chombo, Draw, Many, Riichi, Win};
 use crate::codec::pack;
 use crate::deal::on_tile_of;
-use crate::fed::{self, DRAGONS, WINDS};
+use crate::entry::Entry::{self, Chombo, Draw, MultiRon, Riichi, Win};
+use crate::pao::{self, DRAGONS, WINDS};
 use crate::record::{Hand, RON};
 
 /// The results that are put right, and by what, by letters as in `result`.
@@ -29,27 +29,27 @@ fn bits(seats: &[u8]) -> u8 {
     seats.iter().fold(0, |bits, seat| bits | 8 >> seat)
 }
 
-/// Records of hands as one set.
-fn set(hands: &[Hand]) -> Booking {
-    Many { number: hands.len() as u8, records: hands.iter().flat_map(pack).collect() }
+/// The records of hands as a multiple ron.
+fn multi_ron(hands: &[Hand]) -> Entry {
+    MultiRon { number: hands.len() as u8, records: hands.iter().flat_map(pack).collect() }
 }
 
-/// A result that the game as it is accepts: a win (W), one that was fed (F), a draw (D), one with no declared child ready (U), a chombo
-/// (C) or two rons (M); with `keep` the dealer wins or is ready, else children do or are.
-fn result(script: &mut Script, kind: char, keep: bool) -> Booking {
-    let game = script.game;
-    let seats = script.seats(&[game.dealer]);
-    let declared: Vec<u8> = (0..4).filter(|&seat| game.declared[seat as usize]).collect();
+/// A result that the position as it is accepts: a win (W), one that a feeder pays (F), a draw (D), one with no declared child ready (U),
+/// a chombo (C) or a multiple ron of two (M); with `keep` the dealer wins or is ready, else children do or are.
+fn result(script: &mut Script, kind: char, keep: bool) -> Entry {
+    let position = script.position;
+    let seats = script.seats(&[position.dealer]);
+    let declared: Vec<u8> = (0..4).filter(|&seat| position.declared[seat as usize]).collect();
     let winners = if keep { &seats[..2] } else { &seats[1..3] };
     let from = if keep { seats[2] } else { script.rng.pick(&[seats[0], seats[3]]) };
     let fits = |hand: &Hand| (hand.riichi > 0) == declared.contains(&hand.winner);
-    let is_fed = |hand: &Hand| fed::yaku(hand, game.dealer, game.wind).is_some_and(|yaku| game.feeder(hand.winner, yaku).is_some());
+    let by_pao = |hand: &Hand| pao::yaku(hand, position.dealer, position.wind).is_some_and(|yaku| position.feeder(hand.winner, yaku).is_some());
     match kind {
         'W' => Win(pack(&script.find(winners[0], |hand, scored| scored.refusal == 0 && fits(hand)))),
-        'F' => Win(pack(&script.find(winners[0], |hand, scored| scored.refusal == 0 && fits(hand) && is_fed(hand)))),
-        'D' if keep => Draw(bits(&[&declared[..], &[game.dealer]].concat())),
+        'F' => Win(pack(&script.find(winners[0], |hand, scored| scored.refusal == 0 && fits(hand) && by_pao(hand)))),
+        'D' if keep => Draw(bits(&[&declared[..], &[position.dealer]].concat())),
         'D' => Draw(bits(&declared)),
-        'U' => Draw(if keep { bits(&[game.dealer]) } else { 0 }),
+        'U' => Draw(if keep { bits(&[position.dealer]) } else { 0 }),
         'C' => Chombo(script.rng.within(0, 3)),
         _ => {
             let first = script.find(winners[0], |hand, scored| hand.how == RON && hand.discarder == from && scored.refusal == 0 && fits(hand));
@@ -57,18 +57,18 @@ fn result(script: &mut Script, kind: char, keep: bool) -> Booking {
                 let riichi = declared.contains(&winners[1]) as u8;
                 let second = on_tile_of(&mut script.rng, &first, winners[1], riichi);
                 if let Some(second) = second.filter(|hand| script.score(hand).refusal == 0) {
-                    return set(&[first, second]);
+                    return multi_ron(&[first, second]);
                 }
             }
         }
     }
 }
 
-/// A result, after a riichi and a feed of the dealer's, put right at once.
+/// A result, after a riichi and a pao of the dealer's, put right at once.
 pub fn corrected(script: &mut Script, old: char, new: char) {
-    let dealer = script.game.dealer;
+    let dealer = script.position.dealer;
     let (child, yaku) = (script.able_first(&[dealer])[1], script.rng.pick(&[DRAGONS, WINDS]));
-    let own = new == 'W' && script.game.affords_riichi(dealer);
+    let own = new == 'W' && script.position.affords_riichi(dealer);
     script.add(Riichi(if own { dealer } else { child }));
     named(script, dealer, yaku);
     let (old, new) = (result(script, old, false), result(script, new, true));
@@ -86,9 +86,9 @@ pub fn thrice(script: &mut Script) {
     }
 }
 
-/// Corrections after a riichi, with an argument over 3 too, and after a feed (refusal 20); then one after refused bookings.
+/// Corrections after a riichi, with an argument over 3 too, and after a pao (refusal 20); then one after refused bookings.
 pub fn late(script: &mut Script) {
-    let dealer = script.game.dealer;
+    let dealer = script.position.dealer;
     script.draw(&[dealer]);
     let seat = script.able_first(&[])[0];
     script.add(Riichi(seat));
@@ -104,10 +104,10 @@ pub fn late(script: &mut Script) {
     script.add(Draw(bits(&[dealer, seat])).as_correction());
 }
 
-/// A draw with a declared seat ready; corrections of it that the earlier game refuses, 11 for what the game as it stands would accept;
-/// and one that it accepts.
+/// A draw with a declared seat ready; corrections of it that the earlier position refuses, 11 for what the position that stands would
+/// accept; and one that it accepts.
 pub fn refused(script: &mut Script) {
-    let dealer = script.game.dealer;
+    let dealer = script.position.dealer;
     let seat = script.able_first(&[])[0];
     script.add(Riichi(seat));
     script.draw(&[dealer, seat]);
@@ -119,18 +119,18 @@ pub fn refused(script: &mut Script) {
     let silent = script.find(seat, |hand, scored| scored.refusal == 0 && hand.riichi == 0);
     script.add(Win(pack(&silent)).as_correction());
     let hands = unfit(script, 1);
-    script.add(set(&hands).as_correction());
+    script.add(multi_ron(&hands).as_correction());
     script.add(Chombo(seat).as_correction());
 }
 
 /// The draw that has ended the game put right by a chombo: play goes on, unless 200 hands are finished, until a draw with a declared
 /// seat ready ends it again; that is put right too, and by a draw again, so that the game ends with a stick as before.
 pub fn at_the_end(script: &mut Script) {
-    let (dealer, earlier) = (script.game.dealer, script.earlier());
-    let declared = earlier.and_then(|game| (0..4).find(|&seat| game.declared[seat as usize]));
+    let (dealer, earlier) = (script.position.dealer, script.earlier());
+    let declared = earlier.and_then(|position| (0..4).find(|&seat| position.declared[seat as usize]));
     let mut ready = declared.unwrap_or((dealer + 1) % 4);
     script.add(Chombo(ready).as_correction());
-    if script.game.is_open() {
+    if script.position.is_open() {
         ready = script.able_first(&[dealer])[1];
         script.add(Riichi(ready));
         script.add(Draw(0).as_correction());

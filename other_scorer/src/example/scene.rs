@@ -3,17 +3,17 @@
 
 use super::correction;
 use super::script::Script;
-use crate::booking::Booking::{Chombo, Draw, Feed, Many, Riichi, Win};
 use crate::codec::{length, pack, read};
 use crate::deal::{drawn, near, on_tile_of};
+use crate::entry::Entry::{Chombo, Draw, MultiRon, Pao, Riichi, Win};
 use crate::fault::{self, FAULTS};
-use crate::fed::{self, DRAGONS, WINDS};
+use crate::multi_ron;
+use crate::pao::{self, DRAGONS, WINDS};
 use crate::record::{Hand, LAST_TILE, ORDINARY, RON, TSUMO};
 use crate::score::Scored;
-use crate::set;
 use crate::sound::refusal;
 
-/// Whose tile a win that was fed takes.
+/// Whose tile a win takes that a feeder pays.
 #[derive(Clone, Copy, Debug, PartialEq, Eq)]
 pub enum From {
     Wall,
@@ -40,8 +40,8 @@ pub enum Scene {
     Chombo(u8, bool),
     /// A draw in which so many declared seats are not ready: a chombo of each (02, S-7).
     Unready(u8),
-    /// A win of the dealer with this yaku, which was fed (02, S-8).
-    Fed(u8, From),
+    /// A win of the dealer with this yaku, paid by pao (02, S-8).
+    Pao(u8, From),
     /// A win of the dealer with three wind triplets and a pair, named for four.
     ThreeWinds,
     /// A win of the dealer with a yaku that another holder is named for.
@@ -49,23 +49,23 @@ pub enum Scene {
     /// A win of the dealer with one of the two yaku, named for the other.
     OtherYaku,
     /// A holder and yaku named twice, and a holder as the feeder (refusal 18).
-    FedTwice,
+    PaoTwice,
     /// A feeder named, the hand's end by a win, a draw, a draw with a seat that is not ready (U) or a chombo; then that win.
     Lapsed(char),
-    /// So many rons on one tile, the dealer's among them (02, S-6).
-    Set(u8),
-    /// Rons of the dealer, who was fed, and another: from the feeder, from another, or with the feeder as the other winner.
-    SetFed(u8),
-    /// Two rons that make no set, in this way of `set::FAULTS` (refusal 17).
-    SetUnfit(usize),
+    /// A multiple ron of so many, the dealer's among them (02, S-6).
+    MultiRon(u8),
+    /// Rons of the dealer, paid by pao, and another: from the feeder, from another, or with the feeder as the other winner.
+    MultiRonPao(u8),
+    /// Two hands that make no multiple ron, in this way of `multi_ron::FAULTS` (refusal 17).
+    MultiRonUnfit(usize),
     /// Two rons, one of which is refused with 2 to 7 or 11.
-    SetRefused(u8),
+    MultiRonRefused(u8),
     /// A result of one kind, which passes the deal if it can, put right by one of another, which keeps it: a win, a draw, a draw with a
-    /// declared seat that is not ready (U), a chombo, a set of rons, or a win that was fed (F) (02, S-10).
+    /// declared seat that is not ready (U), a chombo, a multiple ron, or a win that a feeder pays (F) (02, S-10).
     Corrected(char, char),
     /// A result put right three times (02, S-10).
     CorrectedTwice,
-    /// Corrections after a riichi and after a feed (refusal 20), and one after refused bookings (02, S-10).
+    /// Corrections after a riichi and after a pao (refusal 20), and one after refused bookings (02, S-10).
     CorrectedLate,
     /// Corrections refused with 2 to 8, 11 and 17 (02, S-10).
     CorrectionRefused,
@@ -85,7 +85,7 @@ pub enum Scene {
     /// (refusal 21), wins with riichi marked all the same (refusal 11) and without (02, S-11).
     LastStick,
     /// Riichi of a seat with under 1,000 (refusal 21), and wins with riichi marked all the same (refusal 11) (02, S-11).
-    TurnedAway,
+    NoStick,
 }
 
 /// Any accepted win.
@@ -102,9 +102,9 @@ impl Scene {
             Scene::Unready(4..) | Scene::Chombo(4.., _) => 1,
             Scene::Unready(_) | Scene::Chombo(1.., _) | Scene::Draw(_) => 2,
             Scene::Carried | Scene::Corrected('U', _) | Scene::Corrected(_, 'U') => 3,
-            Scene::Set(3) => 4,
-            Scene::Set(2) | Scene::Lapsed('U') => 5,
-            Scene::Fed(_, From::Wall | From::Feeder) | Scene::Yaku(10 | 11) => 6,
+            Scene::MultiRon(3) => 4,
+            Scene::MultiRon(2) | Scene::Lapsed('U') => 5,
+            Scene::Pao(_, From::Wall | From::Feeder) | Scene::Yaku(10 | 11) => 6,
             Scene::Corrected(..) | Scene::CorrectedLate | Scene::CorrectionRefused => 6,
             _ => 7,
         }
@@ -118,7 +118,7 @@ impl Scene {
 
     /// Adds the scene's entries.
     pub fn play(self, script: &mut Script) {
-        let dealer = script.game.dealer;
+        let dealer = script.position.dealer;
         match self {
             Scene::Yaku(n) => {
                 if n == 10 || n == 11 {
@@ -137,28 +137,28 @@ impl Scene {
             Scene::Draw(count) => draw(script, count as usize),
             Scene::Chombo(count, own) => chombo(script, count as usize, own),
             Scene::Unready(count) => unready(script, count as usize),
-            Scene::Fed(yaku, from) => fed(script, dealer, yaku, from),
+            Scene::Pao(yaku, from) => pao(script, dealer, yaku, from),
             Scene::ThreeWinds => {
                 named(script, dealer, WINDS);
-                let wind = script.game.wind;
-                script.win(dealer, |hand, scored| scored.yaku >> WINDS & 1 == 1 && fed::yaku(hand, dealer, wind).is_none());
+                let wind = script.position.wind;
+                script.win(dealer, |hand, scored| scored.yaku >> WINDS & 1 == 1 && pao::yaku(hand, dealer, wind).is_none());
             }
             Scene::OtherHolder => {
                 let (child, yaku) = (script.child(), script.rng.pick(&[DRAGONS, WINDS]));
                 named(script, child, yaku);
-                with_fed_yaku(script, dealer, yaku, |_| true);
+                with_pao_yaku(script, dealer, yaku, |_| true);
             }
             Scene::OtherYaku => {
                 let yaku = script.rng.pick(&[DRAGONS, WINDS]);
                 named(script, dealer, DRAGONS + WINDS - yaku);
-                with_fed_yaku(script, dealer, yaku, |_| true);
+                with_pao_yaku(script, dealer, yaku, |_| true);
             }
-            Scene::FedTwice => fed_twice(script),
+            Scene::PaoTwice => pao_twice(script),
             Scene::Lapsed(by) => lapsed(script, by),
-            Scene::Set(number) => rons(script, number as usize),
-            Scene::SetFed(way) => set_fed(script, way),
-            Scene::SetUnfit(fault) => set_unfit(script, fault),
-            Scene::SetRefused(number) => set_refused(script, number),
+            Scene::MultiRon(number) => multi_ron(script, number as usize),
+            Scene::MultiRonPao(way) => multi_ron_pao(script, way),
+            Scene::MultiRonUnfit(fault) => multi_ron_unfit(script, fault),
+            Scene::MultiRonRefused(number) => multi_ron_refused(script, number),
             Scene::Corrected(old, new) => correction::corrected(script, old, new),
             Scene::CorrectedTwice => correction::thrice(script),
             Scene::CorrectedLate => correction::late(script),
@@ -182,12 +182,12 @@ impl Scene {
             Scene::Silent => silent(script, 0),
             Scene::NoYaku => silent(script, 7),
             Scene::LastStick => last_stick(script),
-            Scene::TurnedAway => {
+            Scene::NoStick => {
                 let seat = script.by_score()[3];
-                while script.game.is_open() && script.game.affords_riichi(seat) {
+                while script.position.is_open() && script.position.affords_riichi(seat) {
                     script.add(Chombo(seat));
                 }
-                turned_away(script, seat);
+                no_stick(script, seat);
             }
         }
     }
@@ -199,8 +199,8 @@ fn undeclared(script: &mut Script, seat: u8) {
     script.add(Win(pack(&hand)));
 }
 
-/// Riichi of a seat with under 1,000, then a win of it and a set with its win, riichi marked in both (02, S-11).
-fn turned_away(script: &mut Script, seat: u8) {
+/// Riichi of a seat with under 1,000, then a win of it and a multiple ron with its win, riichi marked in both (02, S-11).
+fn no_stick(script: &mut Script, seat: u8) {
     script.add(Riichi(seat));
     undeclared(script, seat);
     let seats = script.seats(&[seat]);
@@ -208,7 +208,7 @@ fn turned_away(script: &mut Script, seat: u8) {
         let mut hands = script.hands(&seats[..2], seats[2], |_| true);
         hands[0].riichi = 1;
         if hands[1].riichi == 0 && refusal(&hands[0]) == 0 {
-            script.set(&hands, false);
+            script.multi_ron(&hands, false);
             return;
         }
     }
@@ -216,7 +216,7 @@ fn turned_away(script: &mut Script, seat: u8) {
 
 /// Chombos and riichi of the dealer in a fresh game until it has 1,000, and its last riichi; then one with nothing left (02, S-11).
 fn last_stick(script: &mut Script) {
-    let dealer = script.game.dealer;
+    let dealer = script.position.dealer;
     for _ in 0..3 {
         script.add(Chombo(dealer));
     }
@@ -227,7 +227,7 @@ fn last_stick(script: &mut Script) {
     script.add(Riichi(dealer));
     script.add(Riichi(dealer));
     script.draw(&[0, 1, 2, 3]);
-    turned_away(script, dealer);
+    no_stick(script, dealer);
     script.win(dealer, |hand, scored| hand.how == RON && (18_000..=24_000).contains(&scored.changes[dealer as usize]));
 }
 
@@ -237,7 +237,7 @@ fn silent(script: &mut Script, refusal: u8) {
     let hand = script.find(seat, |hand, scored| scored.refusal == refusal && hand.riichi == 0);
     script.add(Riichi(seat));
     script.add(Win(pack(&hand)));
-    script.draw(&[script.game.dealer, seat]);
+    script.draw(&[script.position.dealer, seat]);
 }
 
 /// A win refused with 2 to 7, nobody declared.
@@ -256,7 +256,7 @@ pub fn refused_record(script: &mut Script, number: u8) -> Vec<u8> {
             6 => pack(&near(&mut script.rng)),
             _ => pack(&script.find(fault as u8 % 4, |_, scored| scored.refusal == 7)),
         };
-        if crate::score(&record, script.game.dealer, script.game.wind).refusal == number {
+        if crate::score(&record, script.position.dealer, script.position.wind).refusal == number {
             return record;
         }
     }
@@ -264,7 +264,7 @@ pub fn refused_record(script: &mut Script, number: u8) -> Vec<u8> {
 
 /// A draw with so many ready, the dealer among them, some of them declared.
 fn draw(script: &mut Script, count: usize) {
-    let seats = script.able_first(&[script.game.dealer]);
+    let seats = script.able_first(&[script.position.dealer]);
     for &seat in &seats[..count] {
         if script.rng.percent(50) {
             script.add(Riichi(seat));
@@ -277,9 +277,9 @@ fn draw(script: &mut Script, count: usize) {
 /// both (02, S-7).
 fn unready(script: &mut Script, count: usize) {
     let seats = script.by_score();
-    let (faulty, rest) = seats.split_at(count);
+    let (unready, rest) = seats.split_at(count);
     let declared: Vec<u8> = rest.iter().copied().filter(|_| script.rng.percent(50)).collect();
-    for &seat in faulty.iter().chain(&declared) {
+    for &seat in unready.iter().chain(&declared) {
         script.add(Riichi(seat));
     }
     let ready: Vec<u8> = rest.iter().copied().filter(|seat| declared.contains(seat) || script.rng.percent(50)).collect();
@@ -301,19 +301,19 @@ fn chombo(script: &mut Script, count: usize, own: bool) {
 /// Names a feeder of a holder's yaku; gives it.
 pub fn named(script: &mut Script, holder: u8, yaku: u8) -> u8 {
     let feeder = script.seats(&[holder])[1];
-    script.add(Feed { holder, feeder, yaku });
+    script.add(Pao { holder, feeder, yaku });
     feeder
 }
 
 /// A win of a seat reported with one of the two yaku that a feeder answers for, which passes a test (02, S-8).
-fn with_fed_yaku(script: &mut Script, winner: u8, yaku: u8, test: impl Fn(&Hand) -> bool) {
-    let (dealer, wind) = (script.game.dealer, script.game.wind);
-    script.win(winner, |hand, scored| scored.yaku >> yaku & 1 == 1 && fed::yaku(hand, dealer, wind) == Some(yaku) && test(hand));
+fn with_pao_yaku(script: &mut Script, winner: u8, yaku: u8, test: impl Fn(&Hand) -> bool) {
+    let (dealer, wind) = (script.position.dealer, script.position.wind);
+    script.win(winner, |hand, scored| scored.yaku >> yaku & 1 == 1 && pao::yaku(hand, dealer, wind) == Some(yaku) && test(hand));
 }
 
-/// A win that was fed: by tsumo after a riichi and with another holder named too, from the feeder with a riichi since and the
+/// A win paid by pao: by tsumo after a riichi and with another holder named too, from the feeder with a riichi since and the
 /// holder's other yaku named too, or from another (02, S-8).
-fn fed(script: &mut Script, holder: u8, yaku: u8, from: From) {
+fn pao(script: &mut Script, holder: u8, yaku: u8, from: From) {
     let others: Vec<u8> = script.able_first(&[holder])[1..].to_vec();
     if from == From::Wall {
         script.add(Riichi(others[0]));
@@ -324,7 +324,7 @@ fn fed(script: &mut Script, holder: u8, yaku: u8, from: From) {
         script.add(Riichi(others[0]));
         named(script, holder, DRAGONS + WINDS - yaku);
     }
-    with_fed_yaku(script, holder, yaku, |hand| match from {
+    with_pao_yaku(script, holder, yaku, |hand| match from {
         From::Wall => hand.how == TSUMO,
         From::Feeder => hand.how == RON && hand.discarder == feeder,
         From::Another => hand.how == RON && hand.discarder != feeder,
@@ -332,18 +332,18 @@ fn fed(script: &mut Script, holder: u8, yaku: u8, from: From) {
 }
 
 /// A holder and yaku named with the same feeder again and with another, and a holder named as the feeder (refusal 18); then a draw.
-fn fed_twice(script: &mut Script) {
+fn pao_twice(script: &mut Script) {
     let (seats, yaku) = (script.seats(&[]), script.rng.pick(&[DRAGONS, WINDS]));
     for feeder in [seats[1], seats[1], seats[2], seats[0]] {
-        script.add(Feed { holder: seats[0], feeder, yaku });
+        script.add(Pao { holder: seats[0], feeder, yaku });
     }
-    script.add(Feed { holder: seats[3], feeder: seats[3], yaku });
-    script.draw(&[script.game.dealer]);
+    script.add(Pao { holder: seats[3], feeder: seats[3], yaku });
+    script.draw(&[script.position.dealer]);
 }
 
 /// A feeder of the dealer, the hand's end, and a win of the dealer with that yaku, which is paid plainly (02, S-8).
 fn lapsed(script: &mut Script, by: char) {
-    let dealer = script.game.dealer;
+    let dealer = script.position.dealer;
     let child = script.able_first(&[dealer])[1];
     let yaku = script.rng.pick(&[DRAGONS, WINDS]);
     named(script, dealer, yaku);
@@ -356,17 +356,17 @@ fn lapsed(script: &mut Script, by: char) {
         }
         _ => drop(script.add(Chombo(child))),
     }
-    with_fed_yaku(script, dealer, yaku, |_| true);
+    with_pao_yaku(script, dealer, yaku, |_| true);
 }
 
-/// A set of so many rons, the dealer's among them: two with records of two lengths and a stick of the seat that pays, or three with
+/// A multiple ron of so many, the dealer's among them: two with records of two lengths and a stick of the seat that pays, or three with
 /// a declared winner and the first winner last (02, S-6).
-fn rons(script: &mut Script, number: usize) {
-    let seats = script.able_first(&[script.game.dealer]);
+fn multi_ron(script: &mut Script, number: usize) {
+    let seats = script.able_first(&[script.position.dealer]);
     let from = seats[1];
     let mut winners = [&seats[..1], &seats[2..]].concat()[..number].to_vec();
     winners.sort_by_key(|seat| (from + 4 - seat) % 4);
-    let declares = number == 3 && script.game.affords_riichi(winners[0]);
+    let declares = number == 3 && script.position.affords_riichi(winners[0]);
     let hands = loop {
         let hands = script.hands(&winners, from, |hand| !declares || hand.riichi > 0);
         if number != 2 || length(hands[0].m) != length(hands[1].m) {
@@ -376,22 +376,22 @@ fn rons(script: &mut Script, number: usize) {
     if number == 2 {
         script.add(Riichi(from));
     }
-    script.set(&hands, true);
+    script.multi_ron(&hands, true);
 }
 
-/// A set with the dealer's win that was fed (02, S-6 and S-8).
-fn set_fed(script: &mut Script, way: u8) {
-    let (dealer, wind, yaku) = (script.game.dealer, script.game.wind, script.rng.pick(&[DRAGONS, WINDS]));
+/// A multiple ron with the dealer's win paid by pao (02, S-6 and S-8).
+fn multi_ron_pao(script: &mut Script, way: u8) {
+    let (dealer, wind, yaku) = (script.position.dealer, script.position.wind, script.rng.pick(&[DRAGONS, WINDS]));
     let seats = script.seats(&[dealer]);
     let feeder = [seats[2], seats[3], seats[1]][way as usize];
-    let hands = script.hands(&seats[..2], seats[2], |hand| fed::yaku(hand, dealer, wind) == Some(yaku));
-    script.add(Feed { holder: dealer, feeder, yaku });
-    script.set(&hands, true);
+    let hands = script.hands(&seats[..2], seats[2], |hand| pao::yaku(hand, dealer, wind) == Some(yaku));
+    script.add(Pao { holder: dealer, feeder, yaku });
+    script.multi_ron(&hands, true);
 }
 
 /// Two hands on one tile, the dealer's first, neither with riichi.
 fn two(script: &mut Script) -> [Hand; 2] {
-    let seats = script.seats(&[script.game.dealer]);
+    let seats = script.seats(&[script.position.dealer]);
     loop {
         let hands = script.hands(&seats[..2], seats[2], |hand| hand.riichi == 0);
         if hands[1].riichi == 0 {
@@ -400,13 +400,13 @@ fn two(script: &mut Script) -> [Hand; 2] {
     }
 }
 
-/// Two sound hands that make no set in this way (refusal 17).
-fn set_unfit(script: &mut Script, fault: usize) {
+/// Two sound hands that make no multiple ron in this way (refusal 17).
+fn multi_ron_unfit(script: &mut Script, fault: usize) {
     let hands = unfit(script, fault);
-    script.set(&hands, false);
+    script.multi_ron(&hands, false);
 }
 
-/// Two sound hands without riichi that make no set in this way.
+/// Two sound hands without riichi that make no multiple ron in this way.
 pub fn unfit(script: &mut Script, fault: usize) -> [Hand; 2] {
     loop {
         let [one, mut two] = two(script);
@@ -420,14 +420,14 @@ pub fn unfit(script: &mut Script, fault: usize) -> [Hand; 2] {
             _ => two.situation = if one.situation == ORDINARY { LAST_TILE } else { ORDINARY },
         }
         two.concealed[..13 - 3 * two.m as usize].sort();
-        if refusal(&two) == 0 && set::faults(&[one, two])[fault] {
+        if refusal(&two) == 0 && multi_ron::faults(&[one, two])[fault] {
             return [one, two];
         }
     }
 }
 
 /// Two rons of which one, the first or the second, is refused with 2 to 7 or 11.
-fn set_refused(script: &mut Script, number: u8) {
+fn multi_ron_refused(script: &mut Script, number: u8) {
     let second = script.rng.percent(50);
     loop {
         let [one, two] = two(script);
@@ -453,7 +453,7 @@ fn set_refused(script: &mut Script, number: u8) {
         };
         if fits {
             let list = if second { [pack(&one), record] } else { [record, pack(&one)] };
-            script.add(Many { number: 2, records: list.concat() });
+            script.add(MultiRon { number: 2, records: list.concat() });
             return;
         }
     }
@@ -461,7 +461,7 @@ fn set_refused(script: &mut Script, number: u8) {
 
 /// Sticks carried over two draws, a draw with a declared seat that is not ready and a chombo, to a win of the dealer.
 fn carried(script: &mut Script) {
-    let seats = script.able_first(&[script.game.dealer]);
+    let seats = script.able_first(&[script.position.dealer]);
     for ready in [2, 3] {
         script.add(Riichi(seats[1]));
         script.draw(&seats[..ready]);
@@ -477,44 +477,44 @@ fn carried(script: &mut Script) {
 }
 
 /// The scene that passes the deal for the time after this many (01, The game); the first and the third go on with wins of a deal
-/// with no counter, by ron and by tsumo, and a draw with no stick, so that each log has them; the fourth is a win that was fed, the
-/// sixth a set of rons.
+/// with no counter, by ron and by tsumo, and a draw with no stick, so that each log has them; the fourth is a win paid by pao, the
+/// sixth a multiple ron.
 pub fn pass(script: &mut Script, deal: usize) {
-    let dealer = script.game.dealer;
+    let dealer = script.position.dealer;
     let child = script.child();
     let others: Vec<u8> = script.seats(&[dealer])[1..].to_vec();
     match deal {
         0 => {
             script.add(Riichi(dealer));
             script.win(child, |hand, _| hand.how == RON);
-            script.win(script.game.dealer, |hand, _| hand.how == RON);
+            script.win(script.position.dealer, |hand, _| hand.how == RON);
         }
         1 => {
             script.draw(&[]);
         }
         2 => {
             script.win(child, |hand, _| hand.how == TSUMO);
-            let dealer = script.game.dealer;
+            let dealer = script.position.dealer;
             script.win(dealer, |hand, _| hand.how == TSUMO);
             script.draw(&[dealer]);
         }
         3 => {
             let (yaku, from) = (script.rng.pick(&[DRAGONS, WINDS]), script.rng.pick(&[From::Wall, From::Feeder, From::Another]));
-            fed(script, child, yaku, from);
+            pao(script, child, yaku, from);
         }
         4 => script.win(child, |_, scored| scored.yaku >> 27 & 1 == 1),
         5 => {
             let hands = script.hands(&others[..2], dealer, |_| true);
-            script.set(&hands, true);
+            script.multi_ron(&hands, true);
         }
         6 => {
             let child = script.able_first(&[dealer])[1];
-            let able = script.game.affords_riichi(child);
+            let able = script.position.affords_riichi(child);
             script.win(child, |hand, _| hand.riichi == able as u8);
         }
         _ => {
             let child = script.able_first(&[dealer])[1];
-            if !script.game.affords_riichi(child) {
+            if !script.position.affords_riichi(child) {
                 script.add(Riichi(dealer));
                 script.draw(&[dealer]);
             }
@@ -538,10 +538,10 @@ pub fn after_the_end(script: &mut Script) {
     script.add(Chombo(seat));
     script.add(Chombo(4));
     named(script, seat, DRAGONS);
-    script.add(Feed { holder: seat, feeder: seat, yaku: WINDS });
+    script.add(Pao { holder: seat, feeder: seat, yaku: WINDS });
     let hands = two(script);
-    script.set(&hands, false);
-    set_unfit(script, 1);
+    script.multi_ron(&hands, false);
+    multi_ron_unfit(script, 1);
     let record = refused_record(script, 2);
     script.add(Win(record).as_correction());
     let whole = Win(pack(&script.find(seat, any))).as_correction().bytes();

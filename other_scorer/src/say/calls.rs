@@ -2,7 +2,7 @@
 //! that is not 1 to 4 (or a number over 22 to be said); those of the call whose answer is said, in its order; 13, a buffer shorter".
 
 use crate::codec::read;
-use crate::{ready, waits, Game, Scored};
+use crate::{ready, waits, Position, Scored};
 
 use super::word::{clips, Word};
 use super::{messages, Language};
@@ -43,9 +43,9 @@ pub fn fu(language: u8, scored: &Scored) -> Message {
     said(language, || Ok(messages::fu(accepted(scored)?)))
 }
 
-/// The Scores message of a game.
-pub fn scores(language: u8, game: &Game) -> Message {
-    said(language, || Ok(messages::scores(game)))
+/// The Scores message of a position.
+pub fn scores(language: u8, position: &Position) -> Message {
+    said(language, || Ok(messages::scores(position)))
 }
 
 /// The sentence for a refusal.

@@ -3,7 +3,7 @@
 use crate::record::{Hand, RON};
 use crate::score::has_yakuman;
 use crate::waits::Waits;
-use crate::{Game, Scored};
+use crate::{Position, Scored};
 
 use super::word::Word;
 
@@ -59,15 +59,15 @@ pub fn fu(scored: &Scored) -> Vec<Word> {
     each.chain([Word::InAll, Word::Number(scored.fu.into()), Word::Fu]).collect()
 }
 
-/// Scores of a game: "of seats 0 to 3 the player, 76 where negative, the amount, 68; 77 and the sticks where there are any; 78 and the
+/// Scores of a position: "of seats 0 to 3 the player, 76 where negative, the amount, 68; 77 and the sticks where there are any; 78 and the
 /// counters where there are any"; "a dealer over 3 counts as dealer mod 4".
-pub fn scores(game: &Game) -> Vec<Word> {
+pub fn scores(position: &Position) -> Vec<Word> {
     let each = (0..4).flat_map(|seat| {
-        let score = game.scores[seat];
-        amount(seat, game.dealer, (score < 0).then_some(Word::Minus), score.unsigned_abs())
+        let score = position.scores[seat];
+        amount(seat, position.dealer, (score < 0).then_some(Word::Minus), score.unsigned_abs())
     });
-    let rest = [(Word::Sticks, game.sticks), (Word::Counters, game.counter)];
-    let rest = rest.into_iter().filter(|(_, many)| *many > 0).flat_map(|(word, many)| [word, Word::Number(many)]);
+    let rest = [(Word::Sticks, position.sticks), (Word::Counters, position.counter)];
+    let rest = rest.into_iter().filter(|(_, number)| *number > 0).flat_map(|(word, number)| [word, Word::Number(number)]);
     each.chain(rest).collect()
 }
 

@@ -2,13 +2,13 @@
 
 use super::Survey;
 use crate::cover::Cover;
-use crate::entry::{decided_by, first_is_not_best, has_tie, Entry};
 use crate::points::{basic, YAKUMAN};
 use crate::reading::Reading;
 use crate::record::{Hand, RON};
 use crate::score::{has_yakuman, Valued};
 use crate::shape::Shape;
 use crate::tiles::suit;
+use crate::vector::{decided_by, first_is_not_best, has_tie, Vector};
 use crate::win::Win;
 
 /// The items of fu in order (02, S-3).
@@ -88,22 +88,22 @@ impl Survey {
     }
 
     /// Counts what is reported for an accepted hand.
-    pub(super) fn note_accepted(&mut self, entry: &Entry, hand: &Hand, all: &[Valued], at: usize) {
+    pub(super) fn note_accepted(&mut self, vector: &Vector, hand: &Hand, all: &[Valued], at: usize) {
         let cover = &mut self.cover;
-        let win = Win::new(hand, entry.dealer, entry.wind);
-        let seat = if hand.winner == entry.dealer { "dealer" } else { "child" };
+        let win = Win::new(hand, vector.dealer, vector.wind);
+        let seat = if hand.winner == vector.dealer { "dealer" } else { "child" };
         let how = if hand.how == RON { "ron" } else { "tsumo" };
         cover.add("won by", format!("{seat}-{how}"));
         cover.add("dora", win.dora());
-        let yakuman = has_yakuman(entry.scored.yaku);
-        cover.add_if(!yakuman, "h", entry.scored.h);
-        cover.add_if(!yakuman, "fu", entry.scored.fu);
-        for (name, item) in ITEMS.iter().zip(entry.scored.items.list()) {
+        let yakuman = has_yakuman(vector.scored.yaku);
+        cover.add_if(!yakuman, "h", vector.scored.h);
+        cover.add_if(!yakuman, "fu", vector.scored.fu);
+        for (name, item) in ITEMS.iter().zip(vector.scored.items.list()) {
             cover.add_if(item > 0, "fu item", name);
         }
-        let a = if yakuman { YAKUMAN } else { basic(entry.scored.h, entry.scored.fu) };
+        let a = if yakuman { YAKUMAN } else { basic(vector.scored.h, vector.scored.fu) };
         cover.add_if(a >= 2000, "A at a limit", a);
-        let (tried, some_left) = (entry.scored.tried, (entry.scored.tried as usize) < all.len());
+        let (tried, some_left) = (vector.scored.tried, (vector.scored.tried as usize) < all.len());
         cover.add_if(!yakuman, "tried", "all");
         cover.add_if(yakuman && tried == 1, "tried", "first-yakuman");
         cover.add_if(yakuman && tried > 1, "tried", "later-yakuman");
@@ -114,7 +114,7 @@ impl Survey {
                 cover.add("reported", "regular");
                 let shape = Shape::new(&win, *pair, groups, *place);
                 note_shape(cover, &win, &shape, yakuman);
-                let both = entry.scored.yaku >> 24 & entry.scored.yaku >> 3 & 1 == 1;
+                let both = vector.scored.yaku >> 24 & vector.scored.yaku >> 3 & 1 == 1;
                 cover.add_if(both, "winds", "24-and-triplet");
             }
             Reading::SevenPairs => cover.add("reported", "seven-pairs"),
@@ -126,7 +126,7 @@ impl Survey {
         let (by_h, by_fu) = decided_by(all);
         let tests = [
             (one_suit, "one-suit"),
-            (yakuman && entry.scored.yaku.count_ones() > 1, "several-yakuman"),
+            (yakuman && vector.scored.yaku.count_ones() > 1, "several-yakuman"),
             (tie, "tie-other-yaku-set"),
             (tie && !yakuman, "tie-without-yakuman"),
             (first_is_not_best(all), "first-valuable-not-best"),

@@ -1,12 +1,12 @@
-//! Takes each entry apart and counts what it covers.
+//! Takes each vector apart and counts what it covers.
 
 mod hands;
 mod refusals;
 
-use crate::cover::Cover;
-use crate::entry::Entry;
 use crate::codec::read;
+use crate::cover::Cover;
 use crate::score::{best, valued};
+use crate::vector::Vector;
 
 #[derive(Default)]
 pub struct Survey {
@@ -26,19 +26,19 @@ impl Survey {
         survey
     }
 
-    /// Counts one entry.
-    pub fn note(&mut self, entry: &Entry) {
-        let scored = &entry.scored;
+    /// Counts one vector.
+    pub fn note(&mut self, vector: &Vector) {
+        let scored = &vector.scored;
         for n in (1..=36).filter(|n| scored.yaku >> n & 1 == 1) {
             self.cover.add("yaku", n);
         }
-        self.note_refusal(entry);
-        if let (0 | 6 | 7, Ok(hand)) = (scored.refusal, read(&entry.record)) {
+        self.note_refusal(vector);
+        if let (0 | 6 | 7, Ok(hand)) = (scored.refusal, read(&vector.record)) {
             self.note_sound(&hand);
-            let all = valued(&hand, entry.dealer, entry.wind);
+            let all = valued(&hand, vector.dealer, vector.wind);
             self.note_readings(&all);
             if let Some(at) = best(&all) {
-                self.note_accepted(entry, &hand, &all, at);
+                self.note_accepted(vector, &hand, &all, at);
             }
         }
     }

@@ -1,10 +1,10 @@
 //! Counts of refusals and of what causes them (01, Read; Score).
 
 use super::Survey;
-use crate::cover::Cover;
-use crate::entry::Entry;
 use crate::codec::{length_fault, unpack, LENGTH_FAULTS};
+use crate::cover::Cover;
 use crate::sound::{field_faults, five_of_a_kind, is_descending, situation_faults, FIELD_FAULTS, SITUATION_FAULTS};
+use crate::vector::Vector;
 
 const ORDER: [&str; 6] = ["2-not-3", "2-not-4", "2-not-5", "3-not-4", "3-not-5", "4-not-5"];
 
@@ -32,23 +32,23 @@ impl Survey {
         cover.expect_numbers("wind (2 is above 1)", 0, 2);
     }
 
-    /// Counts an entry's refusal, its cause, and the fields given beside the record.
-    pub(super) fn note_refusal(&mut self, entry: &Entry) {
+    /// Counts a vector's refusal, its cause, and the fields given beside the record.
+    pub(super) fn note_refusal(&mut self, vector: &Vector) {
         let cover = &mut self.cover;
-        cover.add("refusal", entry.scored.refusal);
-        cover.add("record length", entry.record.len());
-        cover.add("dealer (4 is above 3)", entry.dealer.min(4));
-        cover.add("wind (2 is above 1)", entry.wind.min(2));
-        match entry.scored.refusal {
+        cover.add("refusal", vector.scored.refusal);
+        cover.add("record length", vector.record.len());
+        cover.add("dealer (4 is above 3)", vector.dealer.min(4));
+        cover.add("wind (2 is above 1)", vector.wind.min(2));
+        match vector.scored.refusal {
             1 => {
-                let fault = length_fault(&entry.record).expect("refusal 1");
+                let fault = length_fault(&vector.record).expect("refusal 1");
                 cover.add("refusal 1 by", LENGTH_FAULTS[fault]);
             }
-            2..=5 => note_faults(cover, entry),
+            2..=5 => note_faults(cover, vector),
             8 => {
-                cover.add_if(entry.dealer > 3, "refusal 8 by", "dealer");
-                cover.add_if(entry.wind > 1, "refusal 8 by", "wind");
-                let met = crate::read(&entry.record).is_err();
+                cover.add_if(vector.dealer > 3, "refusal 8 by", "dealer");
+                cover.add_if(vector.wind > 1, "refusal 8 by", "wind");
+                let met = crate::read(&vector.record).is_err();
                 cover.add_if(met, "refusal 8 by", "with-1-to-5-met");
             }
             _ => {}
@@ -57,12 +57,12 @@ impl Survey {
 }
 
 /// Counts the faults of a record that meets refusal 2 to 5 (01, Read).
-fn note_faults(cover: &mut Cover, entry: &Entry) {
-    let Ok((hand, padding)) = unpack(&entry.record) else { return };
+fn note_faults(cover: &mut Cover, vector: &Vector) {
+    let Ok((hand, padding)) = unpack(&vector.record) else { return };
     let fields = [&field_faults(&hand)[..], &[padding]].concat();
     let situations = situation_faults(&hand);
     let held = hand.held();
-    match entry.scored.refusal {
+    match vector.scored.refusal {
         2 => alone(cover, "refusal 2 by one fault", &FIELD_FAULTS, &fields),
         4 => {
             let five = held.iter().any(|a| held.iter().filter(|&b| a == b).count() > 4);
@@ -73,7 +73,7 @@ fn note_faults(cover: &mut Cover, entry: &Entry) {
     }
     let later = [(3, is_descending(&hand)), (4, five_of_a_kind(&hand)), (5, situations.contains(&true))];
     for (number, met) in later {
-        let refusal = entry.scored.refusal;
+        let refusal = vector.scored.refusal;
         let both = met && number > refusal;
         cover.add_if(both, "two refusals met, first counts", format!("{refusal}-not-{number}"));
     }

@@ -1,36 +1,36 @@
-//! Random bookings for the tests.
+//! Random entries for the tests.
 
 use other_scorer::codec::{pack, read};
 use other_scorer::damage::{damaged, noise};
 use other_scorer::deal::{deal, near, on_tile_of, taking, themed};
 use other_scorer::fault::{self, FAULTS};
-use other_scorer::fed::{DRAGONS, WINDS};
+use other_scorer::pao::{DRAGONS, WINDS};
 use other_scorer::record::{Hand, LAST_TILE, ORDINARY, RON, TSUMO};
 use other_scorer::rng::Rng;
 use other_scorer::sound::refusal;
 use other_scorer::themes::yakuman::{big_dragons, big_winds, little_winds};
-use other_scorer::{Book, Booking, Game};
+use other_scorer::{Entry, Game, Position};
 
 /// The riichi field that fits a seat's declaration; with under 1,000 at times one though riichi is refused (02, S-11).
-fn riichi_field(rng: &mut Rng, game: &Game, seat: u8) -> u8 {
-    let turned_away = !game.affords_riichi(seat) && rng.percent(15);
-    if game.declared[seat as usize] || turned_away { rng.within(1, 2) } else { 0 }
+fn riichi_field(rng: &mut Rng, position: &Position, seat: u8) -> u8 {
+    let no_stick = !position.affords_riichi(seat) && rng.percent(15);
+    if position.declared[seat as usize] || no_stick { rng.within(1, 2) } else { 0 }
 }
 
 /// A hand as this seat's, with the riichi field that fits the declarations if `fits`; none if it is not sound then.
-fn of_seat(rng: &mut Rng, game: &Game, mut hand: Hand, winner: u8, fits: bool) -> Option<Hand> {
+fn of_seat(rng: &mut Rng, position: &Position, mut hand: Hand, winner: u8, fits: bool) -> Option<Hand> {
     hand.winner = winner;
     if hand.how == RON {
         hand.discarder = (winner + rng.within(1, 3)) % 4;
     }
     if fits {
-        hand.riichi = riichi_field(rng, game, winner);
+        hand.riichi = riichi_field(rng, position, winner);
     }
     (refusal(&hand) == 0).then_some(hand)
 }
 
 /// A record: mostly a win of this seat that fits the declarations, else anything.
-fn record(rng: &mut Rng, game: &Game, winner: u8) -> Vec<u8> {
+fn record(rng: &mut Rng, position: &Position, winner: u8) -> Vec<u8> {
     let way = rng.below(20);
     match way {
         0 => pack(&near(rng)),
@@ -43,20 +43,20 @@ fn record(rng: &mut Rng, game: &Game, winner: u8) -> Vec<u8> {
         4 => pack(&themed(rng)),
         _ => loop {
             let hand = themed(rng);
-            if let Some(hand) = of_seat(rng, game, hand, winner, way > 5) {
+            if let Some(hand) = of_seat(rng, position, hand, winner, way > 5) {
                 return pack(&hand);
             }
         },
     }
 }
 
-/// A win with one of the two yaku that are fed, or with three wind triplets and a pair; often from the feeder, if one is named.
-fn fed_record(rng: &mut Rng, game: &Game, winner: u8, yaku: u8) -> Vec<u8> {
+/// A win with one of the two yaku of pao, or with three wind triplets and a pair; often from the feeder, if one is named.
+fn pao_record(rng: &mut Rng, position: &Position, winner: u8, yaku: u8) -> Vec<u8> {
     loop {
         let theme = if yaku == DRAGONS { big_dragons } else { rng.pick(&[big_winds, big_winds, little_winds]) };
         let plan = theme(rng);
-        let Some(hand) = deal(rng, &plan).and_then(|hand| of_seat(rng, game, hand, winner, true)) else { continue };
-        let feeder = game.feeder(winner, yaku).map(|seat| seat % 4).filter(|&seat| seat != winner);
+        let Some(hand) = deal(rng, &plan).and_then(|hand| of_seat(rng, position, hand, winner, true)) else { continue };
+        let feeder = position.feeder(winner, yaku).map(|seat| seat % 4).filter(|&seat| seat != winner);
         let from = feeder.filter(|_| hand.how == RON && rng.percent(40)).unwrap_or(hand.discarder);
         return pack(&Hand { discarder: from, ..hand });
     }
@@ -74,32 +74,32 @@ fn seat(rng: &mut Rng) -> u8 {
 }
 
 /// Riichi of a seat, often of one with about 1,000 points (02, S-11).
-fn riichi(rng: &mut Rng, game: &Game) -> Booking {
-    let near: Vec<u8> = (0..4).filter(|&seat| (0..2000).contains(&game.scores[seat as usize])).collect();
-    Booking::Riichi(if near.is_empty() || rng.percent(40) { seat(rng) } else { rng.pick(&near) })
+fn riichi(rng: &mut Rng, position: &Position) -> Entry {
+    let near: Vec<u8> = (0..4).filter(|&seat| (0..2000).contains(&position.scores[seat as usize])).collect();
+    Entry::Riichi(if near.is_empty() || rng.percent(40) { seat(rng) } else { rng.pick(&near) })
 }
 
 /// Riichi of a seat that can declare where another has; where all have, a draw with none of them ready (02, S-7).
-fn follow(game: &Game) -> Option<Booking> {
-    if game.declared == [true; 4] {
-        return Some(Booking::Draw(0));
+fn follow(position: &Position) -> Option<Entry> {
+    if position.declared == [true; 4] {
+        return Some(Entry::Draw(0));
     }
-    let able = (0..4).find(|&seat| !game.declared[seat as usize] && game.affords_riichi(seat));
-    able.filter(|_| game.declared.contains(&true)).map(Booking::Riichi)
+    let able = (0..4).find(|&seat| !position.declared[seat as usize] && position.affords_riichi(seat));
+    able.filter(|_| position.declared.contains(&true)).map(Entry::Riichi)
 }
 
 /// A feeder of a holder, often of this seat, and of a yaku, seldom of another than the two.
-fn feed(rng: &mut Rng, often: u8) -> Booking {
+fn pao(rng: &mut Rng, often: u8) -> Entry {
     let (near, any) = (rng.within(27, 30), rng.next() as u8);
     let yaku = if rng.percent(85) { rng.pick(&[DRAGONS, WINDS]) } else { rng.pick(&[near, any]) };
     let holder = if rng.percent(40) { often } else { seat(rng) };
-    Booking::Feed { holder, feeder: seat(rng), yaku }
+    Entry::Pao { holder, feeder: seat(rng), yaku }
 }
 
 /// A ron of this seat, or of any, that fits the declarations; where feeders are named often of a holder with the yaku.
-fn ron(rng: &mut Rng, game: &Game, winner: u8, keep: bool) -> Hand {
+fn ron(rng: &mut Rng, position: &Position, winner: u8, keep: bool) -> Hand {
     loop {
-        let Booking::Win(record) = win(rng, game, winner, keep) else { continue };
+        let Entry::Win(record) = win(rng, position, winner, keep) else { continue };
         if let Some(hand) = read(&record).ok().filter(|hand| hand.how == RON) {
             return hand;
         }
@@ -107,16 +107,16 @@ fn ron(rng: &mut Rng, game: &Game, winner: u8, keep: bool) -> Hand {
 }
 
 /// One to three rons on one tile that fit the declarations, in any order; with `keep` this seat's among them, if there is one.
-fn rons(rng: &mut Rng, game: &Game, winner: u8, keep: bool) -> Vec<Hand> {
-    let first = ron(rng, game, winner, keep);
+fn rons(rng: &mut Rng, position: &Position, winner: u8, keep: bool) -> Vec<Hand> {
+    let first = ron(rng, position, winner, keep);
     let others: Vec<u8> = (0..4).filter(|&seat| seat != first.winner && seat != first.discarder).collect();
     let mut hands = vec![first];
     for seat in others {
         while rng.percent(98) && !hands.iter().any(|hand| hand.winner == seat) {
-            let riichi = riichi_field(rng, game, seat);
-            let fed = [DRAGONS, WINDS].into_iter().find(|&yaku| game.feeder(seat, yaku).is_some());
-            hands.extend(match fed.filter(|_| rng.percent(80)) {
-                Some(yaku) => read(&fed_record(rng, game, seat, yaku)).ok().and_then(|hand| taking(hand, &first)),
+            let riichi = riichi_field(rng, position, seat);
+            let named = [DRAGONS, WINDS].into_iter().find(|&yaku| position.feeder(seat, yaku).is_some());
+            hands.extend(match named.filter(|_| rng.percent(80)) {
+                Some(yaku) => read(&pao_record(rng, position, seat, yaku)).ok().and_then(|hand| taking(hand, &first)),
                 None => on_tile_of(rng, &first, seat, riichi),
             });
         }
@@ -128,7 +128,7 @@ fn rons(rng: &mut Rng, game: &Game, winner: u8, keep: bool) -> Vec<Hand> {
     hands
 }
 
-/// One of the hands changed in a field that a set shares, or so that two have one winner, or that one is no ron.
+/// One of the hands changed in a field that a multiple ron shares, or so that two have one winner, or that one is no ron.
 fn spoiled(rng: &mut Rng, hands: &mut [Hand]) {
     let (at, other, kind) = (rng.below(hands.len()), hands[rng.below(hands.len())].winner, rng.within(0, 33));
     let hand = &mut hands[at];
@@ -150,9 +150,9 @@ fn spoiled(rng: &mut Rng, hands: &mut [Hand]) {
     }
 }
 
-/// A set of rons: mostly one that is booked, else with a wrong number, wrong bytes, a spoiled hand or other records.
-fn many(rng: &mut Rng, game: &Game, winner: u8, keep: bool) -> Booking {
-    let mut hands = rons(rng, game, winner, keep);
+/// A multiple ron: mostly one that is booked, else with a wrong number, wrong bytes, a spoiled hand or other records.
+fn multi_ron(rng: &mut Rng, position: &Position, winner: u8, keep: bool) -> Entry {
+    let mut hands = rons(rng, position, winner, keep);
     let mut number = hands.len() as u8;
     let way = rng.below(20);
     match way {
@@ -167,7 +167,7 @@ fn many(rng: &mut Rng, game: &Game, winner: u8, keep: bool) -> Booking {
     let mut records: Vec<Vec<u8>> = hands.iter().map(pack).collect();
     let at = rng.below(records.len());
     match way {
-        6 => records[at] = record(rng, game, winner),
+        6 => records[at] = record(rng, position, winner),
         9..=10 => {
             let fault = rng.below(FAULTS);
             records[at] = fault::record(rng, fault);
@@ -192,74 +192,74 @@ fn many(rng: &mut Rng, game: &Game, winner: u8, keep: bool) -> Booking {
         2 => records = noise(rng),
         _ => {}
     }
-    Booking::Many { number, records }
+    Entry::MultiRon { number, records }
 }
 
 /// A win of a seat; where feeders are named often of a holder with the yaku, of this seat alone with `keep`, or of this seat with
 /// the yaku of another.
-fn win(rng: &mut Rng, game: &Game, winner: u8, keep: bool) -> Booking {
+fn win(rng: &mut Rng, position: &Position, winner: u8, keep: bool) -> Entry {
     let all = (0..4).flat_map(|holder| [(holder, DRAGONS), (holder, WINDS)]);
-    let is_named = |&(holder, yaku): &(u8, u8)| game.feeder(holder, yaku).is_some() && (holder == winner || !keep);
+    let is_named = |&(holder, yaku): &(u8, u8)| position.feeder(holder, yaku).is_some() && (holder == winner || !keep);
     let named: Vec<(u8, u8)> = all.filter(is_named).collect();
     if named.is_empty() || rng.percent(40) {
-        return Booking::Win(record(rng, game, winner));
+        return Entry::Win(record(rng, position, winner));
     }
     let (holder, yaku) = rng.pick(&named);
     let winner = if rng.percent(10) { winner } else { holder };
-    Booking::Win(fed_record(rng, game, winner, yaku))
+    Entry::Win(pao_record(rng, position, winner, yaku))
 }
 
 /// A draw, mostly with the declared seats ready; with `keep` mostly the dealer too.
-fn draw(rng: &mut Rng, game: &Game, keep: bool) -> Booking {
-    let declared = (0..4).filter(|&seat| game.declared[seat]).fold(0, |bits, seat| bits | 8 >> seat);
+fn draw(rng: &mut Rng, position: &Position, keep: bool) -> Entry {
+    let declared = (0..4).filter(|&seat| position.declared[seat]).fold(0, |bits, seat| bits | 8 >> seat);
     let bits = match rng.below(10) {
         0 => rng.next() as u8,
         1..=2 => rng.within(0, 15),
-        3 => return Booking::Draw(rng.within(0, 15) & !declared),
+        3 => return Entry::Draw(rng.within(0, 15) & !declared),
         _ => rng.within(0, 15) | declared,
     };
-    Booking::Draw(if keep { bits | 8 >> (game.dealer % 4) } else { bits })
+    Entry::Draw(if keep { bits | 8 >> (position.dealer % 4) } else { bits })
 }
 
 /// The seat that mostly wins: with `keep` the dealer.
-fn often(rng: &mut Rng, game: &Game, keep: bool) -> u8 {
-    if keep { game.dealer % 4 } else { rng.within(0, 3) }
+fn often(rng: &mut Rng, position: &Position, keep: bool) -> u8 {
+    if keep { position.dealer % 4 } else { rng.within(0, 3) }
 }
 
-/// A random booking that is no correction; with `keep` mostly one that keeps the deal.
-fn plain(rng: &mut Rng, game: &Game, keep: bool) -> Booking {
-    let often = often(rng, game, keep);
-    if let Some(booking) = follow(game).filter(|_| rng.percent(25)) {
+/// A random booking; with `keep` mostly one that keeps the deal.
+fn booking(rng: &mut Rng, position: &Position, keep: bool) -> Entry {
+    let often = often(rng, position, keep);
+    if let Some(booking) = follow(position).filter(|_| rng.percent(25)) {
         return booking;
     }
     match rng.below(14) {
-        0..=2 => riichi(rng, game),
-        3..=5 => win(rng, game, often, keep),
-        6 | 12..=13 => many(rng, game, often, keep),
-        7..=8 => draw(rng, game, keep),
-        9 => Booking::Chombo(seat(rng)),
-        _ => feed(rng, often),
+        0..=2 => riichi(rng, position),
+        3..=5 => win(rng, position, often, keep),
+        6 | 12..=13 => multi_ron(rng, position, often, keep),
+        7..=8 => draw(rng, position, keep),
+        9 => Entry::Chombo(seat(rng)),
+        _ => pao(rng, often),
     }
 }
 
-/// A correction that carries a random booking for a game (02, S-10).
-fn correction(rng: &mut Rng, game: &Game, keep: bool) -> Booking {
-    let often = often(rng, game, keep);
+/// A correction that carries a random result for a position (02, S-10).
+fn correction(rng: &mut Rng, position: &Position, keep: bool) -> Entry {
+    let often = often(rng, position, keep);
     let new = match rng.below(10) {
-        0..=3 => win(rng, game, often, keep),
-        4..=5 => many(rng, game, often, keep),
-        6..=8 => draw(rng, game, keep),
-        _ => Booking::Chombo(seat(rng)),
+        0..=3 => win(rng, position, often, keep),
+        4..=5 => multi_ron(rng, position, often, keep),
+        6..=8 => draw(rng, position, keep),
+        _ => Entry::Chombo(seat(rng)),
     };
     new.as_correction()
 }
 
-/// A random booking; with `keep` mostly one that keeps the deal. Where there is a result to put right often a correction, most often
+/// A random entry; with `keep` mostly one that keeps the deal. Where there is a result to put right often a correction, most often
 /// of one that has ended the game, and now and then one where there is none (02, S-10).
-pub fn booking(rng: &mut Rng, book: &Book, keep: bool) -> Booking {
-    match book.earlier() {
-        Some(earlier) if rng.percent(if book.game().over { 40 } else { 20 }) => correction(rng, &earlier, keep),
-        None if rng.percent(if book.last().is_none() { 10 } else { 4 }) => correction(rng, book.game(), keep),
-        _ => plain(rng, book.game(), keep),
+pub fn entry(rng: &mut Rng, game: &Game, keep: bool) -> Entry {
+    match game.earlier() {
+        Some(earlier) if rng.percent(if game.now().over { 40 } else { 20 }) => correction(rng, &earlier, keep),
+        None if rng.percent(if game.last().is_none() { 10 } else { 4 }) => correction(rng, game.now(), keep),
+        _ => booking(rng, game.now(), keep),
     }
 }

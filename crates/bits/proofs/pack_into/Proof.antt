@@ -6,14 +6,14 @@ use mathlib.Core.List.{[]}
 use native.Mathlib.Omega.{arith}
 use lib.ListN.{length, drop, getD, drop-of-length-le}
 use lib.Seq.{sets, length-sets}
-use Rattle.bits.specs.Bits.{digits, pack, sum}
+use Rattle.bits.specs.Bits.{digits, pack, widthOf}
 use Rattle.bits.specs.laws.Pack.{pack-step, Turn, turn}
 use Rattle.bits.proofs.pack_into.Statement.{statement}
 use Rattle.bits.proofs.pack_into.Tie as tie
 
 abbrev Inv-loop : tie.InvT-loop
 Inv-loop ws vs b₀ at i₀ o₀ b i o =
-    (i ≤ length ws) × (o + sum (drop i ws) ≡ at + sum ws) × (length b ≡ length b₀) × (sets b o (pack (drop i ws) (drop i vs)) ≡ sets b₀ at (pack ws vs))
+    (i ≤ length ws) × (o + widthOf (drop i ws) ≡ at + widthOf ws) × (length b ≡ length b₀) × (sets b o (pack (drop i ws) (drop i vs)) ≡ sets b₀ at (pack ws vs))
 
 abbrev μ-loop : tie.MeasureT-loop
 μ-loop ws vs b₀ at i₀ o₀ b i o = length ws - i
@@ -22,7 +22,7 @@ abbrev μ-loop : tie.MeasureT-loop
 abbrev start : tie.In-loop Inv-loop μ-loop → tie.Start Inv-loop μ-loop
 start c = c .before .before .before .before .before
 
-now : (c : tie.In-loop Inv-loop μ-loop) → Turn (start c .args .ws .now) (c .before .loop .i) (c .before .loop .o) (start c .args .at + sum (start c .args .ws .now)) (length (c .before .loop .b))
+now : (c : tie.In-loop Inv-loop μ-loop) → Turn (start c .args .ws .now) (c .before .loop .i) (c .before .loop .o) (start c .args .at + widthOf (start c .args .ws .now)) (length (c .before .loop .b))
 now c = turn _ _ _ _ _ (c .loop-test .taken) (start c .pre .1) (c .before .loop .inv .1) (omega arith)
 
 pub pack-into-spec : {M : Type 1} → statement M

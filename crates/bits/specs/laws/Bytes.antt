@@ -8,7 +8,7 @@ use native.Mathlib.Omega.{arith}
 use lib.ListN.{length, getD, take, drop, set, replicate, length-drop}
 use lib.Seq.{take-append-le, drop-append-le, drop-append-add, drop-drop, drop-nil, getD-drop, sets}
 use lib.Pow.{shr-shr, high, low}
-use Rattle.bits.specs.Bits.{digits, val, unpack, Below, bitsOf}
+use Rattle.bits.specs.Bits.{digits, val, unpack, EachBelow, bitsOf}
 use Rattle.bits.specs.laws.Pack.{length-digits, val-digits, below-digits, digits-of-val}
 
 -- the last k of p + k digits, and the first w of w + q
@@ -74,7 +74,7 @@ bits-from (x ∷ s) (suc i) =
     ap (λ (n : ℕ). drop n (bitsOf (x ∷ s))) e ∙ drop-append-add (digits 8 x) (bitsOf s) (8 * i) ∙ bits-from s i
 
 -- THE FIELD of w bits from bit j of byte i on, if it ends within k bytes
-field-in : (k i j w : ℕ) (s : List ℕ) → Below 256 s → j + w ≤ 8 * k → 8 * i + j + w ≤ 8 * length s
+field-in : (k i j w : ℕ) (s : List ℕ) → EachBelow 256 s → j + w ≤ 8 * k → 8 * i + j + w ≤ 8 * length s
     → joined 0 k (λ d. getD s (i + d) 0) / 2 ^ (8 * k - w - j) % 2 ^ w ≡ val 0 (take w (drop (8 * i + j) (bitsOf s)))
 field-in k i j w s b h g =
     let q : ℕ = 8 * k - w - j in
@@ -88,14 +88,14 @@ field-in k i j w s b h g =
     ∙ subst (λ (n : ℕ). val 0 (take w (drop j (digits n v))) ≡ v / 2 ^ q % 2 ^ w) e (val-part j w q v))
 
 -- from bit p on: d bits after it, in k bytes from its own on
-field-after : (k p d w : ℕ) (s : List ℕ) → Below 256 s → p % 8 + d + w ≤ 8 * k → p + d + w ≤ 8 * length s
+field-after : (k p d w : ℕ) (s : List ℕ) → EachBelow 256 s → p % 8 + d + w ≤ 8 * k → p + d + w ≤ 8 * length s
     → joined 0 k (λ e. getD s (p / 8 + e) 0) / 2 ^ (8 * k - w - (p % 8 + d)) % 2 ^ w ≡ val 0 (take w (drop (p + d) (bitsOf s)))
 field-after k p d w s b h g =
     let e : 8 * (p / 8) + (p % 8 + d) ≡ p + d = omega arith in
     field-in k (p / 8) (p % 8 + d) w s b h (omega arith) ∙ ap (λ (n : ℕ). val 0 (take w (drop n (bitsOf s)))) e
 
 -- the last bits
-pub last-of : (s : List ℕ) (w : ℕ) → Below 256 s → w ≤ 8 → 0 < length s
+pub last-of : (s : List ℕ) (w : ℕ) → EachBelow 256 s → w ≤ 8 → 0 < length s
     → getD s (length s - 1) 0 / 2 ^ 0 % 2 ^ w ≡ val 0 (take w (drop (8 * length s - w) (bitsOf s)))
 last-of s w b u h =
     let n : ℕ = length s - 1 in
@@ -105,7 +105,7 @@ last-of s w b u h =
     rw (q, x, e) at (field-in 1 n (8 - w) w s b (omega arith) (omega arith))
 
 -- a field of two and of three bytes, and three fields of four
-module _ (s : List ℕ) (p w : ℕ) (b : Below 256 s) where
+module _ (s : List ℕ) (p w : ℕ) (b : EachBelow 256 s) where
   abbrev i : ℕ
   i = p / 8
 

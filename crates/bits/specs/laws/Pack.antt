@@ -8,7 +8,7 @@ use native.Mathlib.Omega.{arith}
 use lib.ListN.{length, getD, take, drop, set, replicate, length-append, length-drop, length-replicate}
 use lib.Seq.{drop-drop, drop-cons, take-at, drop-at, take-add, length-take-le, getD-drop, sets, sets-eq, take-append-le, drop-append-le, take-length}
 use lib.Pow.{pow-pos, pow-mono, mod-pow-add, shr-shr}
-use Rattle.bits.specs.Bits.{digits, val, pack, unpack, sum, Below, eights, bitsOf, fill, bytesOf}
+use Rattle.bits.specs.Bits.{digits, val, pack, unpack, widthOf, EachBelow, eights, bitsOf, fill, bytesOf}
 
 -- each value fits its width
 abbrev pub FitIn : List ℕ → List ℕ → Type 0
@@ -36,10 +36,10 @@ pub val-of-digits : (w v : ℕ) → v < 2 ^ w → val 0 (digits w v) ≡ v
 val-of-digits w v h = omega (arith, val-digits 0 w v, mod-eq-of-lt h, zero-mul (2 ^ w))
 
 -- the digits of a value
-tail-below : (b x : ℕ) (l : List ℕ) → Below b (x ∷ l) → Below b l
+tail-below : (b x : ℕ) (l : List ℕ) → EachBelow b (x ∷ l) → EachBelow b l
 tail-below b x l h = λ k. h (suc k)
 
-val-div : (a : ℕ) (bs : List ℕ) → Below 2 bs → val a bs / 2 ^ length bs ≡ a
+val-div : (a : ℕ) (bs : List ℕ) → EachBelow 2 bs → val a bs / 2 ^ length bs ≡ a
 val-div a [] h = div-one a
 val-div a (b ∷ bs) h =
     let r : val (a * 2 + b) bs / 2 ^ length bs ≡ a * 2 + b = val-div (a * 2 + b) bs (tail-below 2 b bs h) in
@@ -47,49 +47,49 @@ val-div a (b ∷ bs) h =
     sym (rw add-one at (shr-shr (val (a * 2 + b) bs) (length bs) 1)) in
     s ∙ ap (λ (k : ℕ). k / 2) r ∙ omega (arith, h 0)
 
-pub digits-of-val : (a : ℕ) (bs : List ℕ) → Below 2 bs → digits (length bs) (val a bs) ≡ bs
+pub digits-of-val : (a : ℕ) (bs : List ℕ) → EachBelow 2 bs → digits (length bs) (val a bs) ≡ bs
 digits-of-val a [] h = refl
 digits-of-val a (b ∷ bs) h =
-    let t : Below 2 bs = tail-below 2 b bs h in
+    let t : EachBelow 2 bs = tail-below 2 b bs h in
     let e : val (a * 2 + b) bs / 2 ^ length bs % 2 ≡ b = rw (val-div (a * 2 + b) bs t) (omega (arith, h 0)) in
     rw (e, digits-of-val (a * 2 + b) bs t)
 
 -- lists
-pub below-nil : (b : ℕ) → 0 < b → Below b []
+pub below-nil : (b : ℕ) → 0 < b → EachBelow b []
 below-nil b h = λ k. h
 
-pub below-cons : (b x : ℕ) (l : List ℕ) → x < b → Below b l → Below b (x ∷ l)
+pub below-cons : (b x : ℕ) (l : List ℕ) → x < b → EachBelow b l → EachBelow b (x ∷ l)
 below-cons b x l h t zero = h
 below-cons b x l h t (suc k) = t k
 
-pub below-take : (b n : ℕ) (l : List ℕ) → Below b l → Below b (take n l)
+pub below-take : (b n : ℕ) (l : List ℕ) → EachBelow b l → EachBelow b (take n l)
 below-take b zero l h k = omega (arith, h k)
 below-take b (suc n) [] h k = h k
 below-take b (suc n) (x ∷ l) h zero = h 0
 below-take b (suc n) (x ∷ l) h (suc k) = below-take b n l (tail-below b x l h) k
 
-pub below-drop : (b n : ℕ) (l : List ℕ) → Below b l → Below b (drop n l)
+pub below-drop : (b n : ℕ) (l : List ℕ) → EachBelow b l → EachBelow b (drop n l)
 below-drop b n l h k = rw getD-drop (h (n + k))
 
-pub below-append : (b : ℕ) (l r : List ℕ) → Below b l → Below b r → Below b (l ++ r)
+pub below-append : (b : ℕ) (l r : List ℕ) → EachBelow b l → EachBelow b r → EachBelow b (l ++ r)
 below-append b [] r h g = g
 below-append b (x ∷ l) r h g = below-cons b x (l ++ r) (h 0) (below-append b l r (tail-below b x l h) g)
 
-pub below-map : (b : ℕ) (f : ℕ → ℕ) (l : List ℕ) → 0 < b → ((k : ℕ) → k < b → f k < b) → Below b l → Below b (map f l)
+pub below-map : (b : ℕ) (f : ℕ → ℕ) (l : List ℕ) → 0 < b → ((k : ℕ) → k < b → f k < b) → EachBelow b l → EachBelow b (map f l)
 below-map b f [] p h s k = p
 below-map b f (x ∷ l) p h s zero = h x (s 0)
 below-map b f (x ∷ l) p h s (suc k) = below-map b f l p h (λ j. s (suc j)) k
 
-pub below-digits : (w v : ℕ) → Below 2 (digits w v)
+pub below-digits : (w v : ℕ) → EachBelow 2 (digits w v)
 below-digits zero v = λ k. omega arith
 below-digits (suc w) v = below-cons 2 (v / 2 ^ w % 2) (digits w v) (mod-lt (v / 2 ^ w) (omega arith)) (below-digits w v)
 
-pub below-pack : (ws vs : List ℕ) → Below 2 (pack ws vs)
+pub below-pack : (ws vs : List ℕ) → EachBelow 2 (pack ws vs)
 below-pack [] vs = λ k. omega arith
 below-pack (w ∷ ws) [] = λ k. omega arith
 below-pack (w ∷ ws) (v ∷ vs) = below-append 2 (digits w v) (pack ws vs) (below-digits w v) (below-pack ws vs)
 
-pub length-pack : (ws vs : List ℕ) → length ws ≡ length vs → length (pack ws vs) ≡ sum ws
+pub length-pack : (ws vs : List ℕ) → length ws ≡ length vs → length (pack ws vs) ≡ widthOf ws
 length-pack [] vs e = refl
 length-pack (w ∷ ws) [] e = absurd (suc-ne-zero _ e)
 length-pack (w ∷ ws) (v ∷ vs) e =
@@ -110,18 +110,18 @@ unpack-pack (w ∷ ws) (v ∷ vs) r e h =
     let l : length p ≡ w = length-digits w v in
     rw (append-assoc p (pack ws vs) r, take-at p q w l, drop-at p q w l, val-of-digits w v (h 0), unpack-pack ws vs r (suc-inj e) (λ k. h (suc k)))
 
-pub pack-unpack : (ws bs : List ℕ) → Below 2 bs → sum ws ≤ length bs → pack ws (unpack ws bs) ≡ take (sum ws) bs
+pub pack-unpack : (ws bs : List ℕ) → EachBelow 2 bs → widthOf ws ≤ length bs → pack ws (unpack ws bs) ≡ take (widthOf ws) bs
 pack-unpack [] bs h f = refl
 pack-unpack (w ∷ ws) bs h f =
     let t : List ℕ = take w bs in
     let l : length t ≡ w = length-take-le w bs (omega arith) in
     let d : digits w (val 0 t) ≡ t = rw l at (digits-of-val 0 t (below-take 2 w bs h)) in
-    let r : pack ws (unpack ws (drop w bs)) ≡ take (sum ws) (drop w bs) =
+    let r : pack ws (unpack ws (drop w bs)) ≡ take (widthOf ws) (drop w bs) =
     pack-unpack ws (drop w bs) (below-drop 2 w bs h) (omega (arith, length-drop w bs)) in
-    rw (d, r) (sym (take-add w (sum ws) bs))
+    rw (d, r) (sym (take-add w (widthOf ws) bs))
 
 -- what is past the widths does not count
-pub unpack-more : (ws bs r : List ℕ) → sum ws ≤ length bs → unpack ws (bs ++ r) ≡ unpack ws bs
+pub unpack-more : (ws bs r : List ℕ) → widthOf ws ≤ length bs → unpack ws (bs ++ r) ≡ unpack ws bs
 unpack-more [] bs r f = refl
 unpack-more (w ∷ ws) bs r f =
     let f1 : w ≤ length bs = omega arith in
@@ -147,7 +147,7 @@ fit-all [] (v ∷ vs) h = absurd (suc-ne-zero _ h)
 fit-all (w ∷ ws) [] h = λ k. pow-pos (getD (w ∷ ws) k 0)
 fit-all (w ∷ ws) (v ∷ vs) h = fit-cons w v ws vs (h .0) (fit-all ws vs (h .1))
 
-pub fit-run : (n w : ℕ) (s : List ℕ) → length s ≤ n → Below (2 ^ w) s → FitIn (replicate n w) s
+pub fit-run : (n w : ℕ) (s : List ℕ) → length s ≤ n → EachBelow (2 ^ w) s → FitIn (replicate n w) s
 fit-run zero w [] e h = fit-nil
 fit-run zero w (x ∷ s) e h = absurd (not-suc-le-zero e)
 fit-run (suc n) w [] e h = λ k. pow-pos (getD (replicate (suc n) w) k 0)
@@ -161,25 +161,25 @@ fit-append (w ∷ ws) (v ∷ vs) us xs e h g =
     fit-cons w v (ws ++ us) (vs ++ xs) (h 0) (fit-append ws vs us xs (suc-inj e) (λ k. h (suc k)) g)
 
 -- bytes
-pub sum-eights : (n : ℕ) → sum (eights n) ≡ 8 * n
+pub sum-eights : (n : ℕ) → widthOf (eights n) ≡ 8 * n
 sum-eights zero = refl
 sum-eights (suc n) = omega (arith, sum-eights n)
 
 -- THE ROUND TRIPS
-pub bytes-fields : (ws s : List ℕ) → Below 256 s → sum ws ≡ 8 * length s → bytesOf (length s) ws (fieldsOf ws s) ≡ s
+pub bytes-fields : (ws s : List ℕ) → EachBelow 256 s → widthOf ws ≡ 8 * length s → bytesOf (length s) ws (fieldsOf ws s) ≡ s
 bytes-fields ws s h e =
     let n : ℕ = length s in
     let b : List ℕ = pack (eights n) s in
     let ln : length (eights n) ≡ n = length-replicate n 8 in
-    let lb : length b ≡ sum ws = length-pack (eights n) s ln ∙ sum-eights n ∙ sym e in
+    let lb : length b ≡ widthOf ws = length-pack (eights n) s ln ∙ sum-eights n ∙ sym e in
     let p : pack ws (unpack ws b) ≡ b =
     pack-unpack ws b (below-pack (eights n) s) (omega arith) ∙ rw (sym lb) (take-length b) in
     rw p (ap (λ (l : List ℕ). unpack (eights n) l) (sym (append-nil b)) ∙ unpack-pack (eights n) s [] ln (fit-run n 8 s (omega arith) h))
 
-pub fields-bytes : (ws vs : List ℕ) (n : ℕ) → length ws ≡ length vs → FitIn ws vs → sum ws ≡ 8 * n → fieldsOf ws (bytesOf n ws vs) ≡ vs
+pub fields-bytes : (ws vs : List ℕ) (n : ℕ) → length ws ≡ length vs → FitIn ws vs → widthOf ws ≡ 8 * n → fieldsOf ws (bytesOf n ws vs) ≡ vs
 fields-bytes ws vs n l h e =
     let b : List ℕ = pack ws vs in
-    let lb : length b ≡ sum ws = length-pack ws vs l in
+    let lb : length b ≡ widthOf ws = length-pack ws vs l in
     let k : length (bytesOf n ws vs) ≡ n = length-unpack (eights n) b ∙ length-replicate n 8 in
     let p : pack (eights n) (unpack (eights n) b) ≡ b =
     pack-unpack (eights n) b (below-pack ws vs) (omega (arith, sum-eights n)) ∙ rw (sum-eights n, sym e, sym lb) (take-length b) in
@@ -207,14 +207,14 @@ pub sets-append : (b : List ℕ) (i : ℕ) (xs ys : List ℕ) → sets b i (xs +
 sets-append b i [] ys = rw add-zero
 sets-append b i (x ∷ xs) ys = rw (add-suc, ← suc-add) (sets-append (set b i x) (suc i) xs ys)
 
-pub sum-step : (ws : List ℕ) (i : ℕ) → i < length ws → sum (drop i ws) ≡ getD ws i 0 + sum (drop (i + 1) ws)
+pub sum-step : (ws : List ℕ) (i : ℕ) → i < length ws → widthOf (drop i ws) ≡ getD ws i 0 + widthOf (drop (i + 1) ws)
 sum-step ws i h = rw (add-one, drop-cons ws i 0 h)
 
 -- a turn at width i, with its bits from o on: the width is at most 8, its bits end by n, and with those of the later widths they end at `end`
 abbrev pub Turn : List ℕ → ℕ → ℕ → ℕ → ℕ → Type 0
-Turn ws i o end n = (getD ws i 0 ≤ 8) × (o + getD ws i 0 ≤ n) × (o + getD ws i 0 + sum (drop (i + 1) ws) ≡ end)
+Turn ws i o end n = (getD ws i 0 ≤ 8) × (o + getD ws i 0 ≤ n) × (o + getD ws i 0 + widthOf (drop (i + 1) ws) ≡ end)
 
-pub turn : (ws : List ℕ) (i o end n : ℕ) → i < length ws → Below 9 ws → o + sum (drop i ws) ≡ end → end ≤ n → Turn ws i o end n
+pub turn : (ws : List ℕ) (i o end n : ℕ) → i < length ws → EachBelow 9 ws → o + widthOf (drop i ws) ≡ end → end ≤ n → Turn ws i o end n
 turn ws i o end n h w e l = omega (arith, sum-step ws i h, w i)
 
 pub pack-step : (ws vs b : List ℕ) (i o : ℕ) → i < length ws → i < length vs
@@ -234,11 +234,11 @@ take-replicate zero m v h = refl
 take-replicate (suc n) zero v h = absurd (not-suc-le-zero h)
 take-replicate (suc n) (suc m) v h = ap (λ (l : List ℕ). v ∷ l) (take-replicate n m v (le-of-suc-le-suc h))
 
-pub below-replicate : (b n v : ℕ) → v < b → Below b (replicate n v)
+pub below-replicate : (b n v : ℕ) → v < b → EachBelow b (replicate n v)
 below-replicate b zero v h = λ k. omega arith
 below-replicate b (suc n) v h = below-cons b v (replicate n v) h (below-replicate b n v h)
 
-pub sum-replicate : (n v : ℕ) → sum (replicate n v) ≡ v * n
+pub sum-replicate : (n v : ℕ) → widthOf (replicate n v) ≡ v * n
 sum-replicate zero v = sym (mul-zero v)
 sum-replicate (suc n) v = rw (mul-suc, sum-replicate n v) (add-comm v (v * n))
 
@@ -246,7 +246,7 @@ abbrev pub AllBelow : ℕ → List ℕ → Type 0
 AllBelow b [] = 0 < b
 AllBelow b (x ∷ l) = (x < b) × AllBelow b l
 
-pub below-all : (b : ℕ) (l : List ℕ) → AllBelow b l → Below b l
+pub below-all : (b : ℕ) (l : List ℕ) → AllBelow b l → EachBelow b l
 below-all b [] t = λ k. t
 below-all b (x ∷ l) t = below-cons b x l (t .0) (below-all b l (t .1))
 
@@ -263,26 +263,26 @@ sets-fill n l h =
     sets-eq l (replicate n 0) 0 (omega (arith, length-replicate {A = ℕ} n 0))
     ∙ rw (zero-add, drop-replicate)
 
-pub below-fill : (b n : ℕ) (l : List ℕ) → Below b l → Below b (fill n l)
+pub below-fill : (b n : ℕ) (l : List ℕ) → EachBelow b l → EachBelow b (fill n l)
 below-fill b n l h = below-append b l (replicate (n - length l) 0) h (below-replicate b (n - length l) 0 (omega (arith, h 0)))
 
 pub length-fill : (n : ℕ) (l : List ℕ) → length l ≤ n → length (fill n l) ≡ n
 length-fill n l h = simp (length-append, length-replicate) (omega arith)
 
 -- a part of the bits does not see the fill
-pub part-fill : (n at : ℕ) (ws l : List ℕ) → at + sum ws ≤ length l → unpack ws (drop at (fill n l)) ≡ unpack ws (drop at l)
+pub part-fill : (n at : ℕ) (ws l : List ℕ) → at + widthOf ws ≤ length l → unpack ws (drop at (fill n l)) ≡ unpack ws (drop at l)
 part-fill n at ws l h =
     let r : List ℕ = replicate (n - length l) 0 in
     let g : at ≤ length l = omega arith in
     rw (drop-append-le at l r g) (unpack-more ws (drop at l) r (omega (arith, length-drop at l)))
 
 -- what is unpacked fits
-pub val-lt : (bs : List ℕ) → Below 2 bs → val 0 bs < 2 ^ length bs
+pub val-lt : (bs : List ℕ) → EachBelow 2 bs → val 0 bs < 2 ^ length bs
 val-lt bs h =
     let d : val 0 bs / 2 ^ length bs < 1 = rw (val-div 0 bs h) (omega arith) in
     rw one-mul at (div-lt-iff-lt-mul (pow-pos (length bs)) .0 d)
 
-pub unpack-fit : (ws bs : List ℕ) → Below 2 bs → sum ws ≤ length bs → FitIn ws (unpack ws bs)
+pub unpack-fit : (ws bs : List ℕ) → EachBelow 2 bs → widthOf ws ≤ length bs → FitIn ws (unpack ws bs)
 unpack-fit [] bs h f k = omega arith
 unpack-fit (w ∷ ws) bs h f zero =
     let l : length (take w bs) ≡ w = length-take-le w bs (omega arith) in
@@ -296,12 +296,12 @@ pack-append [] us (v ∷ vs) xs e = absurd (suc-ne-zero _ (sym e))
 pack-append (w ∷ ws) us [] xs e = absurd (suc-ne-zero _ e)
 pack-append (w ∷ ws) us (v ∷ vs) xs e = rw (pack-append ws us vs xs (suc-inj e)) (sym (append-assoc (digits w v) (pack ws vs) (pack us xs)))
 
-pub unpack-append : (ws us bs : List ℕ) → unpack (ws ++ us) bs ≡ unpack ws bs ++ unpack us (drop (sum ws) bs)
+pub unpack-append : (ws us bs : List ℕ) → unpack (ws ++ us) bs ≡ unpack ws bs ++ unpack us (drop (widthOf ws) bs)
 unpack-append [] us bs = refl
 unpack-append (w ∷ ws) us bs = ap (λ (l : List ℕ). val 0 (take w bs) ∷ l) (unpack-append ws us (drop w bs) ∙ rw drop-drop)
 
-pub sum-append : (ws us : List ℕ) → sum (ws ++ us) ≡ sum ws + sum us
-sum-append [] us = sym (zero-add (sum us))
+pub sum-append : (ws us : List ℕ) → widthOf (ws ++ us) ≡ widthOf ws + widthOf us
+sum-append [] us = sym (zero-add (widthOf us))
 sum-append (w ∷ ws) us = omega (arith, sum-append ws us)
 
 -- lists that start with parts of one length

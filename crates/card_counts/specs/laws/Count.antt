@@ -11,10 +11,10 @@ use Rattle.tiles.specs.Groups.{isGroup}
 use Rattle.tiles.specs.laws.Tally.{more}
 use Rattle.reading.specs.search.Readings.{isEmpty, less, fits, without}
 use Rattle.reading.specs.All.{Each, none, also as each}
-use Rattle.splits.specs.search.Parts.{lowest, partAt, isParts}
-use Rattle.cards.specs.Deck.{cardsOf, cardBytes, cards-exactly, only-cards}
+use Rattle.reading_splits.specs.search.SplitsInto.{lowest, pieceAt, splitsInto}
+use Rattle.cards.specs.CardList.{cardsOf, cardBytes, cards-exactly, only-cards}
 use Rattle.cards.specs.search.Draws.{draw, draws, drawn}
-use Rattle.cards.specs.laws.Exact.{deck-drawn}
+use Rattle.cards.specs.laws.Exact.{card-list-drawn}
 use Rattle.card_counts.specs.laws.Shift.{count-alike, all-members}
 
 -- those that begin with the kind a, and those from the next kind on
@@ -30,15 +30,15 @@ abbrev From : ℕ → ℕ
 From a = length (draws 2 7 (9 - a) a (more (replicate 34 0) a 1))
 
 first-0 : From 0 ≡ 334
-unfolding every isGroup more isEmpty less fits without lowest partAt isParts draw draws
+unfolding every isGroup more isEmpty less fits without lowest pieceAt splitsInto draw draws
 first-0 = refl
 
 first-1 : From 1 ≡ 250
-unfolding every isGroup more isEmpty less fits without lowest partAt isParts draw draws
+unfolding every isGroup more isEmpty less fits without lowest pieceAt splitsInto draw draws
 first-1 = refl
 
 first-others : (From 2 ≡ 178) × (From 3 ≡ 118) × (From 4 ≡ 70) × (From 5 ≡ 34) × (From 6 ≡ 12) × (From 7 ≡ 0) × (From 8 ≡ 0)
-unfolding every isGroup more isEmpty less fits without lowest partAt isParts draw draws
+unfolding every isGroup more isEmpty less fits without lowest pieceAt splitsInto draw draws
 first-others = (refl, refl, refl, refl, refl, refl, refl)
 
 -- no kind is left
@@ -76,12 +76,12 @@ eights =
     )
 
 fives : (length (drawn 0 2) ≡ 9) × (length (drawn 0 5) ≡ 135)
-unfolding every isGroup more isEmpty less fits without lowest partAt isParts draw draws drawn
+unfolding every isGroup more isEmpty less fits without lowest pieceAt splitsInto draw draws drawn
 fives = (refl, refl)
 
 -- ---- each suit
 as-drawn : (suit size : ℕ) → suit ≤ 2 → length (cardsOf suit size) ≡ length (drawn 0 size)
-as-drawn suit size h = count-alike suit size h ∙ ap length (sym (only-cards 0 size (drawn 0 size) (deck-drawn 0 size (omega arith))))
+as-drawn suit size h = count-alike suit size h ∙ ap length (sym (only-cards 0 size (drawn 0 size) (card-list-drawn 0 size (omega arith))))
 
 pub counted : (suit : ℕ) → suit ≤ 2 → (length (cardsOf suit 2) ≡ 9) × (length (cardsOf suit 5) ≡ 135) × (length (cardsOf suit 8) ≡ 996)
 counted suit h = (as-drawn suit 2 h ∙ fives .0, as-drawn suit 5 h ∙ fives .1, as-drawn suit 8 h ∙ eights)

@@ -8,7 +8,7 @@ use native.Mathlib.Omega.{arith}
 use borrow.Author.Tests.{lt-ltb, le-ltb, le-leb, ltb-true, ltb-false}
 use lib.Dec.{ltb}
 use lib.ListN.{length, length-map}
-use Rattle.tiles.specs.Groups.{isGroup, at, uses}
+use Rattle.tiles.specs.Groups.{isGroup, atKind, uses}
 use Rattle.tiles.specs.laws.Below.{same-test}
 use Rattle.tiles.specs.laws.Tally.{ofKind}
 use Rattle.reading.specs.Reading.{usedBy}
@@ -16,9 +16,9 @@ use Rattle.reading.specs.Order.{Lex}
 use Rattle.reading.specs.All.{Each, none, also as each}
 use Rattle.reading.specs.laws.Groups.{run-or, run-in, at-same, at-other}
 use Rattle.reading.specs.laws.Lists.{each-imp, each-map, each-member, pairwise-map}
-use Rattle.splits.specs.Splits.{Splits}
-use Rattle.cards.specs.Cards.{Card, IsDeck}
-use Rattle.cards.specs.Deck.{cardsOf, cards-exactly, only-cards}
+use Rattle.reading_splits.specs.Splits.{Splits}
+use Rattle.cards.specs.Cards.{Card, IsCardList}
+use Rattle.cards.specs.CardList.{cardsOf, cards-exactly, only-cards}
 use Rattle.cards.specs.laws.Tiles.{among-kind, kind-each, splits-cong, in-suit, suit-in, each-both, each-uses}
 
 -- a kind is below e, or e on from one
@@ -49,11 +49,11 @@ module _ (d e : ℕ) where
   abbrev to : ℕ → ℕ
   to k = e + (k - d)
 
-  at-to : (a n j : ℕ) → d ≤ a → at (to a) n (e + j) ≡ at a n (d + j)
-  unfolding at
+  at-to : (a n j : ℕ) → d ≤ a → atKind (to a) n (e + j) ≡ atKind a n (d + j)
+  unfolding atKind
   at-to a n j h = rw (same-test (e + (a - d)) (e + j) a (d + j) (λ q. omega arith) (λ q. omega arith))
 
-  at-before : (a n k : ℕ) → k < e → at (to a) n k ≡ 0
+  at-before : (a n k : ℕ) → k < e → atKind (to a) n k ≡ 0
   at-before a n k h = at-other (e + (a - d)) n k (omega arith)
 
   kinds-to : (l : List ℕ) (j : ℕ) → Each (λ k. d ≤ k) l → ofKind (map to l) (e + j) ≡ ofKind l (d + j)
@@ -178,10 +178,10 @@ each-from : (l : List ℕ) → Each (λ k. 0 ≤ k) l
 each-from [] = none
 each-from (x ∷ l) = each {x = x} (omega arith) (each-from l)
 
-deck-to : (size u : ℕ) → u ≤ 2 → IsDeck u size (map (map (to 0 (9 * u))) (cardsOf 0 size))
-deck-to size u h =
+card-list-to : (size u : ℕ) → u ≤ 2 → IsCardList u size (map (map (to 0 (9 * u))) (cardsOf 0 size))
+card-list-to size u h =
     let x = cardsOf 0 size in
-    let y : IsDeck 0 size x = cards-exactly 0 size in
+    let y : IsCardList 0 size x = cards-exactly 0 size in
     let f : List ℕ → List ℕ = map (to 0 (9 * u)) in
     let on : Each (Card u size) (map f x) = each-map f (λ a c. card-to 0 u h size a c) (all-members {P = Card 0 size} x (y .only)) in
     let z : 0 ≤ 2 = omega arith in
@@ -195,4 +195,4 @@ deck-to size u h =
 
 pub count-alike : (suit size : ℕ) → suit ≤ 2 → length (cardsOf suit size) ≡ length (cardsOf 0 size)
 count-alike suit size h =
-    sym (ap length (only-cards suit size _ (deck-to size suit h))) ∙ length-map (cardsOf 0 size) (map (to 0 (9 * suit)))
+    sym (ap length (only-cards suit size _ (card-list-to size suit h))) ∙ length-map (cardsOf 0 size) (map (to 0 (9 * suit)))

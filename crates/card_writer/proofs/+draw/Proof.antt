@@ -13,7 +13,7 @@ use borrow.Fn.PlainCycle.{Measures, is, falls, and}
 use Rattle.card_writer.proofs.draw.Reads as draw
 use Rattle.card_writer.proofs.draw.Kinds as draw-kinds
 use Rattle.card_writer.proofs.+draw.Lts-draw as draw-lts
-use Rattle.splits.proofs.splits.Reads as splits-reads
+use Rattle.reading_splits.proofs.splits.Reads as splits-reads
 use Rattle.card_writer.proofs.put_card.Reads as put-card-reads
 use Rattle.tiles.proofs.add.Reads as add-reads
 use Rattle.card_writer.proofs.+draw.{statement}
@@ -29,11 +29,11 @@ abbrev draw-below : ℕ → In 1 draw-kinds.ps
 draw-below t = and 1 draw-kinds.ps (falls 1 draw-kinds.ps _<_ μ-draw t) draw.Pre
 
 abbrev Inv-loop : draw-lts.InvT-loop
-Inv-loop buf₀ at so low end left size n t e₀ a₀ buf e a =
-    Left buf₀ at (written (take (size - left) so) n left end low t) buf e (written (take (size - left) so) n left end a t)
+Inv-loop buf₀ at prefix low end left size n t e₀ a₀ buf e a =
+    Left buf₀ at (written (take (size - left) prefix) n left end low t) buf e (written (take (size - left) prefix) n left end a t)
 
 abbrev μ-loop : draw-lts.MeasureT-loop
-μ-loop buf₀ at so low end left size n t e₀ a₀ buf e a = end - a
+μ-loop buf₀ at prefix low end left size n t e₀ a₀ buf e a = end - a
 
 abbrev claims : ℕ → draw-lts.Claims
 claims t = (
@@ -53,16 +53,16 @@ module _ (t : ℕ) (c : draw-lts.In-loop (claims t) (draw-at t) draw.Post Inv-lo
   start = c .before .before .before .before
 
   abbrev rest : ℕ → List ℕ
-  rest a = let s = start .args in written (take (s .size - s .left) (s .so)) (s .n) (s .left) (s .end) a (s .t4)
+  rest a = let s = start .args in written (take (s .size - s .left) (s .prefix)) (s .n) (s .left) (s .end) a (s .t4)
 
   abbrev next : List ℕ → List ℕ
-  next u = let s = start .args in let a = c .before .loop .a in written (take (s .size - (s .left - 1)) (set (s .so) (s .size - s .left) a)) (s .n) (s .left - 1) (s .end) a u
+  next u = let s = start .args in let a = c .before .loop .a in written (take (s .size - (s .left - 1)) (set (s .prefix) (s .size - s .left) a)) (s .n) (s .left - 1) (s .end) a u
 
   turn : (u : List ℕ) → getD (start .args .t4) (c .before .loop .a) 0 < 4 → u ≡ more (start .args .t4) (c .before .loop .a) 1 → rest (c .before .loop .a) ≡ next u ++ rest (c .before .loop .a + 1)
   turn u h e =
       let s = start .args in
-      let l : length (s .so) ≡ 8 = search needs in
-      turn-with (s .so) (s .t4) u (s .size) (s .left) (s .n) (s .end) (c .before .loop .a) (c .before .before .if1 .left) (start .pre .1 .0) (omega (arith, start .pre .1 .1)) (c .loop-test .taken) h e
+      let l : length (s .prefix) ≡ 8 = search needs in
+      turn-with (s .prefix) (s .t4) u (s .size) (s .left) (s .n) (s .end) (c .before .loop .a) (c .before .before .if1 .left) (start .pre .1 .0) (omega (arith, start .pre .1 .1)) (c .loop-test .taken) h e
 
 pub +draw-spec : {M : Type 1} → statement M
 +draw-spec = close μ-draw λ t. draw-lts.spec
@@ -74,16 +74,16 @@ pub +draw-spec : {M : Type 1} → statement M
     (λ c κs. tt)
     (λ c κs.
     let s = c .before .before .before .before .before in
-    let l : length (s .args .so) ≡ 8 = search needs in
-    (s .pre .1 .1, leaf-room (s .args .so) (s .args .t4) (s .args .size) (s .args .left) (s .args .n) (s .args .end) (s .args .low) (c .before .before .before .if1 .taken) (s .args .at) (length (s .args .buf .now)) (sym (c .before .before .splits .ensures .1) ∙ c .before .if2 .taken) (omega arith) (s .pre .1 .3)))
+    let l : length (s .args .prefix) ≡ 8 = search needs in
+    (s .pre .1 .1, leaf-room (s .args .prefix) (s .args .t4) (s .args .size) (s .args .left) (s .args .n) (s .args .end) (s .args .low) (c .before .before .before .if1 .taken) (s .args .at) (length (s .args .buf .now)) (sym (c .before .before .splits .ensures .1) ∙ c .before .if2 .taken) (omega arith) (s .pre .1 .3)))
     (λ c. c .before .before .put-card .kept .0)
     (λ c.
     let p = c .before .before .before .before in
     let s = p .before .before .before .before in
-    put-leaf (s .args .so) (s .args .t4) (s .args .size) (s .args .left) (s .args .n) (s .args .end) (s .args .low) (p .before .before .if1 .taken) (sym (p .before .splits .ensures .1) ∙ p .if2 .taken) (c .before .before .put-card .ensures))
+    put-leaf (s .args .prefix) (s .args .t4) (s .args .size) (s .args .left) (s .args .n) (s .args .end) (s .args .low) (p .before .before .if1 .taken) (sym (p .before .splits .ensures .1) ∙ p .if2 .taken) (c .before .before .put-card .ensures))
     (λ c.
     let s = c .before .before .before .before in
-    put-over (s .args .so) (s .args .t4) (s .args .size) (s .args .left) (s .args .n) (s .args .end) (s .args .low) (c .before .before .if1 .taken) (s .args .buf .now) (s .args .at) (sym (c .before .splits .ensures .1) ∙ c .if2 .left))
+    put-over (s .args .prefix) (s .args .t4) (s .args .size) (s .args .left) (s .args .n) (s .args .end) (s .args .low) (c .before .before .if1 .taken) (s .args .buf .now) (s .args .at) (sym (c .before .splits .ensures .1) ∙ c .if2 .left))
     (λ c. left-all _ _ _)
     (λ c. omega arith)
     (λ c. omega arith)

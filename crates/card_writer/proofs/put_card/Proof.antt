@@ -11,10 +11,10 @@ use Rattle.card_writer.proofs.put_card.Statement.{statement}
 use Rattle.card_writer.proofs.put_card.Tie as tie
 
 abbrev Inv-loop : tie.InvT-loop
-Inv-loop buf₀ at size so i₀ buf i = (i ≤ size) × (length buf ≡ length buf₀) × (sets buf (at + i) (slice i size so) ≡ sets buf₀ at (take size so))
+Inv-loop buf₀ at size prefix i₀ buf i = (i ≤ size) × (length buf ≡ length buf₀) × (sets buf (at + i) (slice i size prefix) ≡ sets buf₀ at (take size prefix))
 
 abbrev μ-loop : tie.MeasureT-loop
-μ-loop buf₀ at size so i₀ buf i = size - i
+μ-loop buf₀ at size prefix i₀ buf i = size - i
 
 pub put-card-spec : {M : Type 1} → statement M
 put-card-spec =

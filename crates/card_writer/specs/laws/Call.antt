@@ -11,9 +11,9 @@ use lib.ListN.{length, take, drop, replicate}
 use lib.Seq.{sets-eq}
 use Rattle.reading.specs.search.Readings.{concatMap}
 use Rattle.text.specs.laws.Put.{Put}
-use Rattle.cards.specs.Deck.{cardsOf, cardBytes, only-cards}
+use Rattle.cards.specs.CardList.{cardsOf, cardBytes, only-cards}
 use Rattle.cards.specs.search.Draws.{drawn}
-use Rattle.cards.specs.laws.Exact.{deck-drawn}
+use Rattle.cards.specs.laws.Exact.{card-list-drawn}
 use Rattle.card_counts.specs.Claims.{numbers-of-sets}
 use Rattle.card_counts.specs.laws.Count as counts
 use Rattle.card_writer.specs.Call.{isSize, refuses, refusedCards, answerOf, cardBuffer}
@@ -95,13 +95,13 @@ one-after-another [] = refl
 one-after-another (l ∷ x) = rw (one-after-another x)
 
 -- what is drawn from no tile on is the whole list
-pub all-drawn : (suit size : ℕ) (so : List ℕ) → suit ≤ 2
-    → written (take (size - size) so) ((size - 2) / 3) size (9 * suit + 9) (9 * suit) (replicate 34 0) ≡ cardBytes suit size
+pub all-drawn : (suit size : ℕ) (prefix : List ℕ) → suit ≤ 2
+    → written (take (size - size) prefix) ((size - 2) / 3) size (9 * suit + 9) (9 * suit) (replicate 34 0) ≡ cardBytes suit size
 unfolding written bytesOf cardBytes drawn
-all-drawn suit size so h =
+all-drawn suit size prefix h =
     let z : size - size ≡ 0 = sub-self size in
     let j : 9 * suit + 9 - 9 * suit ≡ 9 = omega arith in
-    rw (z, j) (one-after-another (drawn suit size) ∙ ap flatten (only-cards suit size (drawn suit size) (deck-drawn suit size h)))
+    rw (z, j) (one-after-another (drawn suit size) ∙ ap flatten (only-cards suit size (drawn suit size) (card-list-drawn suit size h)))
 
 pub put-all : (suit size : ℕ) (buf new : List ℕ) (r : ℕ) → suit ≤ 2 → (k : Known suit size) → size * countOf size ≤ length buf → Put buf 0 (cardBytes suit size) new r
     → (record { refusal = 0; count = countOf size } ≡ answerOf suit size (length buf)) × (new ≡ cardBuffer suit size buf)

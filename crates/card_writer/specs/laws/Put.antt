@@ -14,7 +14,7 @@ use Rattle.bits.specs.laws.Pack.{sets-append}
 use Rattle.text.specs.laws.Put.{Put, put-none}
 use Rattle.reading.specs.search.Readings.{concatMap}
 use Rattle.reading.specs.laws.Lists.{concat-append}
-use Rattle.splits.specs.search.Parts.{isParts}
+use Rattle.reading_splits.specs.search.SplitsInto.{splitsInto}
 use Rattle.cards.specs.search.Draws.{draw, draws}
 
 -- what is left to put gives the whole
@@ -45,44 +45,44 @@ put-done {b} {m} {w} {r} {at} {e} h l =
 
 -- the tiles so far before each of the lists, one after the other
 unfoldable pub bytesOf : List ℕ → List (List ℕ) → List ℕ
-bytesOf so ls = concatMap (λ (l : List ℕ). so ++ l) ls
+bytesOf prefix ls = concatMap (λ (l : List ℕ). prefix ++ l) ls
 
 -- what is written behind the tiles so far
 unfoldable pub written : List ℕ → ℕ → ℕ → ℕ → ℕ → List ℕ → List ℕ
-written so n left end low t = bytesOf so (draws n left (end - low) low t)
+written prefix n left end low t = bytesOf prefix (draws n left (end - low) low t)
 
-bytes-taken : (so : List ℕ) (a : ℕ) (x : List (List ℕ)) → bytesOf so (map (λ (l : List ℕ). a ∷ l) x) ≡ bytesOf (so ++ (a ∷ [])) x
+bytes-taken : (prefix : List ℕ) (a : ℕ) (x : List (List ℕ)) → bytesOf prefix (map (λ (l : List ℕ). a ∷ l) x) ≡ bytesOf (prefix ++ (a ∷ [])) x
 unfolding bytesOf concatMap
-bytes-taken so a [] = refl
-bytes-taken so a (l ∷ x) = rw (bytes-taken so a x, append-assoc so (a ∷ []) l)
+bytes-taken prefix a [] = refl
+bytes-taken prefix a (l ∷ x) = rw (bytes-taken prefix a x, append-assoc prefix (a ∷ []) l)
 
-bytes-append : (so : List ℕ) (x y : List (List ℕ)) → bytesOf so (x ++ y) ≡ bytesOf so x ++ bytesOf so y
+bytes-append : (prefix : List ℕ) (x y : List (List ℕ)) → bytesOf prefix (x ++ y) ≡ bytesOf prefix x ++ bytesOf prefix y
 unfolding bytesOf
-bytes-append so x y = concat-append (λ (l : List ℕ). so ++ l) x y
+bytes-append prefix x y = concat-append (λ (l : List ℕ). prefix ++ l) x y
 
-module _ (so : List ℕ) (n left end a : ℕ) (t : List ℕ) where
-  pub written-leaf : left ≡ 0 → isParts (suc n) true t ≡ true → written so n left end a t ≡ so
+module _ (prefix : List ℕ) (n left end a : ℕ) (t : List ℕ) where
+  pub written-leaf : left ≡ 0 → splitsInto (suc n) true t ≡ true → written prefix n left end a t ≡ prefix
   unfolding written bytesOf draws concatMap
   written-leaf z e = rw (z, e, append-nil, append-nil)
 
-  pub written-over : left ≡ 0 → isParts (suc n) true t ≡ false → written so n left end a t ≡ []
+  pub written-over : left ≡ 0 → splitsInto (suc n) true t ≡ false → written prefix n left end a t ≡ []
   unfolding written bytesOf draws concatMap
   written-over z e = rw (z, e)
 
-module _ (so : List ℕ) (n end a : ℕ) (t : List ℕ) where
-  pub written-end : (left : ℕ) → (left ≡ 0 → ⊥) → end ≤ a → written so n left end a t ≡ []
+module _ (prefix : List ℕ) (n end a : ℕ) (t : List ℕ) where
+  pub written-end : (left : ℕ) → (left ≡ 0 → ⊥) → end ≤ a → written prefix n left end a t ≡ []
   unfolding written bytesOf draws draw concatMap
   written-end zero h l = absurd (h refl)
   written-end (suc m) h l = let s : end - a ≡ 0 = omega arith in rw s
 
-  pub written-skip : (left : ℕ) → (left ≡ 0 → ⊥) → a < end → 4 ≤ getD t a 0 → written so n left end a t ≡ written so n left end (a + 1) t
+  pub written-skip : (left : ℕ) → (left ≡ 0 → ⊥) → a < end → 4 ≤ getD t a 0 → written prefix n left end a t ≡ written prefix n left end (a + 1) t
   unfolding written bytesOf draws draw concatMap
   written-skip zero h l f = absurd (h refl)
   written-skip (suc m) h l f =
       let s : end - a ≡ suc (end - (a + 1)) = omega arith in
       rw (s, le-ltb (getD t a 0) 4 f)
 
-  pub written-with : (left : ℕ) → (left ≡ 0 → ⊥) → a < end → getD t a 0 < 4 → written so n left end a t ≡ written (so ++ (a ∷ [])) n (left - 1) end a (more t a 1) ++ written so n left end (a + 1) t
+  pub written-with : (left : ℕ) → (left ≡ 0 → ⊥) → a < end → getD t a 0 < 4 → written prefix n left end a t ≡ written (prefix ++ (a ∷ [])) n (left - 1) end a (more t a 1) ++ written prefix n left end (a + 1) t
   unfolding written draws draw
   written-with zero h l f = absurd (h refl)
   written-with (suc m) h l f =
@@ -90,28 +90,28 @@ module _ (so : List ℕ) (n end a : ℕ) (t : List ℕ) where
       let z : suc m - 1 ≡ m = omega arith in
       let x = draws n m (suc (end - (a + 1))) a (more t a 1) in
       let y = draw (draws n m) (end - (a + 1)) (a + 1) t in
-      rw (s, z, lt-ltb (getD t a 0) 4 f) (bytes-append so (map (λ (l : List ℕ). a ∷ l) x) y ∙ ap (λ (b : List ℕ). b ++ bytesOf so y) (bytes-taken so a x))
+      rw (s, z, lt-ltb (getD t a 0) 4 f) (bytes-append prefix (map (λ (l : List ℕ). a ∷ l) x) y ∙ ap (λ (b : List ℕ). b ++ bytesOf prefix y) (bytes-taken prefix a x))
 
 -- the tiles so far, with one more
-pub so-more : (so : List ℕ) (size left a : ℕ) → (left ≡ 0 → ⊥) → left ≤ size → size ≤ length so → take (size - (left - 1)) (set so (size - left) a) ≡ take (size - left) so ++ (a ∷ [])
-so-more so size left a h l r =
+pub prefix-more : (prefix : List ℕ) (size left a : ℕ) → (left ≡ 0 → ⊥) → left ≤ size → size ≤ length prefix → take (size - (left - 1)) (set prefix (size - left) a) ≡ take (size - left) prefix ++ (a ∷ [])
+prefix-more prefix size left a h l r =
     let s : size - (left - 1) ≡ suc (size - left) = omega arith in
-    rw s (take-suc-set so (size - left) a (omega arith))
+    rw s (take-suc-set prefix (size - left) a (omega arith))
 
 -- one tile of a card
-pub slice-turn : (b so : List ℕ) (at i size : ℕ) → i < size → size ≤ length so → sets (set b (at + i) (getD so i 0)) (at + (i + 1)) (slice (i + 1) size so) ≡ sets b (at + i) (slice i size so)
-slice-turn b so at i size h l = let e : at + (i + 1) ≡ suc (at + i) = omega arith in rw (slice-cons i size so 0 h l, e, add-one)
+pub slice-turn : (b prefix : List ℕ) (at i size : ℕ) → i < size → size ≤ length prefix → sets (set b (at + i) (getD prefix i 0)) (at + (i + 1)) (slice (i + 1) size prefix) ≡ sets b (at + i) (slice i size prefix)
+slice-turn b prefix at i size h l = let e : at + (i + 1) ≡ suc (at + i) = omega arith in rw (slice-cons i size prefix 0 h l, e, add-one)
 
-pub put-through : (b so m : List ℕ) (at i size : ℕ) → size ≤ length so → i ≤ size → size ≤ i → sets m (at + i) (slice i size so) ≡ sets b at (take size so) → Put b at (take size so) m (at + size)
-put-through b so m at i size l g h e =
+pub put-through : (b prefix m : List ℕ) (at i size : ℕ) → size ≤ length prefix → i ≤ size → size ≤ i → sets m (at + i) (slice i size prefix) ≡ sets b at (take size prefix) → Put b at (take size prefix) m (at + size)
+put-through b prefix m at i size l g h e =
     let q : size ≡ i = le-antisymm h g in
-    let z : slice i size so ≡ [] = rw (← q) (slice-empty size so) in
-    record { place = rw (length-take-le size so l); bytes = ap (sets m (at + i)) (sym z) ∙ e }
+    let z : slice i size prefix ≡ [] = rw (← q) (slice-empty size prefix) in
+    record { place = rw (length-take-le size prefix l); bytes = ap (sets m (at + i)) (sym z) ∙ e }
 
 -- ---- a turn of the draw: the tiles so far are the first size - left of so
-pub turn-with : (so t u : List ℕ) (size left n end a : ℕ) → (left ≡ 0 → ⊥) → left ≤ size → size ≤ length so → a < end → getD t a 0 < 4 → u ≡ more t a 1
-    → written (take (size - left) so) n left end a t ≡ written (take (size - (left - 1)) (set so (size - left) a)) n (left - 1) end a u ++ written (take (size - left) so) n left end (a + 1) t
-turn-with so t u size left n end a h g l q f e = rw (so-more so size left a h g l, e) (written-with (take (size - left) so) n end a t left h q f)
+pub turn-with : (prefix t u : List ℕ) (size left n end a : ℕ) → (left ≡ 0 → ⊥) → left ≤ size → size ≤ length prefix → a < end → getD t a 0 < 4 → u ≡ more t a 1
+    → written (take (size - left) prefix) n left end a t ≡ written (take (size - (left - 1)) (set prefix (size - left) a)) n (left - 1) end a u ++ written (take (size - left) prefix) n left end (a + 1) t
+turn-with prefix t u size left n end a h g l q f e = rw (prefix-more prefix size left a h g l, e) (written-with (take (size - left) prefix) n end a t left h q f)
 
 -- there is room for the next part of what is left
 pub left-room : {b m w r : List ℕ} {at e : ℕ} (x q : List ℕ) → r ≡ x ++ q → Left b at w m e r → at + length w ≤ length b → e + length x ≤ length m
@@ -120,15 +120,15 @@ left-room {b} {m} {w} {r} {at} {e} x q h l g =
     omega (arith, l .place, l .long)
 
 -- ---- all tiles are drawn: the card is written, or nothing is
-module _ (so t : List ℕ) (size left n end low : ℕ) (z : left ≡ 0) where
-  leaf : isParts (suc n) true t ≡ true → written (take (size - left) so) n left end low t ≡ take size so
-  leaf e = let q : size - left ≡ size = omega arith in written-leaf (take (size - left) so) n left end low t z e ∙ ap (λ (i : ℕ). take i so) q
+module _ (prefix t : List ℕ) (size left n end low : ℕ) (z : left ≡ 0) where
+  leaf : splitsInto (suc n) true t ≡ true → written (take (size - left) prefix) n left end low t ≡ take size prefix
+  leaf e = let q : size - left ≡ size = omega arith in written-leaf (take (size - left) prefix) n left end low t z e ∙ ap (λ (i : ℕ). take i prefix) q
 
-  pub leaf-room : (at room : ℕ) → isParts (suc n) true t ≡ true → size ≤ length so → at + length (written (take (size - left) so) n left end low t) ≤ room → at + size ≤ room
-  leaf-room at room e l h = omega (arith, ap length (leaf e), length-take-le size so l)
+  pub leaf-room : (at room : ℕ) → splitsInto (suc n) true t ≡ true → size ≤ length prefix → at + length (written (take (size - left) prefix) n left end low t) ≤ room → at + size ≤ room
+  leaf-room at room e l h = omega (arith, ap length (leaf e), length-take-le size prefix l)
 
-  pub put-leaf : {b m : List ℕ} {at r : ℕ} → isParts (suc n) true t ≡ true → Put b at (take size so) m r → Put b at (written (take (size - left) so) n left end low t) m r
+  pub put-leaf : {b m : List ℕ} {at r : ℕ} → splitsInto (suc n) true t ≡ true → Put b at (take size prefix) m r → Put b at (written (take (size - left) prefix) n left end low t) m r
   put-leaf e p = rw (leaf e) p
 
-  pub put-over : (b : List ℕ) (at : ℕ) → isParts (suc n) true t ≡ false → Put b at (written (take (size - left) so) n left end low t) b at
-  put-over b at e = rw (written-over (take (size - left) so) n left end low t z e) (put-none b at)
+  pub put-over : (b : List ℕ) (at : ℕ) → splitsInto (suc n) true t ≡ false → Put b at (written (take (size - left) prefix) n left end low t) b at
+  put-over b at e = rw (written-over (take (size - left) prefix) n left end low t z e) (put-none b at)

@@ -10,23 +10,23 @@ use borrow.Author.Tests.{lt-ltb, ltb-true, eqb-true, eqb-false}
 use lib.Dec.{ltb, eqb}
 use lib.ListN.{length, getD, set, length-set}
 use lib.Seq.{getD-set-same, getD-set-other}
-use Rattle.tiles.specs.Groups.{at}
+use Rattle.tiles.specs.Groups.{atKind}
 use Rattle.tiles.specs.laws.Tally.{more, ofKind}
 use Rattle.reading.specs.Order.{Lex}
 use Rattle.reading.specs.All.{Each, none, also as each, Pairwise, ended}
 use Rattle.reading.specs.search.Readings.{when}
 use Rattle.reading.specs.laws.Groups.{at-same}
 use Rattle.reading.specs.laws.Lists.{each-append, each-map, each-imp, each-when, pairwise-append, pairwise-when, pairwise-one, pairwise-map, mem-when}
-use Rattle.splits.specs.Splits.{Splits}
-use Rattle.splits.specs.search.Parts.{isParts}
-use Rattle.splits.specs.laws.Parts.{splits-exactly}
+use Rattle.reading_splits.specs.Splits.{Splits}
+use Rattle.reading_splits.specs.search.SplitsInto.{splitsInto}
+use Rattle.reading_splits.specs.laws.SplitsInto.{splits-exactly}
 use Rattle.cards.specs.search.Draws.{draw, draws}
 use Rattle.cards.specs.laws.Tiles.{Rising, each-head, each-tail, at-or, splits-cong}
 
 -- ---- one tile more
 module _ (t : List ℕ) (a : ℕ) (l : a < length t) where
-  more-at : (k : ℕ) → getD (more t a 1) k 0 ≡ getD t k 0 + at a 1 k
-  unfolding more at
+  more-at : (k : ℕ) → getD (more t a 1) k 0 ≡ getD t k 0 + atKind a 1 k
+  unfolding more atKind
   more-at k = go (eqb a k) refl
     where
       go : (b : Bool) → eqb a k ≡ b → getD (set t a (getD t a 0 + 1)) k 0 ≡ getD t k 0 + cond b 1 0
@@ -96,7 +96,7 @@ module _ (n end : ℕ) where
   pub draws-sound : (m j a : ℕ) (t : List ℕ) → a + j ≡ end → Fine end t → Each (Ends n end a t m) (draws n m j a t)
   unfolding draws ofKind
   draws-sound zero j a t e f =
-      each-when (isParts (suc n) true t) _ (λ b.
+      each-when (splitsInto (suc n) true t) _ (λ b.
       each
       (record {
         size = refl;
@@ -148,7 +148,7 @@ module _ (n end : ℕ) where
   pub draws-complete : (m j a : ℕ) (t l : List ℕ) → a + j ≡ end → Fine end t → Ends n end a t m l → List·Memᴰ l (draws n m j a t)
   unfolding draws ofKind
   draws-complete zero j a t [] e f s =
-      mem-when (isParts (suc n) true t) _ (splits-exactly n t (f .long) .1 (splits-cong (λ k. sym (add-zero (getD t k 0))) (s .splits))) (List·Memᴰ·head refl)
+      mem-when (splitsInto (suc n) true t) _ (splits-exactly n t (f .long) .1 (splits-cong (λ k. sym (add-zero (getD t k 0))) (s .splits))) (List·Memᴰ·head refl)
   draws-complete zero j a t (x ∷ l) e f s = absurd (omega (arith, s .size))
   draws-complete (suc m) j a t l e f s = complete-step m (draws-complete m) j a t l e f s
 
@@ -172,5 +172,5 @@ module _ (n end : ℕ) where
 
   pub draws-ordered : (m j a : ℕ) (t : List ℕ) → a + j ≡ end → Fine end t → Pairwise Lex (draws n m j a t)
   unfolding draws
-  draws-ordered zero j a t e f = pairwise-when (isParts (suc n) true t) _ (λ b. pairwise-one [])
+  draws-ordered zero j a t e f = pairwise-when (splitsInto (suc n) true t) _ (λ b. pairwise-one [])
   draws-ordered (suc m) j a t e f = ordered-step m (draws-ordered m) j a t e f

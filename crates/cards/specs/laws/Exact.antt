@@ -16,8 +16,8 @@ use Rattle.reading.specs.All.{Each, none, also as each, Pairwise, ended, first}
 use Rattle.reading.specs.laws.Lists.{each-imp, each-member}
 use Rattle.reading.specs.laws.Only.{lex-one-way}
 use Rattle.reading.specs.laws.Readings.{lex-irreflexive}
-use Rattle.splits.specs.Splits.{Splits}
-use Rattle.cards.specs.Cards.{among, Card, IsDeck}
+use Rattle.reading_splits.specs.Splits.{Splits}
+use Rattle.cards.specs.Cards.{among, Card, IsCardList}
 use Rattle.cards.specs.search.Draws.{drawn}
 use Rattle.cards.specs.laws.Tiles.{each-both, rising-each, rising-pairwise, pairwise-rising, among-kind, splits-cong, in-suit, suit-in, tiles-of-groups}
 use Rattle.cards.specs.laws.Draws.{Ends, Fine, draws-sound, draws-complete, draws-ordered}
@@ -60,9 +60,9 @@ module _ (suit size : ℕ) (h : suit ≤ 2) where
         splits = splits-cong (λ k. omega (arith, no-tile k)) (subst (λ (m : ℕ). Splits m (ofKind l)) n s);
       }
 
-  pub deck-drawn : IsDeck suit size (drawn suit size)
+  pub card-list-drawn : IsCardList suit size (drawn suit size)
   unfolding drawn
-  deck-drawn =
+  card-list-drawn =
       let n = (size - 2) / 3 in
       record {
         order = draws-ordered n (9 * suit + 9) size 9 (9 * suit) (replicate 34 0) refl fine-none;
@@ -79,8 +79,8 @@ no-card suit size h (x ∷ l) c = go (c .suited)
     go : Each (λ k. inSuit suit k ≡ true) (x ∷ l) → ⊥
     go (each p r) = omega (arith, suit-in suit x p)
 
-deck-none : (suit size : ℕ) → 2 < suit → IsDeck suit size []
-deck-none suit size h = record { order = ended; every = λ l c. absurd (no-card suit size h l c); only = λ l m. absurd (List·Memᴰ·not-nil m) }
+card-list-none : (suit size : ℕ) → 2 < suit → IsCardList suit size []
+card-list-none suit size h = record { order = ended; every = λ l c. absurd (no-card suit size h l c); only = λ l m. absurd (List·Memᴰ·not-nil m) }
 
 -- ---- two lists in ascending order with the same elements are one list
 abbrev Within : List (List ℕ) → List (List ℕ) → Type 0
@@ -102,12 +102,12 @@ same-list (a ∷ x) (b ∷ y) (first p r) (first q s) h g =
     let e = same-first a b x y p q (h a (List·Memᴰ·head refl)) (g b (List·Memᴰ·head refl)) in
     rw (e, same-list x y r s (past-first a b x y p e h) (past-first b a y x q (sym e) g))
 
-pub one-deck : {suit size : ℕ} {x y : List (List ℕ)} → IsDeck suit size x → IsDeck suit size y → x ≡ y
-one-deck {suit} {size} {x} {y} a b = same-list x y (a .order) (b .order) (λ l m. b .every l (a .only l m)) (λ l m. a .every l (b .only l m))
+pub one-card-list : {suit size : ℕ} {x y : List (List ℕ)} → IsCardList suit size x → IsCardList suit size y → x ≡ y
+one-card-list {suit} {size} {x} {y} a b = same-list x y (a .order) (b .order) (λ l m. b .every l (a .only l m)) (λ l m. a .every l (b .only l m))
 
-pub exactly-one-deck : (suit size : ℕ) → (x : List (List ℕ)) × IsDeck suit size x × ((y : List (List ℕ)) → IsDeck suit size y → y ≡ x)
-exactly-one-deck suit size = go (ltb 2 suit) refl
+pub exactly-one-card-list : (suit size : ℕ) → (x : List (List ℕ)) × IsCardList suit size x × ((y : List (List ℕ)) → IsCardList suit size y → y ≡ x)
+exactly-one-card-list suit size = go (ltb 2 suit) refl
   where
-    go : (b : Bool) → ltb 2 suit ≡ b → (x : List (List ℕ)) × IsDeck suit size x × ((y : List (List ℕ)) → IsDeck suit size y → y ≡ x)
-    go true e = let d = deck-none suit size (ltb-true 2 suit e) in ([], d, λ y a. one-deck a d)
-    go false e = let d = deck-drawn suit size (ltb-false 2 suit e) in (drawn suit size, d, λ y a. one-deck a d)
+    go : (b : Bool) → ltb 2 suit ≡ b → (x : List (List ℕ)) × IsCardList suit size x × ((y : List (List ℕ)) → IsCardList suit size y → y ≡ x)
+    go true e = let d = card-list-none suit size (ltb-true 2 suit e) in ([], d, λ y a. one-card-list a d)
+    go false e = let d = card-list-drawn suit size (ltb-false 2 suit e) in (drawn suit size, d, λ y a. one-card-list a d)

@@ -10,7 +10,7 @@ use lib.Dec.{ltb, eqb}
 use lib.ListN.{length, getD}
 use Rattle.tiles.specs.Below.{sum, number, total}
 use Rattle.tiles.specs.Kinds.{inSuit}
-use Rattle.tiles.specs.Groups.{at, uses}
+use Rattle.tiles.specs.Groups.{atKind, uses}
 use Rattle.tiles.specs.laws.Below.{and-true, number-total}
 use Rattle.tiles.specs.laws.Tally.{ofKind}
 use Rattle.tiles.specs.laws.Sums.{sum-cong, sum-add, sum-at, over-places, over-kind}
@@ -18,7 +18,7 @@ use Rattle.reading.specs.Reading.{usedBy}
 use Rattle.reading.specs.All.{Each, none, also as each, Pairwise, ended, first}
 use Rattle.reading.specs.laws.Groups.{run-or, at-same, at-other}
 use Rattle.reading.specs.laws.Lists.{each-imp}
-use Rattle.splits.specs.Splits.{Splits}
+use Rattle.reading_splits.specs.Splits.{Splits}
 use Rattle.cards.specs.Cards.{among}
 
 -- ---- lists of tiles
@@ -52,7 +52,7 @@ pairwise-rising a (x ∷ l) (each p r) (first q o) = (p, pairwise-rising x l q o
 -- ---- tiles of a kind
 
 -- a tile is of the kind k or not
-pub at-or : {P : Type 0} (a n k : ℕ) → (a ≡ k → at a n k ≡ n → P) → ((a ≡ k → ⊥) → at a n k ≡ 0 → P) → P
+pub at-or : {P : Type 0} (a n k : ℕ) → (a ≡ k → atKind a n k ≡ n → P) → ((a ≡ k → ⊥) → atKind a n k ≡ 0 → P) → P
 at-or {P} a n k f g = go (eqb a k) refl
   where
     go : (b : Bool) → eqb a k ≡ b → P
@@ -60,8 +60,8 @@ at-or {P} a n k f g = go (eqb a k) refl
     go false e = g (eqb-false a k e) (at-other a n k (eqb-false a k e))
 
 pub among-kind : (l : List ℕ) (k : ℕ) → among l k ≡ ofKind l k
-unfolding among total at
-among-kind l k = number-total (λ i. eqb (getD l i 0) k) (length l) ∙ over-places (λ x. at x 1 k) l ∙ over-kind l k
+unfolding among total atKind
+among-kind l k = number-total (λ i. eqb (getD l i 0) k) (length l) ∙ over-places (λ x. atKind x 1 k) l ∙ over-kind l k
 
 pub kind-each : {P : ℕ → Type 0} (l : List ℕ) (k : ℕ) → Each P l → 0 < ofKind l k → P k
 unfolding ofKind
@@ -95,26 +95,26 @@ module _ (b : ℕ) where
   kinds-total : (l : List ℕ) → Each (λ k. k < b) l → sum b (ofKind l) ≡ length l
   unfolding ofKind
   kinds-total [] none = no-sum b
-  kinds-total (x ∷ l) (each p r) = omega (arith, sum-add (at x 1) (ofKind l) b, sum-at x 1 b p, kinds-total l r)
+  kinds-total (x ∷ l) (each p r) = omega (arith, sum-add (atKind x 1) (ofKind l) b, sum-at x 1 b p, kinds-total l r)
 
   group-total : (c : ℕ) → ((k : ℕ) → 0 < uses c k → k < b) → sum b (uses c) ≡ 3
   unfolding uses
   group-total c h =
       run-or c
       (λ r.
-      let two : ℕ → ℕ = λ k. at c 1 k + at (c + 1) 1 k in
-      let has : (k : ℕ) → 0 < at c 1 k + at (c + 1) 1 k + at (c + 2) 1 k → k < b = λ k p. h k (rw (lt-ltb c 34 r) p) in
-      sum-cong (uses c) (λ k. two k + at (c + 2) 1 k) b (λ i q. rw (lt-ltb c 34 r))
+      let two : ℕ → ℕ = λ k. atKind c 1 k + atKind (c + 1) 1 k in
+      let has : (k : ℕ) → 0 < atKind c 1 k + atKind (c + 1) 1 k + atKind (c + 2) 1 k → k < b = λ k p. h k (rw (lt-ltb c 34 r) p) in
+      sum-cong (uses c) (λ k. two k + atKind (c + 2) 1 k) b (λ i q. rw (lt-ltb c 34 r))
       ∙ omega (
         arith,
-        sum-add two (at (c + 2) 1) b,
-        sum-add (at c 1) (at (c + 1) 1) b,
+        sum-add two (atKind (c + 2) 1) b,
+        sum-add (atKind c 1) (atKind (c + 1) 1) b,
         sum-at c 1 b (has c (omega (arith, at-same c 1))),
         sum-at (c + 1) 1 b (has (c + 1) (omega (arith, at-same (c + 1) 1))),
         sum-at (c + 2) 1 b (has (c + 2) (omega (arith, at-same (c + 2) 1))),
       ))
       (λ r.
-      sum-cong (uses c) (at (c - 34) 3) b (λ i q. rw (le-ltb c 34 r))
+      sum-cong (uses c) (atKind (c - 34) 3) b (λ i q. rw (le-ltb c 34 r))
       ∙ sum-at (c - 34) 3 b (h (c - 34) (rw (le-ltb c 34 r) (omega (arith, at-same (c - 34) 3)))))
 
   groups-total : (gs : List ℕ) → ((k : ℕ) → 0 < usedBy gs k → k < b) → sum b (usedBy gs) ≡ 3 * length gs
@@ -129,5 +129,5 @@ module _ (b : ℕ) where
       let below : (k : ℕ) → 0 < ofKind l k → k < b = λ k p. kind-each l k e p in
       let g = groups-total (s .groups) (λ k p. below k (omega (arith, s .tiles k))) in
       let p = sum-at (s .pair) 2 b (below (s .pair) (omega (arith, s .tiles (s .pair), at-same (s .pair) 2))) in
-      let c = sum-cong (ofKind l) (λ k. at (s .pair) 2 k + usedBy (s .groups) k) b (λ k q. s .tiles k) in
-      omega (arith, kinds-total l e, c, sum-add (at (s .pair) 2) (usedBy (s .groups)) b, g, p, s .number)
+      let c = sum-cong (ofKind l) (λ k. atKind (s .pair) 2 k + usedBy (s .groups) k) b (λ k q. s .tiles k) in
+      omega (arith, kinds-total l e, c, sum-add (atKind (s .pair) 2) (usedBy (s .groups)) b, g, p, s .number)

@@ -7,7 +7,7 @@ use lib.Dec.{ltb}
 use lib.ListN.{getD, replicate}
 use Rattle.tiles.specs.laws.Tally.{more}
 use Rattle.reading.specs.search.Readings.{when}
-use Rattle.splits.specs.search.Parts.{isParts}
+use Rattle.reading_splits.specs.search.SplitsInto.{splitsInto}
 
 -- one tile more, of the j kinds from a on, before what is drawn then
 unfoldable pub draw : (ℕ → ℕ → List ℕ → List (List ℕ)) → ℕ → ℕ → List ℕ → List (List ℕ)
@@ -16,7 +16,7 @@ draw rest (suc j) a t = when (ltb (getD t a 0) 4) (λ _. map (λ (l : List ℕ).
 
 -- the m tiles, each of the j kinds from a on, that with the tiles t make a pair and n groups
 unfoldable pub draws : ℕ → ℕ → ℕ → ℕ → List ℕ → List (List ℕ)
-draws n zero j a t = when (isParts (suc n) true t) (λ _. [] ∷ [])
+draws n zero j a t = when (splitsInto (suc n) true t) (λ _. [] ∷ [])
 draws n (suc m) j a t = draw (draws n m) j a t
 
 -- the cards of a suit and a size: what is no pair is three tiles a group

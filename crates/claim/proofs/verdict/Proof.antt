@@ -10,16 +10,16 @@ use Rattle.hand.specs.declared.Hand.{Hand}
 use Rattle.hand.specs.Hand.{concealedTally}
 use Rattle.reading.specs.declared.Reading.{Reading}
 use Rattle.yaku.specs.Yaku.{hasYaku}
-use Rattle.value.specs.declared.Value.{Value}
-use Rattle.setting.specs.declared.Setting.{Setting}
-use Rattle.best.specs.declared.Best.{Best}
-use Rattle.setting.specs.search.Setting.{worthIn}
-use Rattle.best.specs.search.Best.{noneOf, judgeBy, judgeOf, bestOf}
-use Rattle.best.specs.laws.Keep.{none-going}
+use Rattle.points_value.specs.declared.Value.{Value}
+use Rattle.score_best.specs.declared.HandCommon.{HandCommon}
+use Rattle.score_best.specs.declared.Best.{Best}
+use Rattle.score_best.specs.search.HandCommon.{worthIn}
+use Rattle.score_best.specs.search.Best.{noneOf, keepBetterBy, keepBetter, bestOf}
+use Rattle.score_best.specs.laws.Keep.{none-going}
 use Rattle.score.specs.Readings.{all-kinds}
 use Rattle.score.specs.Named.{worth}
-use Rattle.score.specs.search.Setting.{settingOf}
-use Rattle.score.specs.laws.Parts.{worth-in, kept-in}
+use Rattle.score.specs.search.HandCommon.{handCommonOf}
+use Rattle.score.specs.laws.FullReading.{worth-in, kept-in}
 use Rattle.claim.specs.search.Verdict.{IsFormed, reads, weighedAs, verdictOf}
 use Rattle.claim.specs.laws.Reads.{decides, formed-bounds}
 use Rattle.claim.proofs.verdict.Statement.{statement}
@@ -29,8 +29,8 @@ use Rattle.claim.proofs.verdict.Tie as tie
 
 -- the first reading that is judged is kept where it has a yaku
 weighed-first : (worth : Reading → Value) (r : Reading) (gain most : ℕ) (y : Bool) → hasYaku (worth r .yaku) ≡ y
-    → weighedAs (judgeOf worth noneOf r .valued) (judgeOf worth noneOf r .value .gain .0) gain most ≡ weighedAs (hasYaku (worth r .yaku)) (worth r .gain .0) gain most
-unfolding judgeBy noneOf weighedAs
+    → weighedAs (keepBetter worth noneOf r .valued) (keepBetter worth noneOf r .value .gain .0) gain most ≡ weighedAs (hasYaku (worth r .yaku)) (worth r .gain .0) gain most
+unfolding keepBetterBy noneOf weighedAs
 weighed-first worth r gain most true e = rw e
 weighed-first worth r gain most false e = rw e
 
@@ -44,16 +44,16 @@ module _ (h : Hand) (dealer wind : ℕ) (r : Reading) (gain : ℕ) (f : IsFormed
   none e = rw (reading-is ∙ not-true x e)
 
   weighs : not x ≡ false → h .held .m ≤ 4 → length (h .held .melds) ≡ 4
-      → (t : Setting) (n v b : Best) (w : ℕ) → t ≡ settingOf h dealer wind → n ≡ noneOf → v ≡ judgeOf (worthIn t) n r
+      → (t : HandCommon) (n v b : Best) (w : ℕ) → t ≡ handCommonOf h dealer wind → n ≡ noneOf → v ≡ keepBetter (worthIn t) n r
       → b ≡ bestOf (worthIn t) c (h .held .m) (h .fields .winning)
       → w ≡ weighedAs (v .valued) (v .value .gain .0) gain (b .value .gain .0) → w ≡ verdictOf h dealer wind r gain
   unfolding verdictOf
   weighs x-is few long t n v b w et en ev eb ew =
       let read : reads (concealedTally h) (h .held .m) (h .fields .winning) r ≡ true = reading-is ∙ not-false x x-is in
       let i = decides (concealedTally h) (h .held .m) (h .fields .winning) (all-kinds h) r f .0 read in
-      let worth-is : worthIn t r ≡ worth h dealer wind r = ap (λ (z : Setting). worthIn z r) et ∙ worth-in h few long dealer wind r i in
+      let worth-is : worthIn t r ≡ worth h dealer wind r = ap (λ (z : HandCommon). worthIn z r) et ∙ worth-in h few long dealer wind r i in
       ew
-      ∙ ap (λ (z : Best). weighedAs (z .valued) (z .value .gain .0) gain (b .value .gain .0)) (ev ∙ ap (λ (z : Best). judgeOf (worthIn t) z r) en)
+      ∙ ap (λ (z : Best). weighedAs (z .valued) (z .value .gain .0) gain (b .value .gain .0)) (ev ∙ ap (λ (z : Best). keepBetter (worthIn t) z r) en)
       ∙ weighed-first (worthIn t) r gain (b .value .gain .0) (hasYaku (worthIn t r .yaku)) refl
       ∙ rw (read, worth-is, kept-in h few long dealer wind t c b et ec eb)
 
@@ -78,7 +78,7 @@ verdict-spec =
     (λ c κs.
     let k = c .before in
     let s = k .before .before .before .before in
-    (k .setting-of .ensures .1, formed-bounds (s .args .h .held .m) (s .args .r) (s .pre .4) .0, none-going (c .none .result) (c .none .ensures)))
+    (k .hand-common-of .ensures .1, formed-bounds (s .args .h .held .m) (s .args .r) (s .pre .4) .0, none-going (c .none .result) (c .none .ensures)))
     (λ c κs. search needs) (λ c κs. search needs)
     (λ c.
     let b = c .before in
@@ -92,5 +92,5 @@ verdict-spec =
     let a = s .args in
     weighs (a .h) (a .dealer) (a .wind) (a .r) (a .gain) (s .pre .4) (t .concealed-tally .result) (i .is-reading .result) (t .concealed-tally .ensures)
     (i .is-reading .ensures)
-    (e .if1 .left) (s .pre .0) (long-melds s) (k .setting-of .result) (n .none .result) (v .judge .result) (b .best-of .result) (c .weighed .result)
-    (k .setting-of .ensures .0) (n .none .ensures) (v .judge .ensures) (b .best-of .ensures) (c .weighed .ensures)))
+    (e .if1 .left) (s .pre .0) (long-melds s) (k .hand-common-of .result) (n .none .result) (v .keep-better .result) (b .best-of .result) (c .weighed .result)
+    (k .hand-common-of .ensures .0) (n .none .ensures) (v .keep-better .ensures) (b .best-of .ensures) (c .weighed .ensures)))

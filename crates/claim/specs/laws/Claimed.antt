@@ -8,7 +8,7 @@ use borrow.Author.Tests.{ne-eqb, eq-eqb, le-ltb, ltb-false, eqb-true, eqb-false,
 use lib.Dec.{ltb, eqb}
 use lib.ListN.{length, getD, take, drop, replicate, length-drop}
 use lib.Seq.{take-at, take-all, drop-drop}
-use Rattle.bits.specs.Bits.{val, unpack, sum}
+use Rattle.bits.specs.Bits.{val, unpack, widthOf}
 use Rattle.bits.specs.laws.Pack.{unpack-append, sum-append, sum-replicate}
 use Rattle.reading.specs.declared.Reading.{Reading}
 use Rattle.reading.specs.Reading.{Ascends, ofShape}
@@ -127,7 +127,7 @@ three-bytes m n b shape s z t = claimed-faulty m n b (rw (← s, ne-eqb shape 0 
 abbrev pub widths : ℕ → List ℕ
 widths m = 2 ∷ 6 ∷ (replicate (4 - m) 7 ++ (3 ∷ 17 ∷ []))
 
-pub sum-widths : (m : ℕ) → sum (widths m) ≡ 28 + 7 * (4 - m)
+pub sum-widths : (m : ℕ) → widthOf (widths m) ≡ 28 + 7 * (4 - m)
 sum-widths m = omega (arith, sum-append (replicate (4 - m) 7) (3 ∷ 17 ∷ []), sum-replicate (4 - m) 7)
 
 module _ (m : ℕ) (b : List ℕ) where
@@ -135,7 +135,7 @@ module _ (m : ℕ) (b : List ℕ) where
       ≡ unpack (replicate n 7) (drop 8 b) ++ (field (8 + 7 * n) 3 b ∷ field (11 + 7 * n) 17 b ∷ [])
   after-pair n =
       let k1 : 8 + 7 * n + 3 ≡ 11 + 7 * n = omega arith in
-      let d0 : drop (sum (replicate n 7)) (drop 8 b) ≡ drop (8 + 7 * n) b = rw (sum-replicate n 7) (drop-drop (7 * n) 8 b) in
+      let d0 : drop (widthOf (replicate n 7)) (drop 8 b) ≡ drop (8 + 7 * n) b = rw (sum-replicate n 7) (drop-drop (7 * n) 8 b) in
       let d1 : drop 3 (drop (8 + 7 * n) b) ≡ drop (11 + 7 * n) b = drop-drop 3 (8 + 7 * n) b ∙ ap (λ (k : ℕ). drop k b) k1 in
       unpack-append (replicate n 7) (3 ∷ 17 ∷ []) (drop 8 b)
       ∙ ap (λ (l : List ℕ). unpack (replicate n 7) (drop 8 b) ++ unpack (3 ∷ 17 ∷ []) l) d0
@@ -154,11 +154,11 @@ module _ (m : ℕ) (b : List ℕ) where
   laid-1 z = rw (ne-eqb (shapeIn b) 0 z)
 
   -- the padding is all that is left
-  pub padding-0 : shapeIn b ≡ 0 → length b ≤ 28 + 7 * (4 - m) + padOf 0 m → paddingIn m b ≡ val 0 (drop (sum (widths m)) b)
+  pub padding-0 : shapeIn b ≡ 0 → length b ≤ 28 + 7 * (4 - m) + padOf 0 m → paddingIn m b ≡ val 0 (drop (widthOf (widths m)) b)
   unfolding paddingIn
   padding-0 z l =
-      let k : 11 + 7 * (4 - m) + 17 ≡ sum (widths m) = omega (arith, sum-widths m) in
-      rw (z, k) (ap (val 0) (take-all (padOf 0 m) (drop (sum (widths m)) b) (omega (arith, l, length-drop (sum (widths m)) b, sum-widths m))))
+      let k : 11 + 7 * (4 - m) + 17 ≡ widthOf (widths m) = omega (arith, sum-widths m) in
+      rw (z, k) (ap (val 0) (take-all (padOf 0 m) (drop (widthOf (widths m)) b) (omega (arith, l, length-drop (widthOf (widths m)) b, sum-widths m))))
 
   pub padding-1 : (shapeIn b ≡ 0 → ⊥) → length b ≡ 24 → paddingIn m b ≡ val 0 (drop 19 b)
   unfolding paddingIn

@@ -21,7 +21,7 @@ use Rattle.claim.specs.declared.Claimed.{Claimed}
 use Rattle.claim.specs.declared.Judged.{Judged}
 use Rattle.claim.specs.Claim.{Names}
 use Rattle.claim.specs.Verdict.{IsVerdict}
-use Rattle.claim.specs.IsJudged.{refusedWith, judgedAs, IsNamed, IsJudged, eight, unread, faulty, passed}
+use Rattle.claim.specs.IsJudged.{refusedWith, judgedAs, IsNamed, IsJudged, eight, unreadable, faulty, passed}
 use Rattle.claim.specs.search.Claimed.{readingIn, gainOf, faultyIn, nothing, claimedIn, claimedOf}
 use Rattle.claim.specs.search.Verdict.{verdictOf}
 use Rattle.claim.specs.search.Judge.{passedAs, foundBy, foundOf}
@@ -79,7 +79,7 @@ module _ (s claim : List ℕ) (dealer wind : ℕ) where
 
     by-answer : (a : Answer) → readOf s .answer ≡ a → Judges (foundBy a hand claim dealer wind)
     unfolding foundBy
-    by-answer (Refused n) e = unread d w n e
+    by-answer (Refused n) e = unreadable d w n e
     by-answer (Sound f) e = passed-is (ap refusalIn e)
 
   by-seats : (a b : Bool) → ltb 3 dealer ≡ a → ltb 1 wind ≡ b → Judges (cond (a || b) (refusedWith 8) (foundBy (readOf s .answer) hand claim dealer wind))
@@ -118,19 +118,19 @@ module _ (s claim : List ℕ) (dealer wind : ℕ) where
 
   only : {x y : Judged} → Judges x → Judges y → x ≡ y
   only (eight o) (eight p) = refl
-  only (eight o) (unread d w n e) = over o d w
+  only (eight o) (unreadable d w n e) = over o d w
   only (eight o) (faulty d w y n) = over o d w
   only (eight o) (passed x v) = over o (x .seat) (x .round)
-  only (unread d w n e) (eight o) = over o d w
-  only (unread d w n e) (unread c v k q) = ap refusedWith (ap refusalIn (sym e ∙ q))
-  only (unread d w n e) (faulty c v y k) = not-both n e y
-  only (unread d w n e) (passed x v) = not-both n e (x .sound)
+  only (unreadable d w n e) (eight o) = over o d w
+  only (unreadable d w n e) (unreadable c v k q) = ap refusedWith (ap refusalIn (sym e ∙ q))
+  only (unreadable d w n e) (faulty c v y k) = not-both n e y
+  only (unreadable d w n e) (passed x v) = not-both n e (x .sound)
   only (faulty d w y n) (eight o) = over o d w
-  only (faulty d w y n) (unread c v k q) = not-both k q y
+  only (faulty d w y n) (unreadable c v k q) = not-both k q y
   only (faulty d w y n) (faulty c v z k) = refl
   only (faulty d w y n) (passed x v) = absurd (n _ _ (x .names))
   only (passed x v) (eight o) = over o (x .seat) (x .round)
-  only (passed x v) (unread c w k q) = not-both k q (x .sound)
+  only (passed x v) (unreadable c w k q) = not-both k q (x .sound)
   only (passed x v) (faulty c w z k) = absurd (k _ _ (x .names))
   only (passed x v) (passed y w) = ap judgedAs (same-verdict x v y w)
 

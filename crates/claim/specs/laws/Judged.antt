@@ -14,18 +14,18 @@ use Rattle.hand_record.specs.laws.Bounds.{read-bounds, refused-number}
 use Rattle.reading.specs.declared.Reading.{Reading}
 use Rattle.points.specs.Claims.{gain-is-payments}
 use Rattle.points.specs.laws.Bounds.{gain-le}
-use Rattle.value.specs.Value.{valueOf}
-use Rattle.best.specs.laws.Top.{basic-le}
+use Rattle.points_value.specs.Value.{valueOf}
+use Rattle.score_best.specs.laws.Top.{basic-le}
 use Rattle.score.specs.declared.Scored.{Scored}
 use Rattle.score.specs.Named.{wonOf, seatsOf, worth, IsReadingOf, ReadsWithYaku, IsReported, gainIn}
 use Rattle.score.specs.Score.{scoreOf}
 use Rattle.score.specs.laws.Named.{most, best, accepted as acceptedBy}
-use Rattle.score.specs.laws.Settled.{scored}
+use Rattle.score.specs.laws.HandScore.{scored}
 use Rattle.score.specs.laws.Paid.{read-paid}
 use Rattle.claim.specs.declared.Judged.{Judged}
 use Rattle.claim.specs.Claim.{Names}
 use Rattle.claim.specs.Verdict.{PaysMost, IsVerdict, accepted, one, two, three, four}
-use Rattle.claim.specs.IsJudged.{refusedWith, judgedAs, IsNamed, NamedWith, IsJudged, eight, unread, faulty, passed}
+use Rattle.claim.specs.IsJudged.{refusedWith, judgedAs, IsNamed, NamedWith, IsJudged, eight, unreadable, faulty, passed}
 use Rattle.claim.specs.Judge.{judgedOf, HasVerdict, is-judged, one-answer}
 use Rattle.claim.specs.search.Judge.{foundOf}
 use Rattle.claim.specs.laws.Names.{claimable}
@@ -50,7 +50,7 @@ module _ (s claim : List ℕ) (dealer wind : ℕ) where
   passed-of : {a : Judged} → IsJudged s claim dealer wind a → a .refusal ≡ 0
       → (r : Reading) × (g : ℕ) × IsNamed s claim dealer wind r g × IsVerdict hand dealer wind r g (a .verdict)
   passed-of (eight o) e = absurd (omega arith)
-  passed-of (unread d w n q) e = absurd (omega (arith, refused-number s n q))
+  passed-of (unreadable d w n q) e = absurd (omega (arith, refused-number s n q))
   passed-of (faulty d w y n) e = absurd (omega arith)
   passed-of (passed {r} {g} x v) e = (r, g, x, v)
 
@@ -100,7 +100,7 @@ module _ (s claim : List ℕ) (dealer wind : ℕ) where
     where
       of : {a : Judged} {r : Reading} {g : ℕ} → IsJudged s claim dealer wind a → a .refusal ≡ 22 → Names (hand .held .m) claim r g → ⊥
       of (eight o) e n = omega arith
-      of (unread c v k q) e n =
+      of (unreadable c v k q) e n =
           let z : k ≡ 0 = ap refusalIn (sym q) ∙ sound s .0 y in
           omega arith
       of (faulty c v z k) e n = k _ _ n

@@ -8,7 +8,7 @@ use native.Mathlib.Omega.{arith}
 use borrow.Author.Tests.{ne-eqb}
 use lib.ListN.{length, getD, take, drop, replicate, length-append, length-replicate, length-drop}
 use lib.Seq.{length-take-le, take-all}
-use Rattle.bits.specs.Bits.{val, unpack, sum, eights, bitsOf, bytesOf, Below}
+use Rattle.bits.specs.Bits.{val, unpack, widthOf, eights, bitsOf, bytesOf, EachBelow}
 use Rattle.bits.specs.laws.Pack.{FitIn, fit-cons, fit-append, fit-run, fit-all, fields-bytes, length-unpack, length-bitsOf, sum-append, unpack-append, app-inj, below-cons, below-nil, below-pack, below-take, val-lt}
 use Rattle.reading.specs.declared.Reading.{Reading}
 use Rattle.reading.specs.Reading.{Ascends, ofShape, IsReading}
@@ -26,7 +26,7 @@ module _ (m : ℕ) (s : List ℕ) (few : m ≤ 4) where
   abbrev b : List ℕ
   b = bitsOf s
 
-  bytes-0 : length s ≡ lengthOf 0 m → length s ≡ (sum (widths m) + 7) / 8
+  bytes-0 : length s ≡ lengthOf 0 m → length s ≡ (widthOf (widths m) + 7) / 8
   bytes-0 e = let f = filled m few in omega (arith, e, sum-widths m)
 
   names-0 : IsWhole m (length s) b → shapeIn b ≡ 0 → Names m s (readingIn m b) (gainOf m b)
@@ -139,21 +139,21 @@ module _ (m : ℕ) (s : List ℕ) (few : m ≤ 4) where
 -- ---- each reading is named by a claim
 
 -- values at their widths, and zero bits to the byte
-made : (ws vs : List ℕ) (pad n : ℕ) → length ws ≡ length vs → FitIn ws vs → sum ws + pad ≡ 8 * n → pad ≤ 7 → (s : List ℕ) × HasFields s ws vs
+made : (ws vs : List ℕ) (pad n : ℕ) → length ws ≡ length vs → FitIn ws vs → widthOf ws + pad ≡ 8 * n → pad ≤ 7 → (s : List ℕ) × HasFields s ws vs
 made ws vs pad n l f e p =
     let s : List ℕ = bytesOf n (ws ++ (pad ∷ [])) (vs ++ (0 ∷ [])) in
     let long : length (ws ++ (pad ∷ [])) ≡ length (vs ++ (0 ∷ [])) = omega (arith, l, length-append ws (pad ∷ []), length-append vs (0 ∷ [])) in
     let fit : FitIn (ws ++ (pad ∷ [])) (vs ++ (0 ∷ [])) = fit-append ws vs (pad ∷ []) (0 ∷ []) l f (fit-all (pad ∷ []) (0 ∷ []) (lib.Pow.pow-pos pad, refl)) in
-    let whole : sum (ws ++ (pad ∷ [])) ≡ 8 * n = omega (arith, e, sum-append ws (pad ∷ [])) in
-    let back : unpack ws (bitsOf s) ++ unpack (pad ∷ []) (drop (sum ws) (bitsOf s)) ≡ vs ++ (0 ∷ []) =
+    let whole : widthOf (ws ++ (pad ∷ [])) ≡ 8 * n = omega (arith, e, sum-append ws (pad ∷ [])) in
+    let back : unpack ws (bitsOf s) ++ unpack (pad ∷ []) (drop (widthOf ws) (bitsOf s)) ≡ vs ++ (0 ∷ []) =
     sym (unpack-append ws (pad ∷ []) (bitsOf s)) ∙ fields-bytes (ws ++ (pad ∷ [])) (vs ++ (0 ∷ [])) n long fit whole in
     let ends = app-inj (unpack ws (bitsOf s)) vs _ (0 ∷ []) (length-unpack ws (bitsOf s) ∙ l) back in
     let size : length s ≡ n = length-unpack (eights n) _ ∙ length-replicate {A = ℕ} n 8 in
-    let all : take pad (drop (sum ws) (bitsOf s)) ≡ drop (sum ws) (bitsOf s) = take-all pad (drop (sum ws) (bitsOf s))
-    (omega (arith, length-drop (sum ws) (bitsOf s), length-bitsOf s, size, e)) in
+    let all : take pad (drop (widthOf ws) (bitsOf s)) ≡ drop (widthOf ws) (bitsOf s) = take-all pad (drop (widthOf ws) (bitsOf s))
+    (omega (arith, length-drop (widthOf ws) (bitsOf s), length-bitsOf s, size, e)) in
     (s, record { size = omega (arith, size, e, p); values = ends .0; padding = ap (val 0) (sym all) ∙ ap (λ (x : List ℕ). getD x 0 0) (ends .1) })
 
-codes-below : (c : ℕ) (gs : List ℕ) → Ascends c gs → Below 128 gs
+codes-below : (c : ℕ) (gs : List ℕ) → Ascends c gs → EachBelow 128 gs
 codes-below c [] o = below-nil 128 (omega arith)
 codes-below c (g ∷ gs) o = below-cons 128 g gs (let h = group-in g (o .1) in omega arith) (codes-below g gs (o .2))
 

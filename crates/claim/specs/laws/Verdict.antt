@@ -9,11 +9,11 @@ use lib.Dec.{ltb, eqb}
 use Rattle.hand.specs.declared.Hand.{Hand}
 use Rattle.hand.specs.Hand.{concealedTally}
 use Rattle.reading.specs.declared.Reading.{Reading}
-use Rattle.value.specs.declared.Value.{Value}
-use Rattle.best.specs.Best.{withYaku}
+use Rattle.points_value.specs.declared.Value.{Value}
+use Rattle.score_best.specs.Best.{withYaku}
 use Rattle.score.specs.Readings.{all-kinds}
 use Rattle.score.specs.Named.{worth, IsReadingOf, ReadsWithYaku, IsReported, gainIn}
-use Rattle.score.specs.search.Settled.{keptOf}
+use Rattle.score.specs.search.HandScore.{keptOf}
 use Rattle.score.specs.laws.Best.{over-kept}
 use Rattle.score.specs.laws.Named.{most}
 use Rattle.score.specs.laws.Paid.{Paid, may-end}

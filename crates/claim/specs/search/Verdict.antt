@@ -11,9 +11,9 @@ use Rattle.hand.specs.Hand.{concealedTally}
 use Rattle.reading.specs.declared.Reading.{Reading}
 use Rattle.reading.specs.Reading.{Ascends, holds, isSevenPairs, isOrphans, ofShape}
 use Rattle.reading.specs.search.Readings.{isEmpty, less, fits, without}
-use Rattle.best.specs.Best.{withYaku}
+use Rattle.score_best.specs.Best.{withYaku}
 use Rattle.score.specs.Named.{worth, gainIn}
-use Rattle.score.specs.search.Settled.{keptOf}
+use Rattle.score.specs.search.HandScore.{keptOf}
 
 -- a reading as a claim names it
 pub data IsFormed (m : ℕ) : Reading → Type 0 where

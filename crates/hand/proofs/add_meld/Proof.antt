@@ -6,7 +6,7 @@ use mathlib.Core.Path.{_≡_, refl}
 use mathlib.Core.List.{List}
 use native.Mathlib.Omega.{arith}
 use lib.ListN.{length, getD}
-use Rattle.tiles.specs.Groups.{at}
+use Rattle.tiles.specs.Groups.{atKind}
 use Rattle.tiles.specs.laws.Tally.{more, at-le, tally-bound, more-adds}
 use Rattle.hand.specs.Held.{meldHolds}
 use Rattle.hand.proofs.add_meld.Statement.{statement}
@@ -15,7 +15,7 @@ use Rattle.hand.proofs.add_meld.Tie as tie
 abbrev Same : List ℕ → (ℕ → ℕ) → Type 0
 Same t f = (k : ℕ) → k < 34 → getD t k 0 ≡ f k
 
-one : (t u : List ℕ) (f : ℕ → ℕ) (a n : ℕ) → length t ≡ 34 → u ≡ more t a n → Same t f → Same u (λ k. f k + at a n k)
+one : (t u : List ℕ) (f : ℕ → ℕ) (a n : ℕ) → length t ≡ 34 → u ≡ more t a n → Same t f → Same u (λ k. f k + atKind a n k)
 one t u f a n l e h = more-adds t l u f a n e h
 
 room : (t u : List ℕ) (a b : ℕ) → length t ≡ 34 → length u ≡ 34 → u ≡ more t a 1 → ((k : ℕ) → getD t k 0 ≤ b) → (k : ℕ) → getD u k 0 ≤ b + 1
@@ -43,9 +43,9 @@ add-meld-spec =
     let a = c .before .before .before .before .args in
     let x = a .b % 64 in
     let u = one (a .t) (c .before .before .add .result) (λ j. getD (a .t) j 0) x 1 (search needs) (c .before .before .add .ensures) (λ j _. refl) in
-    let v = one (c .before .before .add .result) (c .before .add2 .result) (λ j. getD (a .t) j 0 + at x 1 j) (x + 1) 1 (search needs) (c .before .add2 .ensures) u in
+    let v = one (c .before .before .add .result) (c .before .add2 .result) (λ j. getD (a .t) j 0 + atKind x 1 j) (x + 1) 1 (search needs) (c .before .add2 .ensures) u in
     rw (eq-eqb _ _ (c .before .before .before .if1 .taken))
-    (omega (arith, one (c .before .add2 .result) (c .add3 .result) (λ j. getD (a .t) j 0 + at x 1 j + at (x + 1) 1 j) (x + 2) 1 (search needs) (c .add3 .ensures) v k g)))
+    (omega (arith, one (c .before .add2 .result) (c .add3 .result) (λ j. getD (a .t) j 0 + atKind x 1 j + atKind (x + 1) 1 j) (x + 2) 1 (search needs) (c .add3 .ensures) v k g)))
     (λ c k g.
     let a = c .before .before .before .args in
     rw (ne-eqb _ _ (c .before .before .if1 .left), eq-eqb _ _ (c .before .if2 .taken))

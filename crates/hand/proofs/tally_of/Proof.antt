@@ -9,7 +9,7 @@ use lib.Dec.{eqb}
 use lib.ListN.{length, getD, set, length-set, getD-replicate}
 use lib.Seq.{set-out}
 use Rattle.tiles.specs.Below.{number}
-use Rattle.tiles.specs.Groups.{at}
+use Rattle.tiles.specs.Groups.{atKind}
 use Rattle.tiles.specs.laws.Below.{number-none, number-more, number-le}
 use Rattle.tiles.specs.laws.Tally.{tally-ext, tally-bound, more, more-adds}
 use Rattle.hand.proofs.tally_of.Statement.{statement}
@@ -31,8 +31,8 @@ room c t i l h e a =
     omega arith
 
 turn : (c : List ℕ) (i : ℕ) (t u : List ℕ) → length t ≡ 34 → ((k : ℕ) → k < 34 → getD t k 0 ≡ among c i k)
-    → ((k : ℕ) → k < 34 → getD u k 0 ≡ among c i k + at (getD c i 0) 1 k) → (k : ℕ) → k < 34 → getD u k 0 ≡ among c (i + 1) k
-unfolding at
+    → ((k : ℕ) → k < 34 → getD u k 0 ≡ among c i k + atKind (getD c i 0) 1 k) → (k : ℕ) → k < 34 → getD u k 0 ≡ among c (i + 1) k
+unfolding atKind
 turn c i t u l e h k g = h k g ∙ sym (number-more (λ j. eqb (getD c j 0) k) i)
 
 -- one more of a kind, or of what is none
@@ -64,8 +64,8 @@ module _ (c : tie.Joined1 Inv-loop μ-loop) where
   added : c .if1 .t ≡ more t (getD a i 0) 1
   added = ⊎-elim (λ w. w .1 ∙ stored t (getD a i 0)) (λ w. w .1 ∙ kept t (getD a i 0) long (w .0 .left)) (c .if1 .came)
 
-  turned : (k : ℕ) → k < 34 → getD (c .if1 .t) k 0 ≡ among a (i + 1) k
-  turned =
+  one-more : (k : ℕ) → k < 34 → getD (c .if1 .t) k 0 ≡ among a (i + 1) k
+  one-more =
       let known = c .before .before .loop .inv .2 in
       turn a i t (c .if1 .t) long known (more-adds t long (c .if1 .t) (among a i) (getD a i 0) 1 added known)
 
@@ -82,7 +82,7 @@ tally-of-spec =
     omega (arith, room (c .before .before .before .args .t1) (l .t) (l .i) (l .inv .1) (search needs) (l .inv .2) (getD (c .before .before .before .args .t1) (l .i) 0)))
     (λ c. c .if1 .taken)
     (λ c. search needs) (λ c. search needs)
-    (λ c. (search needs, ap length (added c) ∙ more-long _ _ (c .before .before .loop .inv .1), turned c))
+    (λ c. (search needs, ap length (added c) ∙ more-long _ _ (c .before .before .loop .inv .1), one-more c))
     (λ c.
     let l = c .before .loop in
     let n : l .i ≡ c .before .before .args .n = omega arith in

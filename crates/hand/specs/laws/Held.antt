@@ -7,7 +7,7 @@ use native.Mathlib.Omega.{arith}
 use lib.Dec.{ltb, eqb}
 use lib.ListN.{length, getD}
 use Rattle.tiles.specs.laws.Below.{number-le, cond-le}
-use Rattle.tiles.specs.Groups.{at}
+use Rattle.tiles.specs.Groups.{atKind}
 use Rattle.tiles.specs.Tally.{tallyOf}
 use Rattle.tiles.specs.laws.Tally.{more, at-le, getD-tally, tally-bound, tally-ext, more-adds}
 use Rattle.hand.specs.declared.Held.{Held}
@@ -50,5 +50,5 @@ module _ (t : List ℕ) (f : ℕ → ℕ) (l : length t ≡ 34) (e : t ≡ tally
   pub tally-room : (b : ℕ) → ((k : ℕ) → f k ≤ b) → (k : ℕ) → getD t k 0 ≤ b
   tally-room b h = tally-bound t l b (λ k g. rw (tally-at k g) (h k))
 
-  pub tally-plus : (u : List ℕ) (a n : ℕ) → length u ≡ 34 → u ≡ more t a n → u ≡ tallyOf (λ k. f k + at a n k)
-  tally-plus u a n m q = tally-ext u (λ k. f k + at a n k) m (more-adds t l u f a n q tally-at)
+  pub tally-plus : (u : List ℕ) (a n : ℕ) → length u ≡ 34 → u ≡ more t a n → u ≡ tallyOf (λ k. f k + atKind a n k)
+  tally-plus u a n m q = tally-ext u (λ k. f k + atKind a n k) m (more-adds t l u f a n q tally-at)

@@ -6,8 +6,8 @@ use native.Mathlib.Omega.{arith}
 use borrow.Author.Tests.{lt-ltb, le-ltb}
 use lib.ListN.{length}
 use Rattle.bits.specs.Bits.{bitsOf}
-use Rattle.hand_record.specs.Record.{padOf, answerBy, judged}
-use Rattle.hand_record.specs.laws.Read.{whole, padding-last, judged-by}
+use Rattle.hand_record.specs.Record.{padOf, answerBy, answerIn}
+use Rattle.hand_record.specs.laws.Read.{whole, padding-last, answer-in-by}
 use Rattle.hand_record.proofs.hand_in.Statement.{statement}
 use Rattle.hand_record.proofs.hand_in.Tie as tie
 
@@ -17,12 +17,12 @@ room c = whole (c .args .m) (c .pre .0) .0 ∙ ap (λ (n : ℕ). 8 * n) (sym (c 
 
 made : (c : tie.After-refusal)
     → answerBy (record { fields = c .before .before .before .before .args .f; held = c .before .before .held-in .result }) (c .refusal .result)
-    ≡ judged (c .before .before .before .before .args .m) (bitsOf (c .before .before .before .before .args .s .now))
+    ≡ answerIn (c .before .before .before .before .args .m) (bitsOf (c .before .before .before .before .args .s .now))
 made c =
     let h = c .before .before in
     let a = h .before .before in
     let m = a .args .m in
-    judged-by m (bitsOf (a .args .s .now)) (a .args .f) (h .held-in .result) (c .before .last .result) (c .refusal .result) (a .pre .2) (h .held-in .ensures)
+    answer-in-by m (bitsOf (a .args .s .now)) (a .args .f) (h .held-in .result) (c .before .last .result) (c .refusal .result) (a .pre .2) (h .held-in .ensures)
     (c .before .last .ensures ∙ padding-last 25 m (padOf m) (a .args .s .now) (room a)) (c .refusal .ensures)
 
 pub hand-in-spec : {M : Type 1} → statement M

@@ -8,12 +8,12 @@ use borrow.Author.Tests.{ltb-true, ltb-false}
 use lib.Dec.{ltb}
 use lib.ListN.{length, take, drop}
 use lib.Seq.{take-at}
-use Rattle.bits.specs.Bits.{sum, Below, bitsOf}
+use Rattle.bits.specs.Bits.{widthOf, EachBelow, bitsOf}
 use Rattle.hand.specs.declared.Hand.{Hand}
 use Rattle.hand.specs.Refusals.{refusalOf, unwritable}
 use Rattle.hand_record.specs.declared.HandRead.{HandRead}
 use Rattle.hand_record.specs.declared.Written.{Written}
-use Rattle.hand_record.specs.Record.{lengthOf, padOf, widths, wrongLength, countIn, handIn, handOfRecord, paddingOfRecord, IsSound, refusedWith, soundAs, refusalIn, handOf, answerBy, judged, readOf, recordOf, writeRefusal, writtenOf, bufferOf}
+use Rattle.hand_record.specs.Record.{lengthOf, padOf, widths, wrongLength, countIn, handIn, handOfRecord, paddingOfRecord, IsSound, refusedWith, soundAs, refusalIn, handOf, answerBy, answerIn, readOf, recordOf, writeRefusal, writtenOf, bufferOf}
 use Rattle.hand_record.specs.laws.Read.{whole, length-of}
 use Rattle.hand_record.specs.laws.Write.{sum-widths, refusal-none, wrote-by}
 use Rattle.hand_record.specs.laws.Clean.{clean-of, of-clean}
@@ -30,7 +30,7 @@ module _ (s : List ℕ) where
   sound-read y =
       ap (λ (r : HandRead). refusalIn (r .answer))
       (as-read s x (record {
-        right-length = length-of (length s) (countIn s) (y .length);
+        right-length = length-of (length s) (countIn s) (y .len);
         is-hand = refl;
         unrefused = of-clean x p (record { fields = y .fields; order = y .order; four = y .four; situation = y .situation });
       }))
@@ -42,14 +42,14 @@ module _ (s : List ℕ) where
   given false false j q e = (refl, omega (arith, ltb-false 0 j q))
 
   is-given : refusalIn (readOf s .answer) ≡ 0 → (wrongLength (length s) (countIn s) ≡ false) × (refusalOf x p ≡ 0)
-  unfolding readOf judged answerBy
+  unfolding readOf answerIn answerBy
   is-given e = given (wrongLength (length s) (countIn s)) (ltb 0 (refusalOf x p)) (refusalOf x p) refl e
 
   pub read-sound : refusalIn (readOf s .answer) ≡ 0 → IsSound s
   read-sound e =
       let g = is-given e in
       let c = clean-of x p (g .1) in
-      record { length = g .0; fields = c .fields; order = c .order; four = c .four; situation = c .situation }
+      record { len = g .0; fields = c .fields; order = c .order; four = c .four; situation = c .situation }
 
   pub is-read : refusalIn (readOf s .answer) ≡ 0 → ReadAs s x
   is-read e =
@@ -57,7 +57,7 @@ module _ (s : List ℕ) where
       record { right-length = length-of (length s) (countIn s) (g .0); is-hand = refl; unrefused = g .1 }
 
 -- the widths fill the bytes
-pub filled : (m : ℕ) → m ≤ 4 → (sum (widths m) ≡ 103 - 10 * m + padOf m) × (103 - 10 * m + padOf m ≡ 8 * lengthOf m) × (padOf m < 8)
+pub filled : (m : ℕ) → m ≤ 4 → (widthOf (widths m) ≡ 103 - 10 * m + padOf m) × (103 - 10 * m + padOf m ≡ 8 * lengthOf m) × (padOf m < 8)
 filled m h = (omega (arith, sum-widths m h, whole m h), omega (arith, whole m h), pad-few m h)
   where
     pad-few : (m : ℕ) → m ≤ 4 → padOf m < 8
@@ -69,7 +69,7 @@ filled m h = (omega (arith, sum-widths m h, whole m h), omega (arith, whole m h)
     pad-few (suc (suc (suc (suc (suc m))))) h = absurd (omega arith)
 
 -- what was read, written back
-module _ (s buf : List ℕ) (b : Below 256 s) (e : refusalIn (readOf s .answer) ≡ 0) (l : length s ≤ length buf) where
+module _ (s buf : List ℕ) (b : EachBelow 256 s) (e : refusalIn (readOf s .answer) ≡ 0) (l : length s ≤ length buf) where
   abbrev h : Hand
   h = handIn (countIn s) (bitsOf s)
 
@@ -109,7 +109,7 @@ writable h buf e = go (unwritable h) (ltb 0 (unwritable h)) refl _ e
     go n true q k e = e
     go n false q k e = omega (arith, ltb-false 0 n q)
 
-pub write-read : (h : Hand) (buf : List ℕ) → length (h .held .melds) ≡ 4 → length (h .held .concealed) ≡ 13 → Below 256 (h .held .melds) → writtenOf h buf .refusal ≡ 0
+pub write-read : (h : Hand) (buf : List ℕ) → length (h .held .melds) ≡ 4 → length (h .held .concealed) ≡ 13 → EachBelow 256 (h .held .melds) → writtenOf h buf .refusal ≡ 0
     → readOf (take (writtenOf h buf .len) (bufferOf h buf)) ≡ soundAs h
 write-read h buf lm lc bm e =
     let z = wrote h buf e in

@@ -9,8 +9,8 @@ use Rattle.hand.specs.Held.{meldHolds, inMelds, inOthers, inHeld, tileOver33, w
 use Rattle.hand.specs.Hand.{inHand}
 use Rattle.hand.specs.Refusals.{wrongFields, inRecord, wrongSituation, refusalOf}
 use Rattle.tiles.specs.Below.{every, some, number}
-use Rattle.tiles.specs.Groups.{at}
-use Rattle.hand_record.specs.Record.{headOf, meldsOf, tilesOf, heldIn, paddingAfter, handIn, soundAs, answerBy, judged, readOf, widths, valuesOf, recordOf}
+use Rattle.tiles.specs.Groups.{atKind}
+use Rattle.hand_record.specs.Record.{headOf, meldsOf, tilesOf, heldIn, paddingAfter, handIn, soundAs, answerBy, answerIn, readOf, widths, valuesOf, recordOf}
 
 -- "indicator North, no riichi, ordinary": how (0 tsumo, 1 ron), winner, discarder, winning tile, m, melds, other concealed tiles
 abbrev pub won : ℕ → ℕ → ℕ → ℕ → ℕ → List ℕ → List ℕ → Hand
@@ -73,7 +73,7 @@ Table = ReadsBack line1 × ReadsBack line2 × ReadsBack line3 × ReadsBack line4
 
 -- each row reads and writes back
 pub table : Table
-unfolding every some number at meldHolds inMelds inOthers inHeld inHand tileOver33 wrongHeld wrongFields descends inRecord overFour wrongSituation refusalOf headOf meldsOf tilesOf heldIn paddingAfter handIn answerBy judged readOf widths valuesOf recordOf
+unfolding every some number atKind meldHolds inMelds inOthers inHeld inHand tileOver33 wrongHeld wrongFields descends inRecord overFour wrongSituation refusalOf headOf meldsOf tilesOf heldIn paddingAfter handIn answerBy answerIn readOf widths valuesOf recordOf
 table = (record { read = refl; write = refl }, record { read = refl; write = refl }, record { read = refl; write = refl }, record { read = refl; write = refl }, record { read = refl; write = refl }, record { read = refl; write = refl }, record { read = refl; write = refl }, record { read = refl; write = refl }, record { read = refl; write = refl }, record { read = refl; write = refl })
 
 -- line 6 of document 01's table, bit by bit (docs/RECORDS.md): chi 234m, 567m 22456p 67s and 8s. It fixes "most significant first"

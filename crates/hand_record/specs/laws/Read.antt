@@ -15,7 +15,7 @@ use Rattle.hand.specs.declared.Fields.{Fields}
 use Rattle.hand.specs.declared.Held.{Held}
 use Rattle.hand.specs.Refusals.{refusalOf}
 use Rattle.hand_record.specs.declared.Head.{Head}
-use Rattle.hand_record.specs.Record.{head, headBy, sixes, lengthOf, padOf, headOf, meldsOf, tilesOf, heldIn, paddingAfter, paddingOf, handIn, refusedWith, wrongLength, countIn, answerBy, judged, readOf}
+use Rattle.hand_record.specs.Record.{head, headBy, sixes, lengthOf, padOf, headOf, meldsOf, tilesOf, heldIn, paddingAfter, paddingOf, handIn, refusedWith, wrongLength, countIn, answerBy, answerIn, readOf}
 
 pub bool-true : (b : Bool) → (b ≡ false → ⊥) → b ≡ true
 bool-true true h = refl
@@ -51,7 +51,7 @@ unfolding readOf
 read-not s h = rw (bool-true (wrongLength (length s) (countIn s)) (λ e. h (length-of _ _ e)))
 
 -- a record of the right length
-pub read-as : (s : List ℕ) (m : ℕ) → countIn s ≡ m → RightLength (length s) m → judged m (bitsOf s) ≡ readOf s
+pub read-as : (s : List ℕ) (m : ℕ) → countIn s ≡ m → RightLength (length s) m → answerIn m (bitsOf s) ≡ readOf s
 unfolding readOf
 read-as s m e r = rw (e, length-right (length s) m r)
 
@@ -103,7 +103,7 @@ padding-last at m n s e =
     ap (λ (i : ℕ). val 0 (take n (drop i (bitsOf s)))) k
 
 -- a record of the right length, by what the calls of its reader gave
-pub judged-by : (m : ℕ) (b : List ℕ) (f : Fields) (x : Held) (p j : ℕ) → f ≡ headOf b .fields → x ≡ heldIn 25 m b → p ≡ paddingOf m b
-    → j ≡ refusalOf (record { fields = f; held = x }) p → answerBy (record { fields = f; held = x }) j ≡ judged m b
-unfolding judged handIn
-judged-by m b f x p j ef ex ep ej = rw (ej, ep, ex, ef)
+pub answer-in-by : (m : ℕ) (b : List ℕ) (f : Fields) (x : Held) (p j : ℕ) → f ≡ headOf b .fields → x ≡ heldIn 25 m b → p ≡ paddingOf m b
+    → j ≡ refusalOf (record { fields = f; held = x }) p → answerBy (record { fields = f; held = x }) j ≡ answerIn m b
+unfolding answerIn handIn
+answer-in-by m b f x p j ef ex ep ej = rw (ej, ep, ex, ef)

@@ -10,7 +10,7 @@ use lib.ListN.{length, getD, take, drop, length-replicate, length-take, List·ge
 use lib.Seq.{length-take-le, drop-drop, getD-take}
 use lib.Pow.{pow-pos}
 use Rattle.tiles.specs.laws.Below.{or-both}
-use Rattle.bits.specs.Bits.{pack, unpack, sum, eights, bitsOf, fill, Below}
+use Rattle.bits.specs.Bits.{pack, unpack, widthOf, eights, bitsOf, fill, EachBelow}
 use Rattle.bits.specs.laws.Pack.{FitIn, fieldsOf, unpack-fit, unpack-append, below-pack, below-take, length-unpack, sum-replicate, bytes-fields, fields-bytes, length-bitsOf, fit-cons, fit-nil, fit-all, fit-run, fit-append, app-inj}
 use Rattle.hand.specs.declared.Fields.{Fields}
 use Rattle.hand.specs.declared.Held.{Held}
@@ -20,7 +20,7 @@ use Rattle.hand.specs.Refusals.{tooLarge, refusalOf, unwritable}
 use Rattle.hand_record.specs.declared.Head.{Head}
 use Rattle.hand_record.specs.declared.HandRead.{HandRead}
 use Rattle.hand_record.specs.declared.Answer.the-variants.{Sound, Refused}
-use Rattle.hand_record.specs.Record.{head, headBy, headList, headFor, sixes, lengthOf, padOf, headOf, meldsOf, tilesOf, heldIn, paddingAfter, paddingOf, handIn, refusedWith, soundAs, wrongLength, countIn, answerBy, judged, readOf, widths, valuesOf, recordOf}
+use Rattle.hand_record.specs.Record.{head, headBy, headList, headFor, sixes, lengthOf, padOf, headOf, meldsOf, tilesOf, heldIn, paddingAfter, paddingOf, handIn, refusedWith, soundAs, wrongLength, countIn, answerBy, answerIn, readOf, widths, valuesOf, recordOf}
 use Rattle.hand_record.specs.laws.Clean.{clean-of, of-clean, kinds-of, Accepted, accepted-of}
 use Rattle.hand_record.specs.laws.Fill.{take-fill, fill-past, fill-take, unused-of, zeros-of}
 use Rattle.hand_record.specs.laws.Read.{whole, RightLength, length-of, length-right}
@@ -34,8 +34,8 @@ unpack-widths m bits =
     let k : ℕ = 13 - 3 * m in
     let b1 : List ℕ = drop 25 bits in
     let b2 : List ℕ = drop (25 + 8 * m) bits in
-    let e2 : drop (sum (eights m)) b1 ≡ b2 = rw sum-replicate (drop-drop (8 * m) 25 bits) in
-    let e3 : drop (sum (sixes k)) b2 ≡ drop (25 + 8 * m + 6 * k) bits = rw sum-replicate (drop-drop (6 * k) (25 + 8 * m) bits) in
+    let e2 : drop (widthOf (eights m)) b1 ≡ b2 = rw sum-replicate (drop-drop (8 * m) 25 bits) in
+    let e3 : drop (widthOf (sixes k)) b2 ≡ drop (25 + 8 * m + 6 * k) bits = rw sum-replicate (drop-drop (6 * k) (25 + 8 * m) bits) in
     let p1 = unpack-append head (eights m ++ (sixes k ++ (padOf m ∷ []))) bits in
     let p2 : unpack (eights m ++ (sixes k ++ (padOf m ∷ []))) b1 ≡ unpack (eights m) b1 ++ unpack (sixes k ++ (padOf m ∷ [])) b2 =
     rw e2 at (unpack-append (eights m) (sixes k ++ (padOf m ∷ [])) b1) in
@@ -86,7 +86,7 @@ sound-inj x h e =
     hand-eq x h ef (ap (λ (r : HandRead). r .held) e)
 
 pub read-as : (s : List ℕ) (h : Hand) → readOf s ≡ soundAs h → ReadAs s h
-unfolding readOf judged answerBy
+unfolding readOf answerIn answerBy
 read-as s h e =
     let b : List ℕ = bitsOf s in
     let m : ℕ = countIn s in
@@ -99,7 +99,7 @@ read-as s h e =
     record { right-length = length-of (length s) m (p .0); is-hand = i; unrefused = rw i z }
 
 pub as-read : (s : List ℕ) (h : Hand) → ReadAs s h → readOf s ≡ soundAs h
-unfolding readOf judged answerBy
+unfolding readOf answerIn answerBy
 as-read s h y =
     let z : refusalOf (handIn (countIn s) (bitsOf s)) (paddingOf (countIn s) (bitsOf s)) ≡ 0 = rw (y .is-hand) at (y .unrefused) in
     rw (length-right (length s) (countIn s) (y .right-length), z) (ap soundAs (sym (y .is-hand)))
@@ -145,7 +145,7 @@ module _ (s : List ℕ) (h : Hand) (y : ReadAs s h) where
       ∙ ap (λ (k : ℕ). unpack head b ++ (meldsOf 25 m b ++ (tilesOf 25 m b ++ (k ∷ [])))) (sym no-padding)
       ∙ sym (unpack-widths m b)
 
-  pub same-bytes : Below 256 s → recordOf h ≡ s
+  pub same-bytes : EachBelow 256 s → recordOf h ≡ s
   unfolding recordOf
   same-bytes bs =
       let m : ℕ = h .held .m in
@@ -182,7 +182,7 @@ module _ (s : List ℕ) (h : Hand) (y : ReadAs s h) where
 -- ---- the other way: what is written fits its bits
 
 -- the first k tiles fit six bits
-tiles-below : (k : ℕ) (l : List ℕ) → ((i : ℕ) → i < k → getD l i 0 ≤ 33) → Below 64 (take k l)
+tiles-below : (k : ℕ) (l : List ℕ) → ((i : ℕ) → i < k → getD l i 0 ≤ 33) → EachBelow 64 (take k l)
 tiles-below k l h i = go (ltb i k) refl
   where
     go : (b : Bool) → ltb i k ≡ b → getD (take k l) i 0 < 64
@@ -216,7 +216,7 @@ fit-head h y =
         let q1 = or-both a b (q2 .0) in
         (q1 .0, q1 .1, q2 .1, q3 .1, q4 .1, q5 .1)
 
-module _ (h : Hand) (e : unwritable h ≡ 0) (lm : length (h .held .melds) ≡ 4) (lc : length (h .held .concealed) ≡ 13) (bm : Below 256 (h .held .melds)) where
+module _ (h : Hand) (e : unwritable h ≡ 0) (lm : length (h .held .melds) ≡ 4) (lc : length (h .held .concealed) ≡ 13) (bm : EachBelow 256 (h .held .melds)) where
   y : Accepted h
   y = accepted-of h e
 

@@ -10,7 +10,7 @@ use lib.Dec.{ltb}
 use lib.ListN.{length, take, drop, replicate, length-append, length-replicate}
 use lib.Seq.{sets, sets-eq, length-take-le}
 use Rattle.tiles.specs.laws.Below.{or-both}
-use Rattle.bits.specs.Bits.{digits, pack, unpack, sum, eights, fill}
+use Rattle.bits.specs.Bits.{digits, pack, unpack, widthOf, eights, fill}
 use Rattle.bits.specs.laws.Pack.{length-pack, sum-replicate, sets-append, sets-fill, take-replicate, part-fill, length-unpack, pack-append, sum-append}
 use Rattle.hand.specs.declared.Hand.{Hand}
 use Rattle.hand.specs.Held.{unusedNotZero}
@@ -28,7 +28,7 @@ chain z a b c d i j k ei ej ek =
     let s3 : sets (sets (sets z 0 a) i b) j (c ++ d) ≡ sets (sets (sets (sets z 0 a) i b) j c) k d = rw ek at (sets-append (sets (sets z 0 a) i b) j c d) in
     sym (s1 ∙ s2 ∙ s3)
 
-pub sum-widths : (m : ℕ) → m ≤ 4 → sum (widths m) ≡ 8 * lengthOf m
+pub sum-widths : (m : ℕ) → m ≤ 4 → widthOf (widths m) ≡ 8 * lengthOf m
 unfolding widths
 sum-widths m h =
     let w = whole m h in

@@ -1,11 +1,11 @@
--- `handset::hb_correct_chombo` meets its contract: it is the function of `proofs/Lent.antt` with a number, over `bookings::correct_chombo`.
+-- `handset::hb_correct_chombo` meets its contract: it is the function of `proofs/Lent.antt` with a number, over `game_bookings::correct_chombo`.
 use mathlib.Core.List.{[], _∷_}
-use Rattle.ledger.specs.Booking.{chombo}
-use Rattle.book.specs.Book.{correction}
-use Rattle.book.specs.Runs.{Booked}
-use Rattle.bookings.proofs.correct_chombo.Symbol.{name as #callee}
-use Rattle.bookings.proofs.correct_chombo.Met.{met}
-use Rattle.handset.proofs.Lent.{book, lent-meets}
+use Rattle.position.specs.Booking.{result, chombo}
+use Rattle.game.specs.Game.{correction}
+use Rattle.game.specs.Runs.{Books}
+use Rattle.game_bookings.proofs.correct_chombo.Symbol.{name as #callee}
+use Rattle.game_bookings.proofs.correct_chombo.Met.{met}
+use Rattle.handset.proofs.Lent.{game, lent-meets}
 use Rattle.handset.proofs.Params.{number}
 use Rattle.handset.proofs.hb_correct_chombo.Key.{name as #self}
 use Rattle.handset.proofs.hb_correct_chombo.Statement.{statement}
@@ -13,4 +13,4 @@ use Rattle.handset.proofs.hb_correct_chombo.Code.{env, routine, unfolde
 
 pub hb-correct-chombo-spec : {M : Type 1} → statement M
 unfolding routine
-hb-correct-chombo-spec = lent-meets book (number ∷ []) #callee (λ k seat. Booked k (correction (chombo seat))) #self env unfolded met
+hb-correct-chombo-spec = lent-meets game (number ∷ []) #callee (λ g seat. Books g (correction (chombo seat))) #self env unfolded met

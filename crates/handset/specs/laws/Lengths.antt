@@ -15,11 +15,11 @@ use Rattle.text.specs.Text.{lengthIn}
 use Rattle.log.specs.Log.{partAt, refusalAt, partsOf}
 use Rattle.log.specs.laws.Next.{part-inside, none-empty, none-left}
 use Rattle.log.specs.laws.Walk.{parts-none}
-use Rattle.play.specs.declared.Walk.{Walk}
-use Rattle.play.specs.declared.Printed.{Printed}
-use Rattle.play.specs.Play.{filled, linesOf}
-use Rattle.play.specs.laws.Fill.{filled-none}
-use Rattle.play.specs.laws.Through.{moved}
+use Rattle.log_walk.specs.declared.Walk.{Walk}
+use Rattle.log_walk.specs.declared.Printed.{Printed}
+use Rattle.log_walk.specs.Walk.{filled, linesOf}
+use Rattle.log_walk.specs.laws.Fill.{filled-none}
+use Rattle.log_walk.specs.laws.Through.{moved}
 use Rattle.handset.specs.Interface.{nextEntryBy, nextEntryOf}
 
 -- a record that is not refused fits

@@ -2,17 +2,17 @@
 use mathlib.Core.Path.{sym, _∙_}
 use native.Mathlib.Omega.{arith}
 use borrow.Author.Needs.{needs}
-use Rattle.log.specs.laws.Lengths.{length-win, length-many, length-feed, length-over, length-plain}
+use Rattle.log.specs.laws.Lengths.{length-win, length-multi-ron, length-pao, length-over, length-plain}
 use Rattle.log.proofs.length_by.Statement.{statement}
 use Rattle.log.proofs.length_by.Tie as tie
 
 returns-2 : tie.Need-returns-2
-returns-2 c = let a = c .before .before .before .before .args in c .many-length .ensures ∙ sym (length-many (a .argument) (a .rest .now) (a .kind) (c .before .if2 .taken))
+returns-2 c = let a = c .before .before .before .before .args in c .multi-ron-length .ensures ∙ sym (length-multi-ron (a .argument) (a .rest .now) (a .kind) (c .before .if2 .taken))
 
 returns-3 : tie.Need-returns-3
 returns-3 c =
     let a = c .before .before .before .before .before .args in
-    c .feed-length .ensures ∙ sym (length-feed (a .argument) (a .rest .now) (a .kind) (c .before .if3 .taken))
+    c .pao-length .ensures ∙ sym (length-pao (a .argument) (a .rest .now) (a .kind) (c .before .if3 .taken))
 
 returns-4 : tie.Need-returns-4
 returns-4 c =

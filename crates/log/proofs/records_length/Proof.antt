@@ -5,8 +5,8 @@ use Prim.Native.Nat.{ℕ, _+_, _≤_}
 use native.Mathlib.Omega.{arith}
 use lib.ListN.{length, drop, length-drop}
 use borrow.Author.Needs.{needs}
-use Rattle.record_lengths.specs.Lengths.{recordLength}
-use Rattle.record_lengths.specs.laws.Lengths.{record-inside}
+use Rattle.hand_record.specs.Lengths.{recordLength}
+use Rattle.hand_record.specs.laws.Lengths.{record-inside}
 use Rattle.log.specs.Kinds.{recordsLength}
 use Rattle.log.specs.laws.Records.{lengthFrom, from-start, from-end, from-broken, turn-at}
 use Rattle.log.specs.laws.Next.{from-on}

@@ -10,16 +10,16 @@ use lib.Dec.{ltb, leb, eqb}
 use lib.ListN.{length, getD, take, drop}
 use Rattle.tiles.specs.laws.Below.{or-both, and-true}
 use Rattle.hand_record.specs.Record.{countIn, lengthOf}
-use Rattle.record_lengths.specs.Lengths.{isBroken, recordLength}
-use Rattle.record_lengths.specs.laws.Lengths.{unbroken, broken-or-whole}
-use Rattle.log.specs.Kinds.{kindIn, argumentIn, hasBroken, spanOf, recordsLength, isOtherForm, withHeader, winLength, manyLength, feedLength, lengthBy, correctionLength, entryLength}
+use Rattle.hand_record.specs.Lengths.{isBroken, recordLength}
+use Rattle.hand_record.specs.laws.Lengths.{unbroken, broken-or-whole}
+use Rattle.log.specs.Kinds.{kindIn, argumentIn, hasBroken, spanOf, recordsLength, isOtherForm, withHeader, winLength, multiRonLength, paoLength, lengthBy, correctionLength, entryLength}
 use Rattle.log.specs.Log.{refusalAt}
 use Rattle.log.specs.laws.Records.{all-unbroken, record-again, records-again}
 use Rattle.log.specs.laws.Refusals.{bad-length}
 
--- the byte of a feed
-pub feed-form : (s : List ℕ) → isOtherForm s ≡ false → (1 ≤ length s) × (getD s 0 0 % 8 ≤ 0)
-feed-form s e = let p = or-both (ltb (length s) 1) (ltb 0 (getD s 0 0 % 8)) e in (ltb-false (length s) 1 (p .0), ltb-false 0 (getD s 0 0 % 8) (p .1))
+-- the byte of a pao
+pub pao-form : (s : List ℕ) → isOtherForm s ≡ false → (1 ≤ length s) × (getD s 0 0 % 8 ≤ 0)
+pao-form s e = let p = or-both (ltb (length s) 1) (ltb 0 (getD s 0 0 % 8)) e in (ltb-false (length s) 1 (p .0), ltb-false 0 (getD s 0 0 % 8) (p .1))
 
 -- ---- an entry of a kind, with its argument and the bytes after its header
 
@@ -51,53 +51,53 @@ module _ (a : ℕ) (rest : List ℕ) where
   win-again z e = let n = lengthOf (countIn rest) in rw (eq-eqb a 0 z, record-again rest n e (omega arith)) (with-header-some n (λ z. omega (arith, z, unbroken rest e)))
 
   -- two or three rons
-  pub many-none : a ≡ 0 → manyLength a rest ≡ 0
-  many-none e = simp (eq-eqb a 0 e)
+  pub multi-ron-none : a ≡ 0 → multiRonLength a rest ≡ 0
+  multi-ron-none e = simp (eq-eqb a 0 e)
 
-  pub many-over : 3 < a → manyLength a rest ≡ 0
-  many-over h = simp (ne-eqb a 0 (λ e. omega arith), lt-ltb 3 a h)
+  pub multi-ron-over : 3 < a → multiRonLength a rest ≡ 0
+  multi-ron-over h = simp (ne-eqb a 0 (λ e. omega arith), lt-ltb 3 a h)
 
-  pub many-records : (a ≡ 0 → ⊥) → a ≤ 3 → manyLength a rest ≡ withHeader (recordsLength a rest)
-  many-records h l = simp (ne-eqb a 0 h, le-ltb 3 a l)
+  pub multi-ron-records : (a ≡ 0 → ⊥) → a ≤ 3 → multiRonLength a rest ≡ withHeader (recordsLength a rest)
+  multi-ron-records h l = simp (ne-eqb a 0 h, le-ltb 3 a l)
 
   -- and where one is broken, or they stand alone
-  many-broken : hasBroken a rest ≡ true → manyLength a rest ≡ 0
+  multi-ron-broken : hasBroken a rest ≡ true → multiRonLength a rest ≡ 0
   unfolding recordsLength
-  many-broken e = rw e (no-length (eqb a 0 || ltb 3 a))
+  multi-ron-broken e = rw e (no-length (eqb a 0 || ltb 3 a))
 
-  pub many-again : 0 < a → a ≤ 3 → hasBroken a rest ≡ false → let n = spanOf a rest in manyLength a (take n rest) ≡ n + 1
-  many-again p o e =
+  pub multi-ron-again : 0 < a → a ≤ 3 → hasBroken a rest ≡ false → let n = spanOf a rest in multiRonLength a (take n rest) ≡ n + 1
+  multi-ron-again p o e =
       let n = spanOf a rest in
       rw (ne-eqb a 0 (λ z. omega (arith, p, z)), le-ltb 3 a o, records-again a rest e) (with-header-some n (λ z. omega (arith, p, z, all-unbroken a rest e)))
 
-  -- a feed
-  pub feed-argument : (a ≡ 0 → ⊥) → feedLength a rest ≡ 0
-  feed-argument h = rw (ne-eqb a 0 h)
+  -- a pao
+  pub pao-argument : (a ≡ 0 → ⊥) → paoLength a rest ≡ 0
+  pao-argument h = rw (ne-eqb a 0 h)
 
-  feed-other : isOtherForm rest ≡ true → feedLength a rest ≡ 0
-  feed-other e = rw e (no-length (eqb a 0))
+  pao-other : isOtherForm rest ≡ true → paoLength a rest ≡ 0
+  pao-other e = rw e (no-length (eqb a 0))
 
-  pub feed-missing : a ≡ 0 → length rest < 1 → feedLength a rest ≡ 0
-  feed-missing e h = simp (eq-eqb a 0 e, lt-ltb (length rest) 1 h)
+  pub pao-missing : a ≡ 0 → length rest < 1 → paoLength a rest ≡ 0
+  pao-missing e h = simp (eq-eqb a 0 e, lt-ltb (length rest) 1 h)
 
-  pub feed-set : a ≡ 0 → 1 ≤ length rest → 0 < getD rest 0 0 % 8 → feedLength a rest ≡ 0
-  feed-set e h l = simp (eq-eqb a 0 e, le-ltb (length rest) 1 h, lt-ltb 0 (getD rest 0 0 % 8) l)
+  pub pao-bits-set : a ≡ 0 → 1 ≤ length rest → 0 < getD rest 0 0 % 8 → paoLength a rest ≡ 0
+  pao-bits-set e h l = simp (eq-eqb a 0 e, le-ltb (length rest) 1 h, lt-ltb 0 (getD rest 0 0 % 8) l)
 
-  pub feed-whole : a ≡ 0 → 1 ≤ length rest → getD rest 0 0 % 8 ≤ 0 → feedLength a rest ≡ 2
-  feed-whole e h l = simp (eq-eqb a 0 e, le-ltb (length rest) 1 h, le-ltb 0 (getD rest 0 0 % 8) l)
+  pub pao-whole : a ≡ 0 → 1 ≤ length rest → getD rest 0 0 % 8 ≤ 0 → paoLength a rest ≡ 2
+  pao-whole e h l = simp (eq-eqb a 0 e, le-ltb (length rest) 1 h, le-ltb 0 (getD rest 0 0 % 8) l)
 
   -- a kind
   pub length-win : (k : ℕ) → k ≡ 1 → lengthBy k a rest ≡ winLength a rest
   unfolding lengthBy
   length-win k e = rw e
 
-  pub length-many : (k : ℕ) → k ≡ 4 → lengthBy k a rest ≡ manyLength a rest
+  pub length-multi-ron : (k : ℕ) → k ≡ 4 → lengthBy k a rest ≡ multiRonLength a rest
   unfolding lengthBy
-  length-many k e = rw e
+  length-multi-ron k e = rw e
 
-  pub length-feed : (k : ℕ) → k ≡ 5 → lengthBy k a rest ≡ feedLength a rest
+  pub length-pao : (k : ℕ) → k ≡ 5 → lengthBy k a rest ≡ paoLength a rest
   unfolding lengthBy
-  length-feed k e = rw e
+  length-pao k e = rw e
 
   pub length-over : (k : ℕ) → 5 < k → lengthBy k a rest ≡ 0
   unfolding lengthBy
@@ -171,12 +171,12 @@ IsBad k a rest =
     ⊎ ((k ≡ 5) × ((a ≡ 0 → ⊥) ⊎ (isOtherForm rest ≡ true)))
     ⊎ ((k ≡ 6) × ((a ≡ 0 → ⊥) ⊎ (kindIn rest < 1) ⊎ (4 < kindIn rest) ⊎ (refusalAt rest 0 ≡ 14)))
 
--- n bytes of an entry: none, a win's, those of two or three rons, a feed's, a header, or one and the entry that a correction carries
+-- n bytes of an entry: none, a win's, those of a multiple ron, a pao's, a header, or one and the entry inside a correction
 pub data Told (k a : ℕ) (rest : List ℕ) (n : ℕ) : Type 0 where
   bad : IsBad k a rest → n ≡ 0 → Told k a rest n
   won : k ≡ 1 → a ≡ 0 → isBroken rest ≡ false → n ≡ lengthOf (countIn rest) + 1 → Told k a rest n
-  many : k ≡ 4 → 0 < a → a ≤ 3 → hasBroken a rest ≡ false → n ≡ spanOf a rest + 1 → Told k a rest n
-  fed : k ≡ 5 → a ≡ 0 → isOtherForm rest ≡ false → n ≡ 2 → Told k a rest n
+  multiRon : k ≡ 4 → 0 < a → a ≤ 3 → hasBroken a rest ≡ false → n ≡ spanOf a rest + 1 → Told k a rest n
+  pao : k ≡ 5 → a ≡ 0 → isOtherForm rest ≡ false → n ≡ 2 → Told k a rest n
   plain : (k ≡ 1 → ⊥) → k ≤ 3 → n ≡ 1 → Told k a rest n
   corrected : k ≡ 6 → a ≡ 0 → 1 ≤ kindIn rest → kindIn rest ≤ 4 → 0 < entryLength rest → n ≡ entryLength rest + 1 → Told k a rest n
 
@@ -191,9 +191,9 @@ told-win a rest = go (eqb a 0) refl
     go true e = both (eqb-true a 0 e) (broken-or-whole rest)
     go false e = bad (inr (inl (refl, inl (eqb-false a 0 e)))) (win-argument a rest (eqb-false a 0 e))
 
-told-many : (a : ℕ) (rest : List ℕ) → Told 4 a rest (manyLength a rest)
+told-multi-ron : (a : ℕ) (rest : List ℕ) → Told 4 a rest (multiRonLength a rest)
 unfolding recordsLength
-told-many a rest = go (eqb a 0) refl (ltb 3 a) refl (hasBroken a rest) refl
+told-multi-ron a rest = go (eqb a 0) refl (ltb 3 a) refl (hasBroken a rest) refl
   where
     go : (z : Bool) → eqb a 0 ≡ z → (o : Bool) → ltb 3 a ≡ o → (b : Bool) → hasBroken a rest ≡ b → Told 4 a rest (cond (z || o) 0 (withHeader (cond b 0 (spanOf a rest))))
     go true e o f b g = bad (inr (inr (inl (refl, inl (eqb-true a 0 e))))) refl
@@ -202,14 +202,14 @@ told-many a rest = go (eqb a 0) refl (ltb 3 a) refl (hasBroken a rest) refl
     go false e false f false g =
         let n = eqb-false a 0 e in
         let p : 0 < a = omega (arith, n) in
-        many refl p (ltb-false 3 a f) g (with-header-some (spanOf a rest) (λ z. omega (arith, z, p, all-unbroken a rest g)))
+        multiRon refl p (ltb-false 3 a f) g (with-header-some (spanOf a rest) (λ z. omega (arith, z, p, all-unbroken a rest g)))
 
-told-feed : (a : ℕ) (rest : List ℕ) → Told 5 a rest (feedLength a rest)
-told-feed a rest = go (eqb a 0) refl (isOtherForm rest) refl
+told-pao : (a : ℕ) (rest : List ℕ) → Told 5 a rest (paoLength a rest)
+told-pao a rest = go (eqb a 0) refl (isOtherForm rest) refl
   where
     go : (t : Bool) → eqb a 0 ≡ t → (o : Bool) → isOtherForm rest ≡ o → Told 5 a rest (cond t (cond o 0 2) 0)
     go true e true f = bad (inr (inr (inr (inl (refl, inr f))))) refl
-    go true e false f = fed refl (eqb-true a 0 e) f refl
+    go true e false f = pao refl (eqb-true a 0 e) f refl
     go false e o f = bad (inr (inr (inr (inl (refl, inl (eqb-false a 0 e)))))) refl
 
 told-correction : (a : ℕ) (rest : List ℕ) → Told 6 a rest (correctionLength a rest)
@@ -235,8 +235,8 @@ told-by zero a rest n = plain (λ e. omega (arith, e)) (omega arith) (length-pla
 told-by (suc zero) a rest n = rw (length-win a rest 1 refl) (told-win a rest)
 told-by (suc (suc zero)) a rest n = plain (λ e. omega (arith, e)) (omega arith) (length-plain a rest 2 (λ e. omega (arith, e)) (omega arith))
 told-by (suc (suc (suc zero))) a rest n = plain (λ e. omega (arith, e)) (omega arith) (length-plain a rest 3 (λ e. omega (arith, e)) (omega arith))
-told-by (suc (suc (suc (suc zero)))) a rest n = rw (length-many a rest 4 refl) (told-many a rest)
-told-by (suc (suc (suc (suc (suc zero))))) a rest n = rw (length-feed a rest 5 refl) (told-feed a rest)
+told-by (suc (suc (suc (suc zero)))) a rest n = rw (length-multi-ron a rest 4 refl) (told-multi-ron a rest)
+told-by (suc (suc (suc (suc (suc zero))))) a rest n = rw (length-pao a rest 5 refl) (told-pao a rest)
 told-by (suc (suc (suc (suc (suc (suc zero)))))) a rest n = absurd (n refl)
 told-by (suc (suc (suc (suc (suc (suc (suc k))))))) a rest n =
     let h : 6 < suc (suc (suc (suc (suc (suc (suc k)))))) = omega arith in
@@ -249,8 +249,8 @@ by-most k a rest n = go (told-by k a rest n)
     go : Told k a rest (lengthBy k a rest) → lengthBy k a rest ≤ 40
     go (bad b e) = omega (arith, e)
     go (won w z u e) = omega (arith, e, unbroken rest u)
-    go (many w p o u e) = omega (arith, e, o, all-unbroken a rest u)
-    go (fed w z u e) = omega (arith, e)
+    go (multiRon w p o u e) = omega (arith, e, o, all-unbroken a rest u)
+    go (pao w z u e) = omega (arith, e)
     go (plain w l e) = omega (arith, e)
     go (corrected w z l h p e) = absurd (n w)
 
@@ -280,8 +280,8 @@ module _ (s : List ℕ) (some : 0 < length s) where
       go : Told kind argument rest (entryLength s) → IsBad kind argument rest
       go (bad b e) = b
       go (won k a u e) = absurd (omega (arith, e, z))
-      go (many k p o u e) = absurd (omega (arith, e, z))
-      go (fed k a u e) = absurd (omega (arith, e, z))
+      go (multiRon k p o u e) = absurd (omega (arith, e, z))
+      go (pao k a u e) = absurd (omega (arith, e, z))
       go (plain k h e) = absurd (omega (arith, e, z))
       go (corrected k a l h p e) = absurd (omega (arith, e, z))
 
@@ -293,8 +293,8 @@ module _ (s : List ℕ) (some : 0 < length s) where
   bad-zero (inl o) = length-is s some (λ k. omega (arith, o, k)) ∙ length-over argument rest kind (omega (arith, o))
   bad-zero (inr (inl (k, b))) = by-kind 1 k (omega arith) (length-win argument rest kind k ∙ ⊎-elim (win-argument argument rest) (win-broken argument rest) b)
   bad-zero (inr (inr (inl (k, b)))) =
-      by-kind 4 k (omega arith) (length-many argument rest kind k ∙ ⊎-elim (many-none argument rest) (⊎-elim (many-over argument rest) (many-broken argument rest)) b)
-  bad-zero (inr (inr (inr (inl (k, b))))) = by-kind 5 k (omega arith) (length-feed argument rest kind k ∙ ⊎-elim (feed-argument argument rest) (feed-other argument rest) b)
+      by-kind 4 k (omega arith) (length-multi-ron argument rest kind k ∙ ⊎-elim (multi-ron-none argument rest) (⊎-elim (multi-ron-over argument rest) (multi-ron-broken argument rest)) b)
+  bad-zero (inr (inr (inr (inl (k, b))))) = by-kind 5 k (omega arith) (length-pao argument rest kind k ∙ ⊎-elim (pao-argument argument rest) (pao-other argument rest) b)
   bad-zero (inr (inr (inr (inr (k, b))))) =
       length-correction s some k
       ∙ ⊎-elim (correction-argument argument rest) (⊎-elim (correction-under argument rest) (⊎-elim (correction-over argument rest) (λ r. correction-bad argument rest (bad-length rest 0 .0 r .1)))) b

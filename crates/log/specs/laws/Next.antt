@@ -8,12 +8,12 @@ use native.Mathlib.Numerals.{add-one}
 use lib.ListN.{length, getD, take, drop, length-drop}
 use lib.Seq.{length-take-le, take-all, take-take}
 use Rattle.hand_record.specs.Record.{countIn, lengthOf, wrongLength}
-use Rattle.record_lengths.specs.laws.Lengths.{unbroken, record-length}
-use Rattle.records.specs.Records.{recordsOf}
+use Rattle.hand_record.specs.laws.Lengths.{unbroken, record-length}
+use Rattle.hand_rons.specs.Records.{recordsOf}
 use Rattle.log.specs.Kinds.{kindIn, argumentIn, spanOf, holderIn, feederIn, yakuIn, lengthBy, correctionLength, entryLength}
 use Rattle.log.specs.Log.{partAt, laid}
 use Rattle.log.specs.laws.Records.{all-unbroken, records-right}
-use Rattle.log.specs.laws.Lengths.{length-is, length-correction, length-win, length-many, length-plain, win-again, many-again, Told, bad, won, many, fed, plain, corrected, told, feed-form}
+use Rattle.log.specs.laws.Lengths.{length-is, length-correction, length-win, length-multi-ron, length-plain, win-again, multi-ron-again, Told, bad, won, multiRon, pao, plain, corrected, told, pao-form}
 
 -- a stretch from a place on to the end
 pub from-on : (n : ℕ) (s : List ℕ) → take (length s - n) (drop n s) ≡ drop n s
@@ -46,8 +46,8 @@ length-inside (x ∷ l) = go (length-inside l) (told (x ∷ l) (omega arith))
     go : entryLength l ≤ length l → Told (kindIn (x ∷ l)) (argumentIn (x ∷ l)) l (entryLength (x ∷ l)) → entryLength (x ∷ l) ≤ length (x ∷ l)
     go i (bad b e) = omega (arith, e)
     go i (won k a u e) = omega (arith, e, unbroken l u)
-    go i (many k p o u e) = omega (arith, e, all-unbroken (argumentIn (x ∷ l)) l u)
-    go i (fed k a u e) = omega (arith, e, feed-form l u)
+    go i (multiRon k p o u e) = omega (arith, e, all-unbroken (argumentIn (x ∷ l)) l u)
+    go i (pao k a u e) = omega (arith, e, pao-form l u)
     go i (plain k h e) = omega (arith, e)
     go i (corrected k a o h p e) = omega (arith, e, i)
 
@@ -97,13 +97,13 @@ take-first (x ∷ l) zero h = absurd (omega arith)
 take-first [] (suc n) h = refl
 take-first (x ∷ l) (suc n) h = refl
 
--- the fields of a feed's byte are all of it but its zero bits
-feed-fields : (s : List ℕ) → getD s 0 0 % 8 ≤ 0 → getD s 0 0 ≡ 64 * holderIn s + 16 * feederIn s + 8 * (yakuIn s - 28)
-feed-fields s h = omega arith
+-- the fields of a pao's byte are all of it but its zero bits
+pao-fields : (s : List ℕ) → getD s 0 0 % 8 ≤ 0 → getD s 0 0 ≡ 64 * holderIn s + 16 * feederIn s + 8 * (yakuIn s - 28)
+pao-fields s h = omega arith
 
 -- and no field is more than its bits hold
-pub feed-ends : (s : List ℕ) → (getD s 0 0 < 256 → holderIn s ≤ 3) × (feederIn s ≤ 3) × (28 ≤ yakuIn s) × (yakuIn s ≤ 29)
-feed-ends s = (λ b. omega arith, omega arith, omega arith, omega arith)
+pub pao-ends : (s : List ℕ) → (getD s 0 0 < 256 → holderIn s ≤ 3) × (feederIn s ≤ 3) × (28 ≤ yakuIn s) × (yakuIn s ≤ 29)
+pao-ends s = (λ b. omega arith, omega arith, omega arith, omega arith)
 
 -- what a part that is not empty says of itself
 module _ (s : List ℕ) (some : 0 < length (firstPart s)) where
@@ -119,8 +119,8 @@ module _ (s : List ℕ) (some : 0 < length (firstPart s)) where
       go : Told (kindIn s) (argumentIn s) (drop 1 s) (entryLength s) → kindIn s ≤ 6
       go (bad b e) = absurd (omega (arith, e, some, part-length s))
       go (won k a u e) = omega (arith, k)
-      go (many k p o u e) = omega (arith, k)
-      go (fed k a u e) = omega (arith, k)
+      go (multiRon k p o u e) = omega (arith, k)
+      go (pao k a u e) = omega (arith, k)
       go (plain k l e) = omega (arith, l)
       go (corrected k a l h p e) = omega (arith, k)
 
@@ -130,38 +130,38 @@ module _ (s : List ℕ) (some : 0 < length (firstPart s)) where
       go : Told (kindIn s) (argumentIn s) (drop 1 s) (entryLength s) → (argumentIn s ≡ 0) × (wrongLength (length (drop 1 (firstPart s))) (countIn (drop 1 (firstPart s))) ≡ false)
       go (bad b e) = absurd (omega (arith, e, some, part-length s))
       go (won k a u e) = (a, rw (e, after-header s (lengthOf (countIn (drop 1 s))) bytes) (record-length (drop 1 s) u))
-      go (many k p o u e) = absurd (omega (arith, k, rw same-header at w))
-      go (fed k a u e) = absurd (omega (arith, k, rw same-header at w))
+      go (multiRon k p o u e) = absurd (omega (arith, k, rw same-header at w))
+      go (pao k a u e) = absurd (omega (arith, k, rw same-header at w))
       go (plain k l e) = absurd (k (rw same-header at w))
       go (corrected k a l h p e) = absurd (omega (arith, k, rw same-header at w))
 
-  pub part-many : kindIn (firstPart s) ≡ 4 → let a = argumentIn (firstPart s) in let t = drop 1 (firstPart s) in let rs = recordsOf a t in (0 < a) × (a ≤ 3) × (length rs ≡ a) × (laid rs ≡ t) × ((k : ℕ) → k < a → wrongLength (length (getD rs k [])) (countIn (getD rs k [])) ≡ false)
-  part-many w = rw same-header (go (told s bytes))
+  pub part-multi-ron : kindIn (firstPart s) ≡ 4 → let a = argumentIn (firstPart s) in let t = drop 1 (firstPart s) in let rs = recordsOf a t in (0 < a) × (a ≤ 3) × (length rs ≡ a) × (laid rs ≡ t) × ((k : ℕ) → k < a → wrongLength (length (getD rs k [])) (countIn (getD rs k [])) ≡ false)
+  part-multi-ron w = rw same-header (go (told s bytes))
     where
       go : Told (kindIn s) (argumentIn s) (drop 1 s) (entryLength s) → let a = argumentIn s in let t = drop 1 (firstPart s) in let rs = recordsOf a t in (0 < a) × (a ≤ 3) × (length rs ≡ a) × (laid rs ≡ t) × ((k : ℕ) → k < a → wrongLength (length (getD rs k [])) (countIn (getD rs k [])) ≡ false)
       go (bad b e) = absurd (omega (arith, e, some, part-length s))
       go (won k a u e) = absurd (omega (arith, k, rw same-header at w))
-      go (many k p o u e) =
+      go (multiRon k p o u e) =
           let r = records-right (argumentIn s) (drop 1 s) u in
           let d = ap (λ (n : ℕ). drop 1 (take n s)) e ∙ after-header s (spanOf (argumentIn s) (drop 1 s)) bytes in
           (p, o, rw d (r .0), rw d (r .1), rw d (r .2))
-      go (fed k a u e) = absurd (omega (arith, k, rw same-header at w))
+      go (pao k a u e) = absurd (omega (arith, k, rw same-header at w))
       go (plain k l e) = absurd (omega (arith, l, rw same-header at w))
       go (corrected k a l h p e) = absurd (omega (arith, k, rw same-header at w))
 
-  pub part-feed : kindIn (firstPart s) ≡ 5 → let t = drop 1 (firstPart s) in (argumentIn (firstPart s) ≡ 0) × (length t ≡ 1) × (getD t 0 0 ≡ 64 * holderIn t + 16 * feederIn t + 8 * (yakuIn t - 28))
-  part-feed w = rw same-header (go (told s bytes))
+  pub part-pao : kindIn (firstPart s) ≡ 5 → let t = drop 1 (firstPart s) in (argumentIn (firstPart s) ≡ 0) × (length t ≡ 1) × (getD t 0 0 ≡ 64 * holderIn t + 16 * feederIn t + 8 * (yakuIn t - 28))
+  part-pao w = rw same-header (go (told s bytes))
     where
       go : Told (kindIn s) (argumentIn s) (drop 1 s) (entryLength s) → let t = drop 1 (firstPart s) in (argumentIn s ≡ 0) × (length t ≡ 1) × (getD t 0 0 ≡ 64 * holderIn t + 16 * feederIn t + 8 * (yakuIn t - 28))
       go (bad b e) = absurd (omega (arith, e, some, part-length s))
       go (won k a u e) = absurd (omega (arith, k, rw same-header at w))
-      go (many k p o u e) = absurd (omega (arith, k, rw same-header at w))
-      go (fed k a u e) =
-          let f = feed-form (drop 1 s) u in
+      go (multiRon k p o u e) = absurd (omega (arith, k, rw same-header at w))
+      go (pao k a u e) =
+          let f = pao-form (drop 1 s) u in
           let d = ap (λ (n : ℕ). drop 1 (take n s)) e ∙ after-header s 1 bytes in (
             a,
             ap length d ∙ length-take-le 1 (drop 1 s) (f .0),
-            feed-fields (drop 1 (firstPart s)) (rw (d, take-first (drop 1 s) 1 (omega arith)) (f .1)),
+            pao-fields (drop 1 (firstPart s)) (rw (d, take-first (drop 1 s) 1 (omega arith)) (f .1)),
           )
       go (plain k l e) = absurd (omega (arith, l, rw same-header at w))
       go (corrected k a l h p e) = absurd (omega (arith, k, rw same-header at w))
@@ -178,10 +178,10 @@ module _ (s : List ℕ) (some : 0 < length (firstPart s)) where
       go (won k a u e) =
           rw (e, after-header s (lengthOf (countIn (drop 1 s))) bytes, length-win (argumentIn s) (take (lengthOf (countIn (drop 1 s))) (drop 1 s)) (kindIn s) k)
           (win-again (argumentIn s) (drop 1 s) a u)
-      go (many k p o u e) =
-          rw (e, after-header s (spanOf (argumentIn s) (drop 1 s)) bytes, length-many (argumentIn s) (take (spanOf (argumentIn s) (drop 1 s)) (drop 1 s)) (kindIn s) k)
-          (many-again (argumentIn s) (drop 1 s) p o u)
-      go (fed k a u e) = absurd (omega (arith, k, h))
+      go (multiRon k p o u e) =
+          rw (e, after-header s (spanOf (argumentIn s) (drop 1 s)) bytes, length-multi-ron (argumentIn s) (take (spanOf (argumentIn s) (drop 1 s)) (drop 1 s)) (kindIn s) k)
+          (multi-ron-again (argumentIn s) (drop 1 s) p o u)
+      go (pao k a u e) = absurd (omega (arith, k, h))
       go (plain k o e) = length-plain (argumentIn s) (drop 1 (firstPart s)) (kindIn s) k o ∙ sym e
       go (corrected k a o g p e) = absurd (omega (arith, k, h))
 
@@ -193,8 +193,8 @@ module _ (s : List ℕ) (some : 0 < length (firstPart s)) where
       go : Told (kindIn s) (argumentIn s) (drop 1 s) (entryLength s) → let t = drop 1 (firstPart s) in (argumentIn s ≡ 0) × (1 ≤ kindIn t) × (kindIn t ≤ 4) × (0 < length t) × (firstPart t ≡ t)
       go (bad b e) = absurd (omega (arith, e, some, part-length s))
       go (won k a u e) = absurd (omega (arith, k, rw (same-header s some) at w))
-      go (many k p o u e) = absurd (omega (arith, k, rw (same-header s some) at w))
-      go (fed k a u e) = absurd (omega (arith, k, rw (same-header s some) at w))
+      go (multiRon k p o u e) = absurd (omega (arith, k, rw (same-header s some) at w))
+      go (pao k a u e) = absurd (omega (arith, k, rw (same-header s some) at w))
       go (plain k l e) = absurd (omega (arith, l, rw (same-header s some) at w))
       go (corrected k a l h p e) =
           let d = ap (λ (n : ℕ). drop 1 (take n s)) e ∙ after-header s (entryLength (drop 1 s)) (bytes s some) in

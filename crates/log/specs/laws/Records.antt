@@ -9,9 +9,9 @@ use lib.ListN.{length, getD, take, drop, length-take, length-drop}
 use lib.Seq.{length-take-le, take-take, take-add, drop-at, drop-drop}
 use Rattle.tiles.specs.laws.Below.{or-both}
 use Rattle.hand_record.specs.Record.{countIn, lengthOf, wrongLength}
-use Rattle.record_lengths.specs.Lengths.{isBroken, recordLength}
-use Rattle.record_lengths.specs.laws.Lengths.{unbroken, record-whole, length-zero, length-some, count-take, record-length}
-use Rattle.records.specs.Records.{recordsOf}
+use Rattle.hand_record.specs.Lengths.{isBroken, recordLength}
+use Rattle.hand_record.specs.laws.Lengths.{unbroken, record-whole, length-zero, length-some, count-take, record-length}
+use Rattle.hand_rons.specs.Records.{recordsOf}
 use Rattle.log.specs.Kinds.{hasBroken, spanOf, recordsLength}
 use Rattle.log.specs.Log.{laid}
 

@@ -1,6 +1,6 @@
 -- `log_text::entry_line` meets its contract.
 use borrow.Author.Needs.{needs}
-use Rattle.play.specs.Play.{entryLine}
+use Rattle.log_walk.specs.Walk.{entryLine}
 use Rattle.log_text.proofs.entry_line.Statement.{statement}
 use Rattle.log_text.proofs.entry_line.Tie as tie
 

@@ -4,7 +4,7 @@ use mathlib.Core.Path.{_≡_, ap, _∙_}
 use Prim.Native.Nat.{_+_, _-_, _≤_, _<_}
 use native.Mathlib.Omega.{arith}
 use lib.ListN.{length}
-use Rattle.play.specs.laws.Fill.{Kept, kept-start, past-gives, end-gives, max-gives, line-inside, lent-room, lent-same, lent-short, lent-kept}
+use Rattle.log_walk.specs.laws.Fill.{Kept, kept-start, past-gives, end-gives, max-gives, line-inside, lent-room, lent-same, lent-short, lent-kept}
 use Rattle.log_text.proofs.lines.Statement.{statement}
 use Rattle.log_text.proofs.lines.Tie as tie
 
@@ -59,7 +59,7 @@ room c =
     let a = i .before .before .before .before .before .before .before .before .args in
     omega (arith, lent-room (a .s .now) (a .w) (a .buf .now) (k .buf) (k .v) (k .n) (k .inv) _ (i .before .book-at .ensures) (i .if2 .left) _ _ (e .entry-line .ensures .0) (e .entry-line .ensures .1 .0), i .before .before .before .before .before .before .before .before .good)
 
-ends : (c : tie.After-after Inv-loop μ-loop) → let i = c .before .before .before .before .before .before .before in let k = i .before .before .before .before .before .loop in (0 < i .before .book-at .result .entry .length) × (k .v .at + i .before .book-at .result .entry .length ≤ length (i .before .before .before .before .before .before .before .before .args .s .now))
+ends : (c : tie.After-after Inv-loop μ-loop) → let i = c .before .before .before .before .before .before .before in let k = i .before .before .before .before .before .loop in (0 < i .before .book-at .result .len) × (k .v .at + i .before .book-at .result .len ≤ length (i .before .before .before .before .before .before .before .before .args .s .now))
 ends c =
     let i = c .before .before .before .before .before .before .before in
     let k = i .before .before .before .before .before .loop in
@@ -85,8 +85,8 @@ lines-spec =
     size-3
     returns-3
     room
-    (λ c. omega (arith, ends c))
     (λ c. omega (arith, c .before .before .before .before .before .before .if3 .left))
+    (λ c. omega (arith, ends c))
     (λ c. omega (arith, ends c))
     again
     (λ c. c .before .before .loop .inv .size)

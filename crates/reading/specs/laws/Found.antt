@@ -62,54 +62,54 @@ module _ {A : Type 0} where
 
 -- ---- the splittings of t into n groups from the code c on, each stored behind the size - n groups that so has
 unfoldable pub behind : ℕ → List ℕ → ℕ → ℕ → List ℕ → List (List ℕ)
-behind size so n c t = map (sets so (size - n)) (splits n (68 - c) c t)
+behind size prefix n c t = map (sets prefix (size - n)) (splits n (68 - c) c t)
 
 module _ (size : ℕ) where
-  pub behind-three : (so : List ℕ) (n c : ℕ) (t : List ℕ) → n ≤ 4 → length t ≡ 34 → length (behind size so n c t) ≤ 3
+  pub behind-three : (prefix : List ℕ) (n c : ℕ) (t : List ℕ) → n ≤ 4 → length t ≡ 34 → length (behind size prefix n c t) ≤ 3
   unfolding behind
-  behind-three so n c t h l = rw (length-map (splits n (68 - c) c t) (sets so (size - n))) (splits-three n (68 - c) c t h l)
+  behind-three prefix n c t h l = rw (length-map (splits n (68 - c) c t) (sets prefix (size - n))) (splits-three n (68 - c) c t h l)
 
   -- no group is left to take
-  pub behind-leaf : (so : List ℕ) (n c : ℕ) (t : List ℕ) → n ≡ 0 → isEmpty t ≡ true → behind size so n c t ≡ so ∷ []
+  pub behind-leaf : (prefix : List ℕ) (n c : ℕ) (t : List ℕ) → n ≡ 0 → isEmpty t ≡ true → behind size prefix n c t ≡ prefix ∷ []
   unfolding behind splits
-  behind-leaf so n c t z e = rw (z, e)
+  behind-leaf prefix n c t z e = rw (z, e)
 
-  pub behind-over : (so : List ℕ) (n c : ℕ) (t : List ℕ) → n ≡ 0 → isEmpty t ≡ false → behind size so n c t ≡ []
+  pub behind-over : (prefix : List ℕ) (n c : ℕ) (t : List ℕ) → n ≡ 0 → isEmpty t ≡ false → behind size prefix n c t ≡ []
   unfolding behind splits
-  behind-over so n c t z e = rw (z, e)
+  behind-over prefix n c t z e = rw (z, e)
 
   -- past the last code
-  pub behind-end : (so : List ℕ) (n c : ℕ) (t : List ℕ) → (n ≡ 0 → ⊥) → 68 ≤ c → behind size so n c t ≡ []
+  pub behind-end : (prefix : List ℕ) (n c : ℕ) (t : List ℕ) → (n ≡ 0 → ⊥) → 68 ≤ c → behind size prefix n c t ≡ []
   unfolding behind splits step
-  behind-end so zero c t h e = absurd (h refl)
-  behind-end so (suc n) c t h e = let s : 68 - c ≡ 0 = omega arith in rw s
+  behind-end prefix zero c t h e = absurd (h refl)
+  behind-end prefix (suc n) c t h e = let s : 68 - c ≡ 0 = omega arith in rw s
 
   -- with the group of the code c, where it fits
   unfoldable pub taken : List ℕ → ℕ → ℕ → List ℕ → List (List ℕ)
-  taken so n c t = when (fits t c) (λ _. behind size (set so (size - n) c) (n - 1) c (without t c))
+  taken prefix n c t = when (fits t c) (λ _. behind size (set prefix (size - n) c) (n - 1) c (without t c))
 
-  pub taken-with : (so : List ℕ) (n c : ℕ) (t u : List ℕ) → fits t c ≡ true → u ≡ without t c → behind size (set so (size - n) c) (n - 1) c u ≡ taken so n c t
+  pub taken-with : (prefix : List ℕ) (n c : ℕ) (t u : List ℕ) → fits t c ≡ true → u ≡ without t c → behind size (set prefix (size - n) c) (n - 1) c u ≡ taken prefix n c t
   unfolding taken
-  taken-with so n c t u f e = rw (f, e)
+  taken-with prefix n c t u f e = rw (f, e)
 
-  pub taken-none : (so : List ℕ) (n c : ℕ) (t : List ℕ) → fits t c ≡ false → taken so n c t ≡ []
+  pub taken-none : (prefix : List ℕ) (n c : ℕ) (t : List ℕ) → fits t c ≡ false → taken prefix n c t ≡ []
   unfolding taken
-  taken-none so n c t f = rw f
+  taken-none prefix n c t f = rw f
 
-  map-taken : (so : List ℕ) (i c : ℕ) (x : List (List ℕ)) (f : Bool) →
-      map (sets so i) (when f (λ _. map (λ (gs : List ℕ). c ∷ gs) x)) ≡ when f (λ _. map (sets (set so i c) (suc i)) x)
-  map-taken so i c x true = map-map (sets so i) (λ (gs : List ℕ). c ∷ gs) x
-  map-taken so i c x false = refl
+  map-taken : (prefix : List ℕ) (i c : ℕ) (x : List (List ℕ)) (f : Bool) →
+      map (sets prefix i) (when f (λ _. map (λ (gs : List ℕ). c ∷ gs) x)) ≡ when f (λ _. map (sets (set prefix i c) (suc i)) x)
+  map-taken prefix i c x true = map-map (sets prefix i) (λ (gs : List ℕ). c ∷ gs) x
+  map-taken prefix i c x false = refl
 
-  map-when : (so : List ℕ) (i : ℕ) (y : List (List ℕ)) (p : Bool) → map (sets so i) (when p (λ _. y)) ≡ when p (λ _. map (sets so i) y)
-  map-when so i y true = refl
-  map-when so i y false = refl
+  map-when : (prefix : List ℕ) (i : ℕ) (y : List (List ℕ)) (p : Bool) → map (sets prefix i) (when p (λ _. y)) ≡ when p (λ _. map (sets prefix i) y)
+  map-when prefix i y true = refl
+  map-when prefix i y false = refl
 
-  pub behind-step : (so : List ℕ) (n c : ℕ) (t : List ℕ) → (n ≡ 0 → ⊥) → n ≤ size → c < 68 →
-      behind size so n c t ≡ taken so n c t ++ when (passes t c) (λ _. behind size so n (c + 1) t)
+  pub behind-step : (prefix : List ℕ) (n c : ℕ) (t : List ℕ) → (n ≡ 0 → ⊥) → n ≤ size → c < 68 →
+      behind size prefix n c t ≡ taken prefix n c t ++ when (passes t c) (λ _. behind size prefix n (c + 1) t)
   unfolding behind taken splits step
-  behind-step so zero c t h l k = absurd (h refl)
-  behind-step so (suc n) c t h l k =
+  behind-step prefix zero c t h l k = absurd (h refl)
+  behind-step prefix (suc n) c t h l k =
       let e1 : suc n - 1 ≡ n = omega arith in
       let e2 : size - n ≡ suc (size - suc n) = omega arith in
       let e3 : 68 - c ≡ suc (67 - c) = omega arith in
@@ -118,28 +118,28 @@ module _ (size : ℕ) where
       let x = splits n (suc (67 - c)) c (without t c) in
       let y = step (splits n) (67 - c) (c + 1) t in
       rw (e1, e2, e3, e4)
-      (map-append (sets so i) (when (fits t c) (λ _. map (λ (gs : List ℕ). c ∷ gs) x)) (when (passes t c) (λ _. y))
-      ∙ ap (λ (z : List (List ℕ)). z ++ map (sets so i) (when (passes t c) (λ _. y))) (map-taken so i c x (fits t c))
-      ∙ ap (λ (z : List (List ℕ)). when (fits t c) (λ _. map (sets (set so i c) (suc i)) x) ++ z) (map-when so i y (passes t c)))
+      (map-append (sets prefix i) (when (fits t c) (λ _. map (λ (gs : List ℕ). c ∷ gs) x)) (when (passes t c) (λ _. y))
+      ∙ ap (λ (z : List (List ℕ)). z ++ map (sets prefix i) (when (passes t c) (λ _. y))) (map-taken prefix i c x (fits t c))
+      ∙ ap (λ (z : List (List ℕ)). when (fits t c) (λ _. map (sets (set prefix i c) (suc i)) x) ++ z) (map-when prefix i y (passes t c)))
 
   -- at a code that passes: its splittings come before those of the next code; at one that does not, they are all
-  pub behind-next : (so : List ℕ) (n c : ℕ) (t : List ℕ) → (n ≡ 0 → ⊥) → n ≤ size → c < 68 → passes t c ≡ true →
-      behind size so n c t ≡ taken so n c t ++ behind size so n (c + 1) t
-  behind-next so n c t h l k e = behind-step so n c t h l k ∙ rw e
+  pub behind-next : (prefix : List ℕ) (n c : ℕ) (t : List ℕ) → (n ≡ 0 → ⊥) → n ≤ size → c < 68 → passes t c ≡ true →
+      behind size prefix n c t ≡ taken prefix n c t ++ behind size prefix n (c + 1) t
+  behind-next prefix n c t h l k e = behind-step prefix n c t h l k ∙ rw e
 
-  pub behind-stop : (so : List ℕ) (n c : ℕ) (t : List ℕ) → (n ≡ 0 → ⊥) → n ≤ size → c < 68 → passes t c ≡ false →
-      behind size so n c t ≡ taken so n c t ++ []
-  behind-stop so n c t h l k e = behind-step so n c t h l k ∙ rw e
+  pub behind-stop : (prefix : List ℕ) (n c : ℕ) (t : List ℕ) → (n ≡ 0 → ⊥) → n ≤ size → c < 68 → passes t c ≡ false →
+      behind size prefix n c t ≡ taken prefix n c t ++ []
+  behind-stop prefix n c t h l k e = behind-step prefix n c t h l k ∙ rw e
 
   -- the codes from c to r neither fit nor stop: the search goes on at r
-  pub behind-skip : (so : List ℕ) (n : ℕ) (t : List ℕ) → (n ≡ 0 → ⊥) → n ≤ size → (c r : ℕ) →
-      (c ≤ r) × ((j : ℕ) → c ≤ j → j < r → (j < 68) × (fits t j ≡ false) × (passes t j ≡ true)) → behind size so n c t ≡ behind size so n r t
-  behind-skip so n t h l c r a = go (r - c) c (omega (arith, a .0)) (a .1)
+  pub behind-skip : (prefix : List ℕ) (n : ℕ) (t : List ℕ) → (n ≡ 0 → ⊥) → n ≤ size → (c r : ℕ) →
+      (c ≤ r) × ((j : ℕ) → c ≤ j → j < r → (j < 68) × (fits t j ≡ false) × (passes t j ≡ true)) → behind size prefix n c t ≡ behind size prefix n r t
+  behind-skip prefix n t h l c r a = go (r - c) c (omega (arith, a .0)) (a .1)
     where
-      go : (d c : ℕ) → c + d ≡ r → ((j : ℕ) → c ≤ j → j < r → (j < 68) × (fits t j ≡ false) × (passes t j ≡ true)) → behind size so n c t ≡ behind size so n r t
-      go zero c e a = let q : c ≡ r = omega arith in ap (λ (k : ℕ). behind size so n k t) q
+      go : (d c : ℕ) → c + d ≡ r → ((j : ℕ) → c ≤ j → j < r → (j < 68) × (fits t j ≡ false) × (passes t j ≡ true)) → behind size prefix n c t ≡ behind size prefix n r t
+      go zero c e a = let q : c ≡ r = omega arith in ap (λ (k : ℕ). behind size prefix n k t) q
       go (suc d) c e a =
           let (k, f, p) = a c (omega arith) (omega arith) in
-          behind-next so n c t h l k p
-          ∙ ap (λ (x : List (List ℕ)). x ++ behind size so n (c + 1) t) (taken-none so n c t f)
+          behind-next prefix n c t h l k p
+          ∙ ap (λ (x : List (List ℕ)). x ++ behind size prefix n (c + 1) t) (taken-none prefix n c t f)
           ∙ go d (c + 1) (omega arith) (λ j u v. a j (omega arith) v)

@@ -10,7 +10,7 @@ use borrow.Author.Tests.{lt-ltb, le-ltb, le-leb, eq-eqb, ne-eqb, ltb-true, ltb-f
 use lib.Dec.{ltb, leb, eqb}
 use lib.ListN.{length, getD, length-set, List·getD-eq-default}
 use lib.Seq.{getD-set-same, getD-set-other}
-use Rattle.tiles.specs.Groups.{isGroup, at, uses}
+use Rattle.tiles.specs.Groups.{isGroup, atKind, uses}
 use Rattle.tiles.specs.laws.Below.{every-at, every-of, and-true}
 use Rattle.tiles.specs.laws.Tabulate.{getD-any}
 use Rattle.reading.specs.Reading.{usedBy, Ascends, holds}
@@ -56,12 +56,12 @@ module _ (t : List ℕ) (c : ℕ) (f : fits t c ≡ true) where
   fits-triplet h = leb-true 3 _ (rw (le-ltb c 34 h) at (and-true (isGroup c) _ f .1))
 
 -- ---- tiles of a kind
-pub at-same : (a n : ℕ) → at a n a ≡ n
-unfolding at
+pub at-same : (a n : ℕ) → atKind a n a ≡ n
+unfolding atKind
 at-same a n = rw (eq-eqb a a refl)
 
-pub at-other : (a n k : ℕ) → (a ≡ k → ⊥) → at a n k ≡ 0
-unfolding at
+pub at-other : (a n k : ℕ) → (a ≡ k → ⊥) → atKind a n k ≡ 0
+unfolding atKind
 at-other a n k h = rw (ne-eqb a k h)
 
 pub getD-pos : (t : List ℕ) (a : ℕ) → 0 < getD t a 0 → a < length t
@@ -70,13 +70,13 @@ getD-pos (x ∷ t) zero h = suc-le-suc zero-le
 getD-pos (x ∷ t) (suc a) h = suc-le-suc (getD-pos t a h)
 
 module _ (t : List ℕ) (a n : ℕ) (p : 0 < n) (h : n ≤ getD t a 0) (k : ℕ) where
-  less-case : (b : Bool) → eqb a k ≡ b → getD t k 0 ≡ at a n k + getD (less t a n) k 0
-  unfolding at less
+  less-case : (b : Bool) → eqb a k ≡ b → getD t k 0 ≡ atKind a n k + getD (less t a n) k 0
+  unfolding atKind less
   less-case true e = rw (e, ← eqb-true a k e, getD-set-same t a (getD t a 0 - n) 0 (getD-pos t a (omega arith))) (omega arith)
   less-case false e = rw (e, getD-set-other t a k (getD t a 0 - n) 0 (λ q. eqb-false a k e (sym q))) (omega arith)
 
   -- a tally is what is taken off and what is left
-  pub less-at : getD t k 0 ≡ at a n k + getD (less t a n) k 0
+  pub less-at : getD t k 0 ≡ atKind a n k + getD (less t a n) k 0
   less-at = less-case (eqb a k) refl
 
 pub less-long : (t : List ℕ) (a n : ℕ) → length t ≡ 34 → length (less t a n) ≡ 34
@@ -124,8 +124,8 @@ fits-of t c g u =
     simp (g, le-ltb c 34 h, le-leb 3 (getD t (c - 34) 0) (omega (arith, u0, at-same (c - 34) 3))))
 
 -- ---- passes
-at-either : (a n k : ℕ) (b : Bool) → eqb a k ≡ b → (at a n k ≡ 0) ⊎ (at a n k ≡ n)
-unfolding at
+at-either : (a n k : ℕ) (b : Bool) → eqb a k ≡ b → (atKind a n k ≡ 0) ⊎ (atKind a n k ≡ n)
+unfolding atKind
 at-either a n k true e = inr (rw e)
 at-either a n k false e = inl (rw e)
 
@@ -190,11 +190,11 @@ leb-three true = refl
 leb-three false = refl
 
 pub run-has : (g k : ℕ) → g < 34 → leb 1 (uses g k) ≡ eqb g k || eqb (g + 1) k || eqb (g + 2) k
-unfolding uses at
+unfolding uses atKind
 run-has g k h = rw (lt-ltb g 34 h) (leb-any (eqb g k) (eqb (g + 1) k) (eqb (g + 2) k))
 
 pub triplet-has : (g k : ℕ) → 34 ≤ g → leb 1 (uses g k) ≡ eqb (g - 34) k
-unfolding uses at
+unfolding uses atKind
 triplet-has g k h = rw (le-ltb g 34 h) (leb-three (eqb (g - 34) k))
 
 -- place 0 is the pair's, a later place its group's

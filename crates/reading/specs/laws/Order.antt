@@ -8,7 +8,7 @@ use native.Mathlib.Omega.{arith}
 use borrow.Author.Tests.{ltb-true, ltb-false, eqb-true, eqb-false}
 use lib.Dec.{ltb, eqb}
 use lib.ListN.{length, getD, take}
-use Rattle.tiles.specs.Groups.{isGroup, at}
+use Rattle.tiles.specs.Groups.{isGroup, atKind}
 use Rattle.tiles.specs.laws.Tally.{ofKind}
 use Rattle.reading.specs.Reading.{Ascends}
 use Rattle.reading.specs.Order.{Lex}
@@ -67,7 +67,7 @@ first-differs lo (g ∷ a) (k ∷ b) sa sb (inl l) = (
 )
 first-differs lo (g ∷ a) (k ∷ b) sa sb (inr (e, l)) =
     let r = first-differs g a b (sa .2) (subst (λ (x : ℕ). Ascends x b) (sym e) (sb .2)) l in
-    let z : (y : ℕ) → at g 1 y ≡ at k 1 y = λ y. ap (λ (x : ℕ). at x 1 y) e in
+    let z : (y : ℕ) → atKind g 1 y ≡ atKind k 1 y = λ y. ap (λ (x : ℕ). atKind x 1 y) e in
     (r .0, omega (arith, r .1, z (r .0)), λ y h. omega (arith, r .2 y h, z y))
 
 -- lists in order that hold as many of each code are the same
@@ -108,10 +108,10 @@ unfolding ofKind
 rank-at [] x n h = absurd (omega arith)
 rank-at (y ∷ l) x n h = go (λ m g. rank-at l x m g) (eqb y x) refl n h
   where
-    go : ((m : ℕ) → m < ofKind l x → Rank l x m) → (b : Bool) → eqb y x ≡ b → (n : ℕ) → n < at y 1 x + ofKind l x → Rank (y ∷ l) x n
+    go : ((m : ℕ) → m < ofKind l x → Rank l x m) → (b : Bool) → eqb y x ≡ b → (n : ℕ) → n < atKind y 1 x + ofKind l x → Rank (y ∷ l) x n
     go r true e zero g = (0, omega arith, eqb-true y x e, refl)
     go r true e (suc n) g =
-        let o : at y 1 x ≡ 1 = rw (eqb-true y x e) (at-same x 1) in
+        let o : atKind y 1 x ≡ 1 = rw (eqb-true y x e) (at-same x 1) in
         let s = r n (omega arith) in
         (suc (s .0), omega (arith, s .1), s .2, omega (arith, s .3))
     go r false e n g =

@@ -9,7 +9,7 @@ use borrow.Author.Tests.{lt-ltb, le-ltb, eqb-true, eqb-false, eq-eqb, ne-eqb}
 use lib.Dec.{eqb}
 use lib.ListN.{length, getD}
 use Rattle.tiles.specs.Below.{every, sum}
-use Rattle.tiles.specs.Groups.{isGroup, at, uses}
+use Rattle.tiles.specs.Groups.{isGroup, atKind, uses}
 use Rattle.tiles.specs.laws.Below.{every-at, same-test}
 use Rattle.tiles.specs.laws.Sums.{sum-cong, sum-add}
 use Rattle.reading.specs.All.{Each, none, also}
@@ -33,31 +33,31 @@ weighed-add f g =
     ∙ sum-add (λ i. sum (suc i) f) (λ i. sum (suc i) g) 9
 
 -- n tiles of a kind, among the nine of a suit
-module _ (n : ℕ) (all : every 9 (λ r. eqb (weighed (at r n)) (n * (9 - r))) ≡ true) (a s : ℕ) where
-  weight : weighed (λ i. at a n (9 * s + i)) ≡ cond (eqb (a / 9) s) (n * (9 - a % 9)) 0
-  unfolding at
+module _ (n : ℕ) (all : every 9 (λ r. eqb (weighed (atKind r n)) (n * (9 - r))) ≡ true) (a s : ℕ) where
+  weight : weighed (λ i. atKind a n (9 * s + i)) ≡ cond (eqb (a / 9) s) (n * (9 - a % 9)) 0
+  unfolding atKind
   weight = go (eqb (a / 9) s) refl
     where
       go : (b : Bool) → eqb (a / 9) s ≡ b → weighed (λ i. cond (eqb a (9 * s + i)) n 0) ≡ cond b (n * (9 - a % 9)) 0
       go true e =
           let q = eqb-true (a / 9) s e in
-          weighed-cong (λ i. cond (eqb a (9 * s + i)) n 0) (at (a % 9) n)
+          weighed-cong (λ i. cond (eqb a (9 * s + i)) n 0) (atKind (a % 9) n)
           (λ i l. rw (same-test a (9 * s + i) (a % 9) i (λ z. omega arith) (λ z. omega arith)))
-          ∙ eqb-true _ _ (every-at (λ r. eqb (weighed (at r n)) (n * (9 - r))) 9 (a % 9) all (omega arith))
+          ∙ eqb-true _ _ (every-at (λ r. eqb (weighed (atKind r n)) (n * (9 - r))) 9 (a % 9) all (omega arith))
       go false e =
           let q = eqb-false (a / 9) s e in
           weighed-cong (λ i. cond (eqb a (9 * s + i)) n 0) (λ i. 0) (λ i l. rw (ne-eqb a (9 * s + i) (λ z. q (omega arith))))
 
-one-each : every 9 (λ r. eqb (weighed (at r 1)) (1 * (9 - r))) ≡ true
-unfolding every at
+one-each : every 9 (λ r. eqb (weighed (atKind r 1)) (1 * (9 - r))) ≡ true
+unfolding every atKind
 one-each = refl
 
-two-each : every 9 (λ r. eqb (weighed (at r 2)) (2 * (9 - r))) ≡ true
-unfolding every at
+two-each : every 9 (λ r. eqb (weighed (atKind r 2)) (2 * (9 - r))) ≡ true
+unfolding every atKind
 two-each = refl
 
-three-each : every 9 (λ r. eqb (weighed (at r 3)) (3 * (9 - r))) ≡ true
-unfolding every at
+three-each : every 9 (λ r. eqb (weighed (atKind r 3)) (3 * (9 - r))) ≡ true
+unfolding every atKind
 three-each = refl
 
 -- ---- groups weigh threes
@@ -77,9 +77,9 @@ group-weight c s g =
     let w = run-in c g l in
     let e1 : (c + 1) / 9 ≡ c / 9 = omega arith in
     let e2 : (c + 2) / 9 ≡ c / 9 = omega arith in
-    let f : ℕ → ℕ → ℕ = λ j i. at (c + j) 1 (9 * s + i) in
-    let p : weighed (λ i. at c 1 (9 * s + i) + f 1 i + f 2 i) ≡ weighed (λ i. at c 1 (9 * s + i)) + weighed (f 1) + weighed (f 2) =
-    weighed-add (λ i. at c 1 (9 * s + i) + f 1 i) (f 2) ∙ ap (λ (x : ℕ). x + weighed (f 2)) (weighed-add (λ i. at c 1 (9 * s + i)) (f 1)) in
+    let f : ℕ → ℕ → ℕ = λ j i. atKind (c + j) 1 (9 * s + i) in
+    let p : weighed (λ i. atKind c 1 (9 * s + i) + f 1 i + f 2 i) ≡ weighed (λ i. atKind c 1 (9 * s + i)) + weighed (f 1) + weighed (f 2) =
+    weighed-add (λ i. atKind c 1 (9 * s + i) + f 1 i) (f 2) ∙ ap (λ (x : ℕ). x + weighed (f 2)) (weighed-add (λ i. atKind c 1 (9 * s + i)) (f 1)) in
     rw (lt-ltb c 34 l, p, weight 1 one-each c s, weight 1 one-each (c + 1) s, weight 1 one-each (c + 2) s, e1, e2)
     (run-weight (eqb (c / 9) s) _ _ _ (omega arith)))
     (λ l. rw (le-ltb c 34 l, weight 3 three-each (c - 34) s) (triplet-weight (eqb ((c - 34) / 9) s) (9 - (c - 34) % 9)))
@@ -122,11 +122,11 @@ module _ {t : List ℕ} {k : ℕ} {gs : List ℕ} (p : PairBeside t k gs) where
   suit-sum : (s : ℕ) → sum 9 (λ i. getD t (9 * s + i) 0) % 3 ≡ cond (eqb (k / 9) s) 2 0
   suit-sum s = go (eqb (k / 9) s) (nine k 2 s)
     where
-      e : sum 9 (λ i. getD t (9 * s + i) 0) ≡ sum 9 (λ i. at k 2 (9 * s + i)) + sum 9 (λ i. usedBy gs (9 * s + i))
-      e = sum-cong (λ i. getD t (9 * s + i) 0) (λ i. at k 2 (9 * s + i) + usedBy gs (9 * s + i)) 9 (λ i h. p .tiles (9 * s + i))
-          ∙ sum-add (λ i. at k 2 (9 * s + i)) (λ i. usedBy gs (9 * s + i)) 9
+      e : sum 9 (λ i. getD t (9 * s + i) 0) ≡ sum 9 (λ i. atKind k 2 (9 * s + i)) + sum 9 (λ i. usedBy gs (9 * s + i))
+      e = sum-cong (λ i. getD t (9 * s + i) 0) (λ i. atKind k 2 (9 * s + i) + usedBy gs (9 * s + i)) 9 (λ i h. p .tiles (9 * s + i))
+          ∙ sum-add (λ i. atKind k 2 (9 * s + i)) (λ i. usedBy gs (9 * s + i)) 9
 
-      go : (b : Bool) → sum 9 (λ i. at k 2 (9 * s + i)) ≡ cond b 2 0 → sum 9 (λ i. getD t (9 * s + i) 0) % 3 ≡ cond b 2 0
+      go : (b : Bool) → sum 9 (λ i. atKind k 2 (9 * s + i)) ≡ cond b 2 0 → sum 9 (λ i. getD t (9 * s + i) 0) % 3 ≡ cond b 2 0
       go true h = rw (e, h) (omega (arith, suit-threes gs s (p .codes)))
       go false h = rw (e, h) (omega (arith, suit-threes gs s (p .codes)))
 
@@ -138,10 +138,10 @@ module _ {t : List ℕ} {k : ℕ} {gs : List ℕ} (p : PairBeside t k gs) where
 
   pub weight-of-pair : (s : ℕ) → k / 9 ≡ s → weighed (λ i. getD t (9 * s + i) 0) % 3 ≡ k % 3
   weight-of-pair s q =
-      let e : weighed (λ i. getD t (9 * s + i) 0) ≡ weighed (λ i. at k 2 (9 * s + i)) + weighed (λ i. usedBy gs (9 * s + i)) =
-      weighed-cong (λ i. getD t (9 * s + i) 0) (λ i. at k 2 (9 * s + i) + usedBy gs (9 * s + i)) (λ i h. p .tiles (9 * s + i))
-      ∙ weighed-add (λ i. at k 2 (9 * s + i)) (λ i. usedBy gs (9 * s + i)) in
-      let w : weighed (λ i. at k 2 (9 * s + i)) ≡ 2 * (9 - k % 9) = weight 2 two-each k s ∙ rw (eq-eqb (k / 9) s q) in
+      let e : weighed (λ i. getD t (9 * s + i) 0) ≡ weighed (λ i. atKind k 2 (9 * s + i)) + weighed (λ i. usedBy gs (9 * s + i)) =
+      weighed-cong (λ i. getD t (9 * s + i) 0) (λ i. atKind k 2 (9 * s + i) + usedBy gs (9 * s + i)) (λ i h. p .tiles (9 * s + i))
+      ∙ weighed-add (λ i. atKind k 2 (9 * s + i)) (λ i. usedBy gs (9 * s + i)) in
+      let w : weighed (λ i. atKind k 2 (9 * s + i)) ≡ 2 * (9 - k % 9) = weight 2 two-each k s ∙ rw (eq-eqb (k / 9) s q) in
       rw (e, w) (omega (arith, weight-threes gs s (p .codes)))
 
   -- an honour has two tiles over threes, any other honour threes
@@ -171,6 +171,6 @@ no-splits t first last k long only out two n =
     (only k gs
     (record {
       codes = ascends-groups 0 gs (s .order);
-      tiles = λ j. less-at t k 2 (omega arith) two j ∙ ap (λ (x : ℕ). at k 2 j + x) (s .tiles j);
+      tiles = λ j. less-at t k 2 (omega arith) two j ∙ ap (λ (x : ℕ). atKind k 2 j + x) (s .tiles j);
     })))
     (splits-sound n 68 0 (less t k 2) (less-long t k 2 long))

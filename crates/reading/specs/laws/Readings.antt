@@ -9,7 +9,7 @@ use borrow.Author.Tests.{le-leb, leb-true, eq-eqb, eqb-true}
 use lib.Dec.{leb, eqb}
 use lib.ListN.{length, getD, replicate}
 use Rattle.tiles.specs.Below.{tabulate}
-use Rattle.tiles.specs.Groups.{at}
+use Rattle.tiles.specs.Groups.{atKind}
 use Rattle.reading.specs.declared.Reading.{Reading}
 use Rattle.reading.specs.Reading.{holds, IsRegular, isSevenPairs, isOrphans, ofShape, IsReading, regular, pairs, orphans}
 use Rattle.reading.specs.Order.{Lex, Before}
@@ -31,7 +31,7 @@ module _ (t : List ℕ) (m win : ℕ) (l : length t ≡ 34) where
         groups = refl;
         order = s .order;
         pair = h;
-        tiles = λ j. less-at t k 2 (omega arith) two j ∙ ap (λ (x : ℕ). at k 2 j + x) (s .tiles j);
+        tiles = λ j. less-at t k 2 (omega arith) two j ∙ ap (λ (x : ℕ). atKind k 2 j + x) (s .tiles j);
         place = q;
         holding = e;
       }

@@ -9,7 +9,7 @@ use borrow.Author.Tests.{lt-ltb, le-ltb, ltb-true, ltb-false, eqb-true, eqb-fals
 use lib.Dec.{ltb, eqb}
 use lib.ListN.{length}
 use Rattle.tiles.specs.Below.{sum}
-use Rattle.tiles.specs.Groups.{isRun, isGroup, at, uses}
+use Rattle.tiles.specs.Groups.{isRun, isGroup, atKind, uses}
 use Rattle.tiles.specs.laws.Tally.{ofKind}
 use Rattle.reading.specs.Reading.{usedBy, Ascends}
 use Rattle.reading.specs.laws.Groups.{run-in, run-or, at-other}
@@ -39,8 +39,8 @@ ofSuit s l = sumOver (one s) l
 -- ---- tiles of a suit are three for each of its groups
 
 -- of the nine kinds of a suit
-pub nine : (a n s : ℕ) → sum 9 (λ i. at a n (9 * s + i)) ≡ cond (eqb (a / 9) s) n 0
-unfolding at
+pub nine : (a n s : ℕ) → sum 9 (λ i. atKind a n (9 * s + i)) ≡ cond (eqb (a / 9) s) n 0
+unfolding atKind
 nine a n s = go (eqb (a / 9) s) refl
   where
     go : (b : Bool) → eqb (a / 9) s ≡ b → sum 9 (λ i. cond (eqb a (9 * s + i)) n 0) ≡ cond b n 0
@@ -70,8 +70,8 @@ group-tiles c s g =
     let e1 : (c + 1) / 9 ≡ c / 9 = omega arith in
     let e2 : (c + 2) / 9 ≡ c / 9 = omega arith in
     rw (lt-ltb c 34 l, suit-run c l)
-    (sum-add (λ i. at c 1 (9 * s + i) + at (c + 1) 1 (9 * s + i)) (λ i. at (c + 2) 1 (9 * s + i)) 9
-    ∙ ap (λ (x : ℕ). x + sum 9 (λ i. at (c + 2) 1 (9 * s + i))) (sum-add (λ i. at c 1 (9 * s + i)) (λ i. at (c + 1) 1 (9 * s + i)) 9)
+    (sum-add (λ i. atKind c 1 (9 * s + i) + atKind (c + 1) 1 (9 * s + i)) (λ i. atKind (c + 2) 1 (9 * s + i)) 9
+    ∙ ap (λ (x : ℕ). x + sum 9 (λ i. atKind (c + 2) 1 (9 * s + i))) (sum-add (λ i. atKind c 1 (9 * s + i)) (λ i. atKind (c + 1) 1 (9 * s + i)) 9)
     ∙ rw (nine c 1 s, nine (c + 1) 1 s, nine (c + 2) 1 s, e1, e2) (ones (eqb (c / 9) s))))
     (λ l. rw (le-ltb c 34 l, suit-triplet c l) (nine (c - 34) 3 s ∙ threes (eqb ((c - 34) / 9) s)))
 
@@ -82,14 +82,14 @@ suit-tiles lo (c ∷ l) s o =
     sum-add (λ i. uses c (9 * s + i)) (λ i. usedBy l (9 * s + i)) 9 ∙ omega (arith, group-tiles c s (o .1), suit-tiles c l s (o .2))
 
 -- two pairs with groups that have the same tiles are of one suit
-module _ (x y : ℕ) (a b : List ℕ) (oa : Ascends 0 a) (ob : Ascends 0 b) (same : (k : ℕ) → at x 2 k + usedBy a k ≡ at y 2 k + usedBy b k) where
+module _ (x y : ℕ) (a b : List ℕ) (oa : Ascends 0 a) (ob : Ascends 0 b) (same : (k : ℕ) → atKind x 2 k + usedBy a k ≡ atKind y 2 k + usedBy b k) where
   -- a pair of z and the groups l, in the suit s
   abbrev held : ℕ → ℕ → List ℕ → ℕ
-  held s z l = sum 9 (λ i. at z 2 (9 * s + i) + usedBy l (9 * s + i))
+  held s z l = sum 9 (λ i. atKind z 2 (9 * s + i) + usedBy l (9 * s + i))
 
   in-suit : (s z : ℕ) (l : List ℕ) → Ascends 0 l → held s z l ≡ cond (eqb (z / 9) s) 2 0 + 3 * ofSuit s l
   in-suit s z l o =
-      sum-add (λ i. at z 2 (9 * s + i)) (λ i. usedBy l (9 * s + i)) 9 ∙ rw (nine z 2 s, suit-tiles 0 l s o)
+      sum-add (λ i. atKind z 2 (9 * s + i)) (λ i. usedBy l (9 * s + i)) 9 ∙ rw (nine z 2 s, suit-tiles 0 l s o)
 
   pub pairs-alike : x / 9 ≡ y / 9
   pairs-alike = sym (go (eqb (y / 9) s) refl)
@@ -98,7 +98,7 @@ module _ (x y : ℕ) (a b : List ℕ) (oa : Ascends 0 a) (ob : Ascends 0 b) (sam
       s = x / 9
 
       e : held s x a ≡ held s y b
-      e = sum-cong (λ i. at x 2 (9 * s + i) + usedBy a (9 * s + i)) (λ i. at y 2 (9 * s + i) + usedBy b (9 * s + i)) 9 (λ i l. same (9 * s + i))
+      e = sum-cong (λ i. atKind x 2 (9 * s + i) + usedBy a (9 * s + i)) (λ i. atKind y 2 (9 * s + i) + usedBy b (9 * s + i)) 9 (λ i l. same (9 * s + i))
 
       go : (t : Bool) → eqb (y / 9) s ≡ t → y / 9 ≡ s
       go true t = eqb-true (y / 9) s t
@@ -111,26 +111,26 @@ module _ (x y : ℕ) (a b : List ℕ) (oa : Ascends 0 a) (ob : Ascends 0 b) (sam
 
 -- how many runs end at x
 abbrev runsTo : List ℕ → ℕ → ℕ
-runsTo l x = sumOver (λ c. at (c + 2) 1 x) l
+runsTo l x = sumOver (λ c. atKind (c + 2) 1 x) l
 
-at-shift : (a j n k : ℕ) → at (a + j) n (k + j) ≡ at a n k
-unfolding at
+at-shift : (a j n k : ℕ) → atKind (a + j) n (k + j) ≡ atKind a n k
+unfolding atKind
 at-shift a j n k = rw (same-test (a + j) (k + j) a k (λ e. omega arith) (λ e. omega arith))
 
-pub three-at : (c k : ℕ) → 34 ≤ c → at (c - 34) 3 k ≡ 3 * at c 1 (34 + k)
-unfolding at
+pub three-at : (c k : ℕ) → 34 ≤ c → atKind (c - 34) 3 k ≡ 3 * atKind c 1 (34 + k)
+unfolding atKind
 three-at c k l = rw (same-test c (34 + k) (c - 34) k (λ z. omega arith) (λ z. omega arith)) (threes (eqb (c - 34) k))
 
-uses-counted : (c k : ℕ) → k < 34 → uses c k ≡ at (c + 2) 1 (k + 2) + at (c + 2) 1 (k + 1) + at (c + 2) 1 k + 3 * at c 1 (34 + k)
+uses-counted : (c k : ℕ) → k < 34 → uses c k ≡ atKind (c + 2) 1 (k + 2) + atKind (c + 2) 1 (k + 1) + atKind (c + 2) 1 k + 3 * atKind c 1 (34 + k)
 unfolding uses
 uses-counted c k h =
     run-or c
     (λ l.
     let e : c + 1 + 1 ≡ c + 2 = omega arith in
-    let b : at (c + 2) 1 (k + 1) ≡ at (c + 1) 1 k = ap (λ (x : ℕ). at x 1 (k + 1)) (sym e) ∙ at-shift (c + 1) 1 1 k in
+    let b : atKind (c + 2) 1 (k + 1) ≡ atKind (c + 1) 1 k = ap (λ (x : ℕ). atKind x 1 (k + 1)) (sym e) ∙ at-shift (c + 1) 1 1 k in
     rw (lt-ltb c 34 l) (omega (arith, at-shift c 2 1 k, b, at-other c 1 (34 + k) (λ z. omega arith))))
     (λ l.
-    let none : (x : ℕ) → x < 36 → at (c + 2) 1 x ≡ 0 = λ x g. at-other (c + 2) 1 x (λ z. omega arith) in
+    let none : (x : ℕ) → x < 36 → atKind (c + 2) 1 x ≡ 0 = λ x g. at-other (c + 2) 1 x (λ z. omega arith) in
     rw (le-ltb c 34 l) (omega (arith, three-at c k l, none (k + 2) (omega arith), none (k + 1) (omega arith), none k (omega arith))))
 
 used-counted : (l : List ℕ) (k : ℕ) → k < 34 → usedBy l k ≡ runsTo l (k + 2) + runsTo l (k + 1) + runsTo l k + 3 * ofKind l (34 + k)
@@ -154,7 +154,7 @@ runs-none lo (c ∷ l) x o h g =
 -- ---- two lists of groups with the same tiles
 
 suit-le : (l : List ℕ) (x : ℕ) → ofKind l x ≤ ofSuit (suitOf x) l
-unfolding sumOver ofKind at
+unfolding sumOver ofKind atKind
 suit-le [] x = omega arith
 suit-le (c ∷ l) x = omega (arith, go (eqb c x) refl, suit-le l x)
   where
@@ -262,7 +262,7 @@ uses-suit c k g h = go (eqb (suitOf c) (k / 9)) refl
         (λ l.
         let w = run-in c g l in
         let q = suit-run c l in
-        let z : (j : ℕ) → j ≤ 2 → at (c + j) 1 k ≡ 0 = λ j h. at-other (c + j) 1 k (λ e. d (omega arith)) in
+        let z : (j : ℕ) → j ≤ 2 → atKind (c + j) 1 k ≡ 0 = λ j h. at-other (c + j) 1 k (λ e. d (omega arith)) in
         rw (lt-ltb c 34 l) (omega (arith, at-other c 1 k (λ e. d (omega arith)), z 1 (omega arith), z 2 (omega arith))))
         (λ l. let q = suit-triplet c l in rw (le-ltb c 34 l) (at-other (c - 34) 3 k (λ e. d (q ∙ ap (λ (z : ℕ). z / 9) e))))
 

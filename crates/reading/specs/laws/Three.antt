@@ -10,7 +10,7 @@ use borrow.Author.Tests.{lt-ltb, le-ltb, ltb-true, ltb-false, eqb-true}
 use lib.Dec.{ltb, eqb}
 use lib.ListN.{length, getD, length-append, length-map}
 use Rattle.tiles.specs.Below.{sum}
-use Rattle.tiles.specs.Groups.{at, uses}
+use Rattle.tiles.specs.Groups.{atKind, uses}
 use Rattle.tiles.specs.laws.Sums.{sum-cong, sum-add, sum-at}
 use Rattle.reading.specs.All.{Each, also}
 use Rattle.reading.specs.Reading.{usedBy, Ascends}
@@ -34,26 +34,26 @@ module _ (c g : ℕ) (h : c ≤ g) where
   run-below l k i =
       rw (lt-ltb g 34 l) (omega (arith, at-other g 1 k (λ e. omega arith), at-other (g + 1) 1 k (λ e. omega arith), at-other (g + 2) 1 k (λ e. omega arith)))
 
-  run-at : g < 34 → uses g c ≡ at g 1 c
+  run-at : g < 34 → uses g c ≡ atKind g 1 c
   unfolding uses
   run-at l = rw (lt-ltb g 34 l) (omega (arith, at-other (g + 1) 1 c (λ e. omega arith), at-other (g + 2) 1 c (λ e. omega arith)))
 
   triplet-below : 34 ≤ g → sum c (uses g) ≤ 3
   unfolding uses
   triplet-below l =
-      let e = sum-cong (uses g) (at (g - 34) 3) c (λ i h. rw (le-ltb g 34 l)) in
+      let e = sum-cong (uses g) (atKind (g - 34) 3) c (λ i h. rw (le-ltb g 34 l)) in
       omega (arith, go (ltb (g - 34) c) refl)
     where
-      go : (b : Bool) → ltb (g - 34) c ≡ b → sum c (at (g - 34) 3) ≤ 3
+      go : (b : Bool) → ltb (g - 34) c ≡ b → sum c (atKind (g - 34) 3) ≤ 3
       go true e = omega (arith, sum-at (g - 34) 3 c (ltb-true (g - 34) c e))
-      go false e = let m = ltb-false (g - 34) c e in omega (arith, sum-zero (at (g - 34) 3) c (λ i l. at-other (g - 34) 3 i (λ z. omega arith)))
+      go false e = let m = ltb-false (g - 34) c e in omega (arith, sum-zero (atKind (g - 34) 3) c (λ i l. at-other (g - 34) 3 i (λ z. omega arith)))
 
   triplet-at : 34 ≤ g → uses g c % 3 ≡ 0
   unfolding uses
   triplet-at l = rw (le-ltb g 34 l) (omega (arith, three-at g c l))
 
-at-one : (g c : ℕ) → at g 1 c ≤ 1
-unfolding at
+at-one : (g c : ℕ) → atKind g 1 c ≤ 1
+unfolding atKind
 at-one g c = go (eqb g c)
   where
     go : (b : Bool) → cond b 1 0 ≤ 1

@@ -4,14 +4,14 @@ use mathlib.Core.Bool.{true}
 use mathlib.Core.List.{List}
 use Prim.Native.Nat.{ℕ, _+_, _%_, _≤_}
 use lib.ListN.{getD}
-use Rattle.tiles.specs.Groups.{isGroup, at}
+use Rattle.tiles.specs.Groups.{isGroup, atKind}
 use Rattle.reading.specs.Reading.{usedBy}
 use Rattle.reading.specs.All.{Each}
 
 -- a pair of the kind k and the groups gs use every tile of t exactly once
 pub record PairBeside (t : List ℕ) (k : ℕ) (gs : List ℕ) : Type 0 where
   pub codes : Each (λ g. isGroup g ≡ true) gs
-  pub tiles : (j : ℕ) → getD t j 0 ≡ at k 2 j + usedBy gs j
+  pub tiles : (j : ℕ) → getD t j 0 ≡ atKind k 2 j + usedBy gs j
 
 -- k is one of first, first + 3, .. up to last
 abbrev pub Among : ℕ → ℕ → ℕ → Type 0

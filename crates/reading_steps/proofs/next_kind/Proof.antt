@@ -12,10 +12,10 @@ use Rattle.reading_steps.proofs.next_kind.Statement.{statement}
 use Rattle.reading_steps.proofs.next_kind.Tie as tie
 
 -- the kinds from k to i have no tile
-abbrev Bare : List ℕ → ℕ → ℕ → Type 0
-Bare t k i = (j : ℕ) → k ≤ j → j < i → getD t j 0 ≡ 0
+abbrev NoneBetween : List ℕ → ℕ → ℕ → Type 0
+NoneBetween t k i = (j : ℕ) → k ≤ j → j < i → getD t j 0 ≡ 0
 
-more : (t : List ℕ) (k i : ℕ) → Bare t k i → getD t i 0 ≡ 0 → Bare t k (i + 1)
+more : (t : List ℕ) (k i : ℕ) → NoneBetween t k i → getD t i 0 ≡ 0 → NoneBetween t k (i + 1)
 more t k i h e j p q = go (ltb j i) refl
   where
     go : (b : Bool) → ltb j i ≡ b → getD t j 0 ≡ 0
@@ -25,7 +25,7 @@ more t k i h e j p q = go (ltb j i) refl
         ap (λ (n : ℕ). getD t n 0) z ∙ e
 
 abbrev Inv-loop : tie.InvT-loop
-Inv-loop t k i₀ i = (k ≤ i) × (i ≤ 34) × Bare t k i
+Inv-loop t k i₀ i = (k ≤ i) × (i ≤ 34) × NoneBetween t k i
 
 abbrev μ-loop : tie.MeasureT-loop
 μ-loop t k i₀ i = 34 - i

@@ -12,26 +12,26 @@ use Rattle.tiles.specs.laws.Tally.{length-tally, getD-tally}
 use Rattle.hand.specs.declared.Held.{Held}
 use Rattle.hand.specs.Held.{inMelds, inOthers}
 use Rattle.unfinished.specs.Unfinished.{heldOf, refusalOf}
-use Rattle.choices.specs.search.Tallies.{HandTally, WaitTally}
-use Rattle.choices.specs.laws.Sums.{total-suc, total-cong, total-none, total-le-of}
-use Rattle.nearest.specs.laws.Attained.{nearest-exists}
+use Rattle.ready_choices.specs.search.Tallies.{HandTally, WaitTally}
+use Rattle.ready_choices.specs.laws.Sums.{total-suc, total-cong, total-none, total-le-of}
+use Rattle.ready_nearest.specs.laws.Attained.{nearest-exists}
 use Rattle.ready.specs.declared.Ready.{Ready}
-use Rattle.ready.specs.Ready.{Beside, IsReady, IsNearest, swaps, IsAnswer, unread, nearest}
-use Rattle.ready.specs.search.Written.{besideWith}
+use Rattle.ready.specs.Ready.{SameMelds, IsReady, IsNearest, swaps, IsAnswer, unreadable, nearest}
+use Rattle.ready.specs.search.Written.{sameMeldsWith}
 use Rattle.ready.specs.laws.Written.{written-exists}
 use Rattle.ready.specs.laws.Tallies.{tally-cong, same-melds, wait-tally, tally-wait, melds-tally, hand-tally}
 use Rattle.ready.specs.laws.Nearest.{nearest-written}
-use Rattle.ready.specs.laws.Answer.{beside-self}
+use Rattle.ready.specs.laws.Answer.{same-melds-self}
 
 -- ---- there is one
 
 pub nearest-hand : (s : List ℕ) → refusalOf s ≡ 0 → (n : ℕ) × (y : Held) × IsNearest (heldOf s) n y
 nearest-hand s e =
     let x = heldOf s in
-    let (few, b) = beside-self s e in
+    let (few, b) = same-melds-self s e in
     let (n, u, q) = nearest-exists (tallyOf (inOthers x)) (tallyOf (inMelds x)) (x .m) (hand-tally x few (b .sound)) (length-tally (inMelds x)) (melds-tally x few) in
     let (i, r, w) = written-exists u (omega (arith, q .ready .hand .tiles)) in
-    (n, besideWith x r, nearest-written x few b u r n i q w)
+    (n, sameMeldsWith x r, nearest-written x few b u r n i q w)
 
 -- ---- no swap
 
@@ -58,9 +58,9 @@ swaps-self x = total-none (λ k. inOthers x k - inOthers x k) 34 (λ k l. omega 
 tiles-of : (x : Held) → HandTally (tallyOf (inOthers x)) (tallyOf (inMelds x)) (x .m) → total 34 (inOthers x) + 3 * x .m ≡ 13
 tiles-of x h = omega (arith, h .tiles, total-cong (λ k. getD (tallyOf (inOthers x)) k 0) (inOthers x) 34 (λ k l. getD-tally (inOthers x) k l))
 
-module _ (x : Held) (few : x .m ≤ 4) (b : Beside x x) where
+module _ (x : Held) (few : x .m ≤ 4) (b : SameMelds x x) where
   -- a hand no swap away has the same tiles
-  same-tiles : (y : Held) → Beside x y → swaps x y ≡ 0 → (k : ℕ) → k < 34 → inOthers x k ≡ inOthers y k
+  same-tiles : (y : Held) → SameMelds x y → swaps x y ≡ 0 → (k : ℕ) → k < 34 → inOthers x k ≡ inOthers y k
   unfolding swaps
   same-tiles y h e =
       let n : y .m ≡ x .m = h .number in
@@ -86,13 +86,13 @@ module _ (x : Held) (few : x .m ≤ 4) (b : Beside x x) where
 -- ---- answers
 
 pub one-number : (s : List ℕ) (a b : Ready) → IsAnswer s a → IsAnswer s b → (a .refusal ≡ b .refusal) × (a .swaps ≡ b .swaps)
-one-number s a b (unread p) (unread q) = (refl, refl)
-one-number s a b (unread p) (nearest e n y q) = absurd (omega arith)
-one-number s a b (nearest e n y q) (unread p) = absurd (omega arith)
+one-number s a b (unreadable p) (unreadable q) = (refl, refl)
+one-number s a b (unreadable p) (nearest e n y q) = absurd (omega arith)
+one-number s a b (nearest e n y q) (unreadable p) = absurd (omega arith)
 one-number s a b (nearest e n y p) (nearest f m z q) = (refl, omega (arith, p .away, q .away, p .fewest z (q .hand) (q .ready), q .fewest y (p .hand) (p .ready)))
 
 pub zero-when-ready : (s : List ℕ) (r : Ready) → refusalOf s ≡ 0 → IsAnswer s r → (r .swaps ≡ 0) ↔ IsReady (heldOf s)
-zero-when-ready s r e (unread p) = absurd (omega arith)
+zero-when-ready s r e (unreadable p) = absurd (omega arith)
 zero-when-ready s r e (nearest f n y q) =
-    let (few, b) = beside-self s e in
+    let (few, b) = same-melds-self s e in
     (λ z. zero-ready (heldOf s) few b y (subst (λ (m : ℕ). IsNearest (heldOf s) m y) z q), λ w. ready-zero (heldOf s) few b n y w q)

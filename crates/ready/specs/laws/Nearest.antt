@@ -14,17 +14,17 @@ use Rattle.tiles.specs.laws.Tally.{tally-ext, getD-tally}
 use Rattle.hand.specs.declared.Held.{Held}
 use Rattle.hand.specs.Held.{meldTile, someMeld, others, inMelds, inOthers, inHeld, tileOver33, chiWithoutRun, wrongHeld, descends, overFour, unusedNotZero}
 use Rattle.unfinished.specs.laws.Sound.{clean-of, of-clean}
-use Rattle.choices.specs.search.Tallies.{HandTally, ReadyTally, MeldsTally, NearestTally}
-use Rattle.ready.specs.Ready.{Beside, IsReady, IsNearest}
-use Rattle.ready.specs.search.Written.{besideWith, inFirst, Written}
+use Rattle.ready_choices.specs.search.Tallies.{HandTally, ReadyTally, MeldsTally, NearestTally}
+use Rattle.ready.specs.Ready.{SameMelds, IsReady, IsNearest}
+use Rattle.ready.specs.search.Written.{sameMeldsWith, inFirst, Written}
 use Rattle.ready.specs.laws.Tallies.{tally-cong, same-melds, tally-wait, melds-tally, hand-tally, ready-tally, swaps-tally}
 
 -- ---- a hand beside the melds of x
 
-module _ (x : Held) (few : x .m ≤ 4) (b : Beside x x) where
+module _ (x : Held) (few : x .m ≤ 4) (b : SameMelds x x) where
   -- a ready hand beside them, as a tally
-  beside-ready : (z : Held) → Beside x z → IsReady z → ReadyTally (tallyOf (inOthers z)) (tallyOf (inMelds x)) (x .m)
-  beside-ready z h r =
+  same-melds-ready : (z : Held) → SameMelds x z → IsReady z → ReadyTally (tallyOf (inOthers z)) (tallyOf (inMelds x)) (x .m)
+  same-melds-ready z h r =
       let e : tallyOf (inMelds z) ≡ tallyOf (inMelds x) = tally-cong (inMelds z) (inMelds x) (λ k l. same-melds x z (h .number) (h .melds) k) in
       let n : z .m ≡ x .m = h .number in
       subst (λ (m : ℕ). ReadyTally (tallyOf (inOthers z)) (tallyOf (inMelds x)) m) n
@@ -32,7 +32,7 @@ module _ (x : Held) (few : x .m ≤ 4) (b : Beside x x) where
 
   module _ (u r : List ℕ) (h : HandTally u (tallyOf (inMelds x)) (x .m)) (n : ℕ) (w : Written u 34 0 n r) where
     y : Held
-    y = besideWith x r
+    y = sameMeldsWith x r
 
     many : n ≡ 13 - 3 * x .m
     many = omega (arith, w .many, h .tiles)
@@ -41,7 +41,7 @@ module _ (x : Held) (few : x .m ≤ 4) (b : Beside x x) where
     unfolding inOthers y
     written-at k l = ap (λ (i : ℕ). inFirst r i k) (sym many) ∙ w .before k l
 
-    pub written-tally : u ≡ tallyOf (inOthers (besideWith x r))
+    pub written-tally : u ≡ tallyOf (inOthers (sameMeldsWith x r))
     unfolding y
     written-tally = tally-ext u (inOthers y) (h .kinds) (λ k l. sym (written-at k l))
 
@@ -81,27 +81,27 @@ module _ (x : Held) (few : x .m ≤ 4) (b : Beside x x) where
         used i true e = refl
         used i false e = eq-eqb (getD r i 0) 0 (w .zeros i (omega (arith, ltb-false i (13 - 3 * x .m) e, many)))
 
-    pub beside-written : Beside x (besideWith x r)
+    pub same-melds-written : SameMelds x (sameMeldsWith x r)
     unfolding y
-    beside-written = record {
+    same-melds-written = record {
       number = refl;
       melds = refl;
-      sound = of-clean (besideWith x r) 0 (record { held = no-wrong; order = no-descent; four = no-five });
+      sound = of-clean (sameMeldsWith x r) 0 (record { held = no-wrong; order = no-descent; four = no-five });
       long = w .long;
       unused = no-unused;
     }
 
   -- the nearest tally, written out, is the nearest hand
-  pub nearest-written : (u r : List ℕ) (a n : ℕ) → NearestTally (tallyOf (inOthers x)) (tallyOf (inMelds x)) (x .m) a u → Written u 34 0 n r → IsNearest x a (besideWith x r)
+  pub nearest-written : (u r : List ℕ) (a n : ℕ) → NearestTally (tallyOf (inOthers x)) (tallyOf (inMelds x)) (x .m) a u → Written u 34 0 n r → IsNearest x a (sameMeldsWith x r)
   nearest-written u r a n q w =
       let h = q .ready .hand in
-      let e : u ≡ tallyOf (inOthers (besideWith x r)) = written-tally u r h n w in
-      let melds : tallyOf (inMelds x) ≡ tallyOf (inMelds (besideWith x r)) = tally-cong (inMelds x) (inMelds (besideWith x r)) (λ k l. sym (same-melds x (besideWith x r) refl refl k)) in
+      let e : u ≡ tallyOf (inOthers (sameMeldsWith x r)) = written-tally u r h n w in
+      let melds : tallyOf (inMelds x) ≡ tallyOf (inMelds (sameMeldsWith x r)) = tally-cong (inMelds x) (inMelds (sameMeldsWith x r)) (λ k l. sym (same-melds x (sameMeldsWith x r) refl refl k)) in
       record {
-        hand = beside-written u r h n w;
-        ready = (q .ready .kind, tally-wait (besideWith x r) (q .ready .kind) (rw (e, melds) at (q .ready .wait)));
-        away = sym (swaps-tally x (besideWith x r)) ∙ (rw e at (q .away));
-        fewest = λ z g s. rw (← swaps-tally x z) (q .fewest (tallyOf (inOthers z)) (beside-ready z g s));
+        hand = same-melds-written u r h n w;
+        ready = (q .ready .kind, tally-wait (sameMeldsWith x r) (q .ready .kind) (rw (e, melds) at (q .ready .wait)));
+        away = sym (swaps-tally x (sameMeldsWith x r)) ∙ (rw e at (q .away));
+        fewest = λ z g s. rw (← swaps-tally x z) (q .fewest (tallyOf (inOthers z)) (same-melds-ready z g s));
       }
 
   -- what the code has: t and d are the tallies
@@ -109,5 +109,5 @@ module _ (x : Held) (few : x .m ≤ 4) (b : Beside x x) where
     pub tallies-fit : HandTally t d (x .m) × MeldsTally d (x .m)
     tallies-fit = rw (et, ed) (hand-tally x few (b .sound), melds-tally x few)
 
-    pub nearest-found : (u r : List ℕ) (a n : ℕ) → NearestTally t d (x .m) a u → Written u 34 0 n r → IsNearest x a (besideWith x r)
+    pub nearest-found : (u r : List ℕ) (a n : ℕ) → NearestTally t d (x .m) a u → Written u 34 0 n r → IsNearest x a (sameMeldsWith x r)
     nearest-found u r a n q w = nearest-written u r a n (rw (et, ed) at q) w

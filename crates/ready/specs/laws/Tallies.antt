@@ -11,7 +11,7 @@ use lib.Dec.{ltb, eqb}
 use lib.ListN.{length, getD, set, length-set}
 use lib.Seq.{getD-set-same, getD-set-other}
 use Rattle.tiles.specs.Below.{number, total}
-use Rattle.tiles.specs.Groups.{at}
+use Rattle.tiles.specs.Groups.{atKind}
 use Rattle.tiles.specs.laws.Below.{cond-le}
 use Rattle.tiles.specs.Tally.{tallyOf}
 use Rattle.tiles.specs.laws.Tally.{more, length-tally, getD-tally, tally-ext, getD-more}
@@ -21,39 +21,39 @@ use Rattle.reading.specs.laws.Groups.{at-other}
 use Rattle.waits.specs.Waits.{withOne, IsWait}
 use Rattle.unfinished.specs.Unfinished.{heldRefusal}
 use Rattle.unfinished.specs.laws.Sound.{clean-of, are-kinds, at-most-four}
-use Rattle.choices.specs.search.Tallies.{HandTally, WaitTally, ReadyTally, MeldsTally, swapsOf}
-use Rattle.choices.specs.laws.Sums.{total-cong, total-add, total-none, total-at}
+use Rattle.ready_choices.specs.search.Tallies.{HandTally, WaitTally, ReadyTally, MeldsTally, swapsOf}
+use Rattle.ready_choices.specs.laws.Sums.{total-cong, total-add, total-none, total-at}
 use Rattle.ready.specs.Ready.{IsReady, swaps}
 
 -- ---- how many there are
 
 -- n tiles that are kinds
 number-kinds : (c : List ℕ) (n : ℕ) → ((i : ℕ) → i < n → getD c i 0 ≤ 33) → total 34 (λ k. number n (λ i. eqb (getD c i 0) k)) ≡ n
-unfolding number at
+unfolding number atKind
 number-kinds c zero h = total-none (λ k. 0) 34 (λ k l. refl)
 number-kinds c (suc n) h =
-    total-add (λ k. number n (λ i. eqb (getD c i 0) k)) (at (getD c n 0) 1) 34
+    total-add (λ k. number n (λ i. eqb (getD c i 0) k)) (atKind (getD c n 0) 1) 34
     ∙ omega (arith, number-kinds c n (λ i l. h i (omega arith)), total-at (getD c n 0) 1 34 (omega (arith, h n (omega arith))))
 
-at-few : (a c : ℕ) → total 34 (at a c) ≤ c
+at-few : (a c : ℕ) → total 34 (atKind a c) ≤ c
 at-few a c = go (ltb a 34) refl
   where
-    go : (b : Bool) → ltb a 34 ≡ b → total 34 (at a c) ≤ c
+    go : (b : Bool) → ltb a 34 ≡ b → total 34 (atKind a c) ≤ c
     go true e = omega (arith, total-at a c 34 (ltb-true a 34 e))
-    go false e = let g = ltb-false a 34 e in omega (arith, total-none (at a c) 34 (λ k l. at-other a c k (omega arith)))
+    go false e = let g = ltb-false a 34 e in omega (arith, total-none (atKind a c) 34 (λ k l. at-other a c k (omega arith)))
 
 -- a meld has four tiles at most
 meld-few : (b : ℕ) → total 34 (meldHolds b) ≤ 4
 unfolding meldHolds
 meld-few b = go (eqb (meldKind b) 0) (eqb (meldKind b) 1)
   where
-    go : (p q : Bool) → total 34 (λ k. cond p (at (meldTile b) 1 k + at (meldTile b + 1) 1 k + at (meldTile b + 2) 1 k) (cond q (at (meldTile b) 3 k) (at (meldTile b) 4 k))) ≤ 4
+    go : (p q : Bool) → total 34 (λ k. cond p (atKind (meldTile b) 1 k + atKind (meldTile b + 1) 1 k + atKind (meldTile b + 2) 1 k) (cond q (atKind (meldTile b) 3 k) (atKind (meldTile b) 4 k))) ≤ 4
     go true q =
         let t = meldTile b in
         omega (
           arith,
-          total-add (λ k. at t 1 k + at (t + 1) 1 k) (at (t + 2) 1) 34,
-          total-add (at t 1) (at (t + 1) 1) 34,
+          total-add (λ k. atKind t 1 k + atKind (t + 1) 1 k) (atKind (t + 2) 1) 34,
+          total-add (atKind t 1) (atKind (t + 1) 1) 34,
           at-few t 1,
           at-few (t + 1) 1,
           at-few (t + 2) 1,
@@ -112,8 +112,8 @@ module _ (x : Held) where
       let t = tallyOf (inOthers x) in
       let l = length-tally (inOthers x) in
       sym
-      (tally-ext (more t k 1) (λ j. inOthers x j + at k 1 j) (length-set t k (getD t k 0 + 1) ∙ l)
-      (λ j i. getD-more t k 1 j (omega arith) ∙ ap (λ (n : ℕ). n + at k 1 j) (getD-tally (inOthers x) j i)))
+      (tally-ext (more t k 1) (λ j. inOthers x j + atKind k 1 j) (length-set t k (getD t k 0 + 1) ∙ l)
+      (λ j i. getD-more t k 1 j (omega arith) ∙ ap (λ (n : ℕ). n + atKind k 1 j) (getD-tally (inOthers x) j i)))
 
   held-at : (k : ℕ) → k < 34 → getD (tallyOf (inOthers x)) k 0 + getD (tallyOf (inMelds x)) k 0 ≡ inHeld x k
   unfolding inHeld

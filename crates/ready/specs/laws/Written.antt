@@ -1,4 +1,4 @@
--- A tally written out as tiles in order: at the start, one tile more, the next kind.
+-- A tally written out as tiles in order: atKind the start, one tile more, the next kind.
 use mathlib.Core.Path.{_≡_, refl, ap, _∙_}
 use mathlib.Core.Bool.{Bool, false, cond}
 use mathlib.Core.Logic.{_⊎_, ⊎-elim}
@@ -12,11 +12,11 @@ use lib.Dec.{eqb}
 use lib.ListN.{length, getD, set, replicate, length-set, List·getD-eq-default}
 use lib.Seq.{getD-set-same, getD-set-other}
 use Rattle.tiles.specs.Below.{number, total}
-use Rattle.tiles.specs.Groups.{at}
+use Rattle.tiles.specs.Groups.{atKind}
 use Rattle.tiles.specs.laws.Below.{number-more}
 use Rattle.reading.specs.laws.Groups.{at-same, at-other}
-use Rattle.choices.specs.laws.Sums.{total-suc, total-zero, total-mono}
-use Rattle.nearest.specs.laws.Table.{zeros}
+use Rattle.ready_choices.specs.laws.Sums.{total-suc, total-zero, total-mono}
+use Rattle.ready_nearest.specs.laws.Table.{zeros}
 use Rattle.ready.specs.search.Written.{inFirst, Written}
 
 -- ---- how many places have a kind
@@ -32,8 +32,8 @@ number-false p zero h = refl
 number-false p (suc n) h = rw (number-false p n (λ i l. h i (omega arith)), h n (omega arith))
 
 -- one place more
-in-first-more : (r : List ℕ) (i k q : ℕ) → i < length r → inFirst (set r i k) (i + 1) q ≡ inFirst r i q + at k 1 q
-unfolding at
+in-first-more : (r : List ℕ) (i k q : ℕ) → i < length r → inFirst (set r i k) (i + 1) q ≡ inFirst r i q + atKind k 1 q
+unfolding atKind
 in-first-more r i k q h =
     number-more (λ p. eqb (getD (set r i k) p 0) q) i
     ∙ omega (

@@ -8,8 +8,8 @@ use Rattle.tiles.specs.Below.{total, number}
 use Rattle.hand.specs.declared.Held.{Held}
 
 -- the hand of the concealed tiles c beside the melds of x
-abbrev pub besideWith : Held → List ℕ → Held
-besideWith x c = record { m = x .m; melds = x .melds; concealed = c }
+abbrev pub sameMeldsWith : Held → List ℕ → Held
+sameMeldsWith x c = record { m = x .m; melds = x .melds; concealed = c }
 
 -- how many of the first i places of r have the kind q
 abbrev pub inFirst : List ℕ → ℕ → ℕ → ℕ

@@ -1,6 +1,6 @@
 -- `score::meld_codes` meets its contract: place by place.
 use borrow.Author.Needs.{needs}
-use Rattle.score.specs.search.Setting.{meldCodes}
+use Rattle.score.specs.search.HandCommon.{meldCodes}
 use Rattle.score.proofs.meld_codes.Statement.{statement}
 use Rattle.score.proofs.meld_codes.Tie as tie
 

@@ -1,6 +1,6 @@
 -- `score::meld_ways` meets its contract: place by place.
 use borrow.Author.Needs.{needs}
-use Rattle.score.specs.search.Setting.{meldWays}
+use Rattle.score.specs.search.HandCommon.{meldWays}
 use Rattle.score.proofs.meld_ways.Statement.{statement}
 use Rattle.score.proofs.meld_ways.Tie as tie
 

@@ -6,7 +6,7 @@ use lib.Dec.{ltb}
 use Rattle.tiles.specs.laws.Below.{or-both}
 use Rattle.hand_record.specs.laws.Bounds.{hand-bounds}
 use Rattle.score.specs.laws.Found.{found-eight, found-refused, found-sound}
-use Rattle.score.specs.laws.Settled.{both}
+use Rattle.score.specs.laws.HandScore.{both}
 use Rattle.score.proofs.score.Statement.{statement}
 use Rattle.score.proofs.score.Tie as tie
 
@@ -35,4 +35,4 @@ score-spec =
     let a = r .before .before .before .args in
     both (a .s .now) (a .dealer) (a .wind) _
     (found-sound (a .s .now) (a .dealer) (a .wind) (r .read .result) (r .before .if1 .left) (r .read .ensures)
-    _ (c .settle .result) (c .before .before .before .a .given .1) (c .settle .ensures .1))))
+    _ (c .score-hand .result) (c .before .before .before .a .given .1) (c .score-hand .ensures .1))))

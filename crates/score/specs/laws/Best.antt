@@ -9,17 +9,17 @@ use Rattle.hand.specs.declared.Hand.{Hand}
 use Rattle.hand.specs.Hand.{isRon, concealedTally}
 use Rattle.reading.specs.declared.Reading.{Reading}
 use Rattle.reading.specs.search.Readings.{readings}
-use Rattle.reading.specs.search.Judged.{judged}
+use Rattle.reading.specs.search.Folded.{folded}
 use Rattle.reading.specs.search.Claims.{readings-sound, readings-complete, readings-ordered}
 use Rattle.reading.specs.laws.Only.{readings-all}
-use Rattle.best.specs.declared.Best.{Best}
-use Rattle.best.specs.Best.{withYakuman, upTo}
-use Rattle.best.specs.search.Best.{noneOf, judgeBy, bestOf}
-use Rattle.best.specs.laws.First.{Kept, MayEnd, kept-all, kept-same}
-use Rattle.best.specs.laws.Tried.{tried-all}
+use Rattle.score_best.specs.declared.Best.{Best}
+use Rattle.score_best.specs.Best.{withYakuman, upTo}
+use Rattle.score_best.specs.search.Best.{noneOf, keepBetterBy, bestOf}
+use Rattle.score_best.specs.laws.First.{Kept, MayEnd, kept-all, kept-same}
+use Rattle.score_best.specs.laws.Tried.{tried-all}
 use Rattle.score.specs.Readings.{all-kinds, readingsOf, only-readings}
 use Rattle.score.specs.Named.{worth, seatsOf, IsReadingOf, refusedWith, acceptedAs, triedIn}
-use Rattle.score.specs.search.Settled.{settledBy, keptOf, settledOf}
+use Rattle.score.specs.search.HandScore.{handScoreBy, keptOf, handScoreOf}
 
 module _ (h : Hand) (dealer wind : ℕ) where
   abbrev kept : Best
@@ -27,7 +27,7 @@ module _ (h : Hand) (dealer wind : ℕ) where
 
   -- a search, up to where it may end, held each reading of the hand against the others
   pub over-readings : (ends : Reading → Bool) → MayEnd (worth h dealer wind) ends
-      → Kept (worth h dealer wind) (IsReadingOf h) (judged (judgeBy (worth h dealer wind) ends) noneOf (readings (concealedTally h) (h .held .m) (h .fields .winning)))
+      → Kept (worth h dealer wind) (IsReadingOf h) (folded (keepBetterBy (worth h dealer wind) ends) noneOf (readings (concealedTally h) (h .held .m) (h .fields .winning)))
   over-readings ends may =
       let t = worth h dealer wind in
       let c = concealedTally h in
@@ -49,9 +49,9 @@ module _ (h : Hand) (dealer wind : ℕ) where
       ∙ ap (λ (l : List Reading). length (upTo (withYakuman (worth h dealer wind)) l)) (only-readings h _ (readings-all (concealedTally h) (h .held .m) (h .fields .winning) (all-kinds h)))
 
   -- the three answers
-  pub answers : {A : Type 0} → (settledOf h dealer wind ≡ refusedWith 6 → A) → (settledOf h dealer wind ≡ refusedWith 7 → A)
-      → (settledOf h dealer wind ≡ acceptedAs (kept .value) (seatsOf h dealer) (isRon (h .fields)) (kept .tried) → A) → A
-  unfolding settledOf settledBy
+  pub answers : {A : Type 0} → (handScoreOf h dealer wind ≡ refusedWith 6 → A) → (handScoreOf h dealer wind ≡ refusedWith 7 → A)
+      → (handScoreOf h dealer wind ≡ acceptedAs (kept .value) (seatsOf h dealer) (isRon (h .fields)) (kept .tried) → A) → A
+  unfolding handScoreOf handScoreBy
   answers {A} six seven none = go (ltb 0 (kept .tried)) (kept .valued) refl refl
     where
       go : (s v : Bool) → ltb 0 (kept .tried) ≡ s → kept .valued ≡ v → A

@@ -22,15 +22,15 @@ use Rattle.points.specs.Claims.{changes-sum-zero}
 use Rattle.points.specs.laws.Bounds.{pays-le, gain-le}
 use Rattle.score.specs.declared.Scored.{Scored}
 use Rattle.score.specs.Named.{seatsOf, refusedWith}
-use Rattle.score.specs.search.Settled.{settledOf, foundBy, foundOf}
+use Rattle.score.specs.search.HandScore.{handScoreOf, foundBy, foundOf}
 use Rattle.score.specs.Score.{scoreOf}
 use Rattle.score.specs.laws.Found.{kept-le}
-use Rattle.score.specs.laws.Settled.{found-is-score}
+use Rattle.score.specs.laws.HandScore.{found-is-score}
 use Rattle.score.specs.laws.Best.{answers}
 use Rattle.score.specs.laws.Z.{dn, Within, sub-parts}
 
 abbrev pub change : Hand → ℕ → ℕ → ℕ → ℤ
-change h dealer wind i = getD (settledOf h dealer wind .changes) i (pos 0)
+change h dealer wind i = getD (handScoreOf h dealer wind .changes) i (pos 0)
 
 -- ---- of the payments for basic points a
 
@@ -100,9 +100,9 @@ zeros-none (suc (suc (suc (suc i)))) = omega arith
 -- ---- of a scored hand: zeros where it is refused, else its payments
 
 module _ (P : List ℤ → Type 0) (h : Hand) (dealer wind : ℕ) (none : P (replicate 4 (pos 0))) (paid : (a : ℕ) → a ≤ 8000 → P (changes (seatsOf h dealer) (isRon (h .fields)) a)) where
-  of-changes : P (settledOf h dealer wind .changes)
+  of-changes : P (handScoreOf h dealer wind .changes)
   of-changes =
-      let to : (x : Scored) → settledOf h dealer wind ≡ x → P (x .changes) → P (settledOf h dealer wind .changes) = λ x e p. subst (λ (y : Scored). P (y .changes)) (sym e) p in
+      let to : (x : Scored) → handScoreOf h dealer wind ≡ x → P (x .changes) → P (handScoreOf h dealer wind .changes) = λ x e p. subst (λ (y : Scored). P (y .changes)) (sym e) p in
       answers h dealer wind (λ e. to (refusedWith 6) e none) (λ e. to (refusedWith 7) e none)
       (λ e. to _ e (paid _ (kept-le h dealer wind)))
 

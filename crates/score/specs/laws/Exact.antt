@@ -14,18 +14,18 @@ use Rattle.hand_record.specs.Record.{refusalIn, handOf, readOf}
 use Rattle.hand_record.specs.laws.Bounds.{refused-number}
 use Rattle.score.specs.declared.Scored.{Scored}
 use Rattle.score.specs.Named.{refusedWith, Named}
-use Rattle.score.specs.IsScore.{IsScore, eight, unread, read}
-use Rattle.score.specs.search.Settled.{foundBy, foundOf}
+use Rattle.score.specs.IsScore.{IsScore, eight, unreadable, read}
+use Rattle.score.specs.search.HandScore.{foundBy, foundOf}
 use Rattle.score.specs.laws.Paid.{read-paid}
-use Rattle.score.specs.laws.Named.{settled, only-one}
+use Rattle.score.specs.laws.Named.{hand-score, only-one}
 
 module _ (s : List ℕ) (dealer wind : ℕ) where
   -- ---- what the search finds is a score
 
   by-answer : dealer ≤ 3 → wind ≤ 1 → (a : Answer) → readOf s .answer ≡ a → IsScore s dealer wind (foundBy a (handOf (readOf s)) dealer wind)
   unfolding foundBy
-  by-answer d w (Refused n) e = unread d w n e
-  by-answer d w (Sound f) e = read d w f e (settled (handOf (readOf s)) dealer wind (read-paid s dealer d (ap refusalIn e)))
+  by-answer d w (Refused n) e = unreadable d w n e
+  by-answer d w (Sound f) e = read d w f e (hand-score (handOf (readOf s)) dealer wind (read-paid s dealer d (ap refusalIn e)))
 
   by-seats : (a b : Bool) → ltb 3 dealer ≡ a → ltb 1 wind ≡ b
       → IsScore s dealer wind (cond (a || b) (refusedWith 8) (foundBy (readOf s .answer) (handOf (readOf s)) dealer wind))
@@ -52,13 +52,13 @@ module _ (s : List ℕ) (dealer wind : ℕ) where
 
   only : {x y : Scored} → IsScore s dealer wind x → IsScore s dealer wind y → x ≡ y
   only (eight o) (eight p) = refl
-  only (eight o) (unread d w n e) = over o d w
+  only (eight o) (unreadable d w n e) = over o d w
   only (eight o) (read d w f e m) = over o d w
-  only (unread d w n e) (eight o) = over o d w
-  only (unread d w n e) (unread c v k q) = ap refusedWith (refused-same n k e q)
-  only (unread d w n e) (read c v f q m) = not-both n f e q
+  only (unreadable d w n e) (eight o) = over o d w
+  only (unreadable d w n e) (unreadable c v k q) = ap refusedWith (refused-same n k e q)
+  only (unreadable d w n e) (read c v f q m) = not-both n f e q
   only (read d w f e m) (eight o) = over o d w
-  only (read d w f e m) (unread c v n q) = not-both n f q e
+  only (read d w f e m) (unreadable c v n q) = not-both n f q e
   only (read d w f e m) (read c v g q k) = only-one (handOf (readOf s)) dealer wind m k
 
   pub exactly-one : (a : Scored) × IsScore s dealer wind a × ((b : Scored) → IsScore s dealer wind b → b ≡ a)

@@ -16,16 +16,16 @@ use Rattle.hand_record.specs.Record.{refusalIn, handOf, readOf}
 use Rattle.hand_record.specs.laws.Bounds.{answer-is, hand-is, refused-number}
 use Rattle.reading.specs.declared.Reading.{Reading}
 use Rattle.reading.specs.search.Readings.{readings}
-use Rattle.reading.specs.search.Judged.{judged}
-use Rattle.value.specs.declared.Value.{Value}
-use Rattle.value.specs.Value.{valueOf}
-use Rattle.best.specs.declared.Best.{Best}
-use Rattle.best.specs.Best.{withYaku, withYakuman}
-use Rattle.best.specs.search.Best.{beats, noneOf, taking, passing, judgeBy, judgeOf, bestOf}
-use Rattle.best.specs.laws.Top.{basic-le}
+use Rattle.reading.specs.search.Folded.{folded}
+use Rattle.points_value.specs.declared.Value.{Value}
+use Rattle.points_value.specs.Value.{valueOf}
+use Rattle.score_best.specs.declared.Best.{Best}
+use Rattle.score_best.specs.Best.{withYaku, withYakuman}
+use Rattle.score_best.specs.search.Best.{beats, noneOf, taking, passing, keepBetterBy, keepBetter, bestOf}
+use Rattle.score_best.specs.laws.Top.{basic-le}
 use Rattle.score.specs.declared.Scored.{Scored}
 use Rattle.score.specs.Named.{seatsOf, worth, refusedWith, acceptedAs}
-use Rattle.score.specs.search.Settled.{settledBy, keptOf, settledOf, foundBy, foundOf}
+use Rattle.score.specs.search.HandScore.{handScoreBy, keptOf, handScoreOf, foundBy, foundOf}
 
 -- ---- basic points are at most 8,000
 
@@ -34,46 +34,46 @@ unfolding worth valueOf
 worth-le h dealer wind r = basic-le _ _ _
 
 module _ (of : Reading → Value) (le : (r : Reading) → of r .basic .0 ≤ 8000) where
-  judge-le : (b : Best) (r : Reading) → b .value .basic .0 ≤ 8000 → judgeOf of b r .value .basic .0 ≤ 8000
-  unfolding judgeBy
-  judge-le b r h = go (b .done) (withYaku of r && (not (b .valued) || beats (of r) (b .value)))
+  keep-better-le : (b : Best) (r : Reading) → b .value .basic .0 ≤ 8000 → keepBetter of b r .value .basic .0 ≤ 8000
+  unfolding keepBetterBy
+  keep-better-le b r h = go (b .done) (withYaku of r && (not (b .valued) || beats (of r) (b .value)))
     where
       go : (d c : Bool) → cond {A = Best} d b (cond {A = Best} c (taking of (withYakuman of) b r) (passing of (withYakuman of) b r)) .value .basic .0 ≤ 8000
       go true c = h
       go false true = le r
       go false false = h
 
-  judged-le : (b : Best) (rs : List Reading) → b .value .basic .0 ≤ 8000 → judged (judgeOf of) b rs .value .basic .0 ≤ 8000
-  unfolding judged
-  judged-le b [] h = h
-  judged-le b (r ∷ rs) h = judged-le (judgeOf of b r) rs (judge-le b r h)
+  folded-le : (b : Best) (rs : List Reading) → b .value .basic .0 ≤ 8000 → folded (keepBetter of) b rs .value .basic .0 ≤ 8000
+  unfolding folded
+  folded-le b [] h = h
+  folded-le b (r ∷ rs) h = folded-le (keepBetter of b r) rs (keep-better-le b r h)
 
 -- ---- a sound hand, by what the search kept
 
 module _ (h : Hand) (dealer wind : ℕ) where
   pub kept-le : keptOf h dealer wind .value .basic .0 ≤ 8000
   unfolding keptOf bestOf noneOf
-  kept-le = judged-le (worth h dealer wind) (worth-le h dealer wind) noneOf (readings (concealedTally h) (h .held .m) (h .fields .winning)) (omega arith)
+  kept-le = folded-le (worth h dealer wind) (worth-le h dealer wind) noneOf (readings (concealedTally h) (h .held .m) (h .fields .winning)) (omega arith)
 
   module _ (b : Best) (e : b ≡ keptOf h dealer wind) where
     pub basic-kept : b .value .basic .0 ≤ 8000
     basic-kept = rw e kept-le
 
-    settled-by : settledBy b (seatsOf h dealer) (isRon (h .fields)) ≡ settledOf h dealer wind
-    unfolding settledOf
-    settled-by = ap (λ (x : Best). settledBy x (seatsOf h dealer) (isRon (h .fields))) e
+    hand-score-by : handScoreBy b (seatsOf h dealer) (isRon (h .fields)) ≡ handScoreOf h dealer wind
+    unfolding handScoreOf
+    hand-score-by = ap (λ (x : Best). handScoreBy x (seatsOf h dealer) (isRon (h .fields))) e
 
-    pub settled-accepted : 0 < b .tried → b .valued ≡ true → acceptedAs (b .value) (seatsOf h dealer) (isRon (h .fields)) (b .tried) ≡ settledOf h dealer wind
-    unfolding settledBy
-    settled-accepted s v = rw (lt-ltb 0 (b .tried) s, v) at settled-by
+    pub hand-score-accepted : 0 < b .tried → b .valued ≡ true → acceptedAs (b .value) (seatsOf h dealer) (isRon (h .fields)) (b .tried) ≡ handScoreOf h dealer wind
+    unfolding handScoreBy
+    hand-score-accepted s v = rw (lt-ltb 0 (b .tried) s, v) at hand-score-by
 
-    pub settled-seven : 0 < b .tried → b .valued ≡ false → refusedWith 7 ≡ settledOf h dealer wind
-    unfolding settledBy
-    settled-seven s v = rw (lt-ltb 0 (b .tried) s, v) at settled-by
+    pub hand-score-seven : 0 < b .tried → b .valued ≡ false → refusedWith 7 ≡ handScoreOf h dealer wind
+    unfolding handScoreBy
+    hand-score-seven s v = rw (lt-ltb 0 (b .tried) s, v) at hand-score-by
 
-    pub settled-six : b .tried ≤ 0 → refusedWith 6 ≡ settledOf h dealer wind
-    unfolding settledBy
-    settled-six s = rw (le-ltb 0 (b .tried) s) at settled-by
+    pub hand-score-six : b .tried ≤ 0 → refusedWith 6 ≡ handScoreOf h dealer wind
+    unfolding handScoreBy
+    hand-score-six s = rw (le-ltb 0 (b .tried) s) at hand-score-by
 
 -- ---- a record
 
@@ -90,9 +90,9 @@ module _ (s : List ℕ) (dealer wind : ℕ) (r : HandRead) (q : ltb 3 dealer || 
   unfolding foundBy
   found-refused n w x told why ex = ex ∙ ap refusedWith (why ∙ ap refusalIn told) ∙ by-answer (Refused n) told
 
-  pub found-sound : (f : Fields) (x : Scored) → r .answer ≡ Sound f → x ≡ settledOf (record { fields = f; held = r .held }) dealer wind → x ≡ foundOf s dealer wind
+  pub found-sound : (f : Fields) (x : Scored) → r .answer ≡ Sound f → x ≡ handScoreOf (record { fields = f; held = r .held }) dealer wind → x ≡ foundOf s dealer wind
   unfolding foundBy
-  found-sound f x told ex = ex ∙ ap (λ (y : Hand). settledOf y dealer wind) (hand-is s r e f told) ∙ by-answer (Sound f) told
+  found-sound f x told ex = ex ∙ ap (λ (y : Hand). handScoreOf y dealer wind) (hand-is s r e f told) ∙ by-answer (Sound f) told
 
 -- ---- a record, by what Read answers
 
@@ -100,17 +100,17 @@ module _ (s : List ℕ) (dealer wind : ℕ) (d : dealer ≤ 3) (w : wind ≤ 1) 
   seats-right : ltb 3 dealer || ltb 1 wind ≡ false
   seats-right = rw (le-ltb 3 dealer d, le-ltb 1 wind w)
 
-  pub found-read : refusalIn (readOf s .answer) ≡ 0 → foundOf s dealer wind ≡ settledOf (handOf (readOf s)) dealer wind
+  pub found-read : refusalIn (readOf s .answer) ≡ 0 → foundOf s dealer wind ≡ handScoreOf (handOf (readOf s)) dealer wind
   unfolding foundOf foundBy
   found-read e = rw seats-right (go (readOf s .answer) refl)
     where
-      go : (a : Answer) → readOf s .answer ≡ a → foundBy a (handOf (readOf s)) dealer wind ≡ settledOf (handOf (readOf s)) dealer wind
+      go : (a : Answer) → readOf s .answer ≡ a → foundBy a (handOf (readOf s)) dealer wind ≡ handScoreOf (handOf (readOf s)) dealer wind
       go (Refused n) q = let z : n ≡ 0 = ap refusalIn (sym q) ∙ e in absurd (omega (arith, refused-number s n q))
       go (Sound f) q = refl
 
-  pub found-unread : (n : ℕ) → refusalIn (readOf s .answer) ≡ n → 0 < n → foundOf s dealer wind ≡ refusedWith n
+  pub found-unreadable : (n : ℕ) → refusalIn (readOf s .answer) ≡ n → 0 < n → foundOf s dealer wind ≡ refusedWith n
   unfolding foundOf foundBy
-  found-unread n e l = rw seats-right (go (readOf s .answer) refl)
+  found-unreadable n e l = rw seats-right (go (readOf s .answer) refl)
     where
       go : (a : Answer) → readOf s .answer ≡ a → foundBy a (handOf (readOf s)) dealer wind ≡ refusedWith n
       go (Refused k) q = ap refusedWith (ap refusalIn (sym q) ∙ e)

@@ -8,18 +8,18 @@ use Rattle.tiles.specs.Kinds.{doraOf}
 use Rattle.tiles.specs.laws.Tabulate.{getD-tabulate}
 use Rattle.hand.specs.declared.Hand.{Hand}
 use Rattle.reading.specs.declared.Reading.{Reading}
-use Rattle.fu_items.specs.Fu.{fu, groupFu, groupItems, earned, added, baseAlone, itemsOf}
-use Rattle.value.specs.Value.{yakuman, valueOf}
-use Rattle.value.specs.Claims.{items-add-up}
-use Rattle.fu_items.specs.laws.Items.{added-alone}
+use Rattle.points_fu.specs.Fu.{fu, groupFu, groupItems, earned, added, baseAlone, itemsOf}
+use Rattle.points_value.specs.Value.{yakuman, valueOf}
+use Rattle.points_value.specs.Claims.{items-add-up}
+use Rattle.points_fu.specs.laws.Items.{added-alone}
 use Rattle.score.specs.declared.Scored.{Scored}
-use Rattle.score.specs.Named.{wonOf, seatsOf, groupsOf, waysOf, partsOf, worth, Named, reported, six, seven}
-use Rattle.score.specs.IsScore.{IsScore, eight, unread, read}
+use Rattle.score.specs.Named.{wonOf, seatsOf, groupsOf, waysOf, fullReadingOf, worth, Named, reported, six, seven}
+use Rattle.score.specs.IsScore.{IsScore, eight, unreadable, read}
 
 module _ (h : Hand) (dealer wind : ℕ) where
   reading-total : (r : Reading) → added (worth h dealer wind r .items) ≡ worth h dealer wind r .fu .0
   unfolding worth
-  reading-total r = items-add-up (wonOf h dealer wind) (partsOf h r) (doraOf (h .fields .indicator)) (seatsOf h dealer)
+  reading-total r = items-add-up (wonOf h dealer wind) (fullReadingOf h r) (doraOf (h .fields .indicator)) (seatsOf h dealer)
 
   named-total : {a : Scored} → Named h dealer wind a → added (a .items) ≡ a .fu
   named-total (reported r i) = reading-total r
@@ -31,18 +31,18 @@ module _ (h : Hand) (dealer wind : ℕ) where
   named-none (six n) e = refl
   named-none (seven q i n) e = refl
 
-  pub group-item : (r : Reading) → r .shape ≡ 0 → yakuman (wonOf h dealer wind) (partsOf h r) ≡ false →
+  pub group-item : (r : Reading) → r .shape ≡ 0 → yakuman (wonOf h dealer wind) (fullReadingOf h r) ≡ false →
       (i : ℕ) → i < 4 → getD (worth h dealer wind r .items .group) i (fu 0) ≡ fu (groupFu (getD (groupsOf h r) i 0) (getD (waysOf h r) i 0))
-  unfolding worth valueOf itemsOf earned groupItems partsOf groupsOf waysOf
+  unfolding worth valueOf itemsOf earned groupItems fullReadingOf groupsOf waysOf
   group-item r e y i l = rw (y, e) (getD-tabulate (fu 0) 4 (λ k. fu (groupFu (getD (groupsOf h r) k 0) (getD (waysOf h r) k 0))) i l)
 
 module _ {s : List ℕ} {dealer wind : ℕ} where
   pub total : {a : Scored} → IsScore s dealer wind a → added (a .items) ≡ a .fu
   total (eight o) = added-alone 0
-  total (unread d w n e) = added-alone 0
+  total (unreadable d w n e) = added-alone 0
   total (read d w f e n) = named-total _ dealer wind n
 
   pub none : {a : Scored} → IsScore s dealer wind a → (a .refusal ≡ 0 → ⊥) → a .items ≡ baseAlone 0
   none (eight o) e = refl
-  none (unread d w n q) e = refl
+  none (unreadable d w n q) e = refl
   none (read d w f q n) e = named-none _ dealer wind n e

@@ -10,14 +10,14 @@ use Rattle.hand.specs.declared.Hand.{Hand}
 use Rattle.hand.specs.Hand.{isRon}
 use Rattle.reading.specs.declared.Reading.{Reading}
 use Rattle.reading.specs.Order.{Lex}
-use Rattle.value.specs.declared.Value.{Value}
-use Rattle.best.specs.declared.Best.{Best}
-use Rattle.best.specs.Best.{figures}
-use Rattle.best.specs.laws.First.{Kept, never}
-use Rattle.best.specs.laws.Over.{over-same}
+use Rattle.points_value.specs.declared.Value.{Value}
+use Rattle.score_best.specs.declared.Best.{Best}
+use Rattle.score_best.specs.Best.{figures}
+use Rattle.score_best.specs.laws.First.{Kept, never}
+use Rattle.score_best.specs.laws.Over.{over-same}
 use Rattle.score.specs.declared.Scored.{Scored}
 use Rattle.score.specs.Named.{worth, seatsOf, IsReadingOf, refusedWith, acceptedAs, ReadsWithYaku, IsReported, gainIn, triedIn, scoredAs, Named, reported, six, seven}
-use Rattle.score.specs.search.Settled.{settledBy, keptOf, settledOf}
+use Rattle.score.specs.search.HandScore.{handScoreBy, keptOf, handScoreOf}
 use Rattle.score.specs.laws.Best.{over-readings, over-kept, tried-kept}
 use Rattle.score.specs.laws.Paid.{Paid, may-end}
 
@@ -42,9 +42,9 @@ module _ (h : Hand) (dealer wind : ℕ) where
             seven (y .0) (y .1) (λ r w. absurd (false≢true (sym (k .worthless ev r (w .0)) ∙ w .1)))
         go true true es ev = let y = k .best ev in reported (b .reading) (record { yaku = (y .0, y .1); first = λ q w. y .3 q (w .0) (w .1) })
 
-    settled-by : b .tried ≡ triedIn h dealer wind → settledBy b (seatsOf h dealer) (isRon (h .fields)) ≡ answerBy
-    unfolding settledBy
-    settled-by n = go (b .valued) refl
+    hand-score-by : b .tried ≡ triedIn h dealer wind → handScoreBy b (seatsOf h dealer) (isRon (h .fields)) ≡ answerBy
+    unfolding handScoreBy
+    hand-score-by n = go (b .valued) refl
       where
         go : (v : Bool) → b .valued ≡ v
             → cond (ltb 0 (b .tried)) (cond v (acceptedAs (b .value) (seatsOf h dealer) (isRon (h .fields)) (b .tried)) (refusedWith 7)) (refusedWith 6)
@@ -60,11 +60,11 @@ module _ (h : Hand) (dealer wind : ℕ) where
   named = let k = over-readings h dealer wind (λ _. false) (never (worth h dealer wind)) in (answerBy _ k, named-by _ k)
 
   -- and where a yakuman is paid it is what the code finds
-  pub settled : Paid h dealer → Named h dealer wind (settledOf h dealer wind)
-  unfolding settledOf
-  settled paid =
+  pub hand-score : Paid h dealer → Named h dealer wind (handScoreOf h dealer wind)
+  unfolding handScoreOf
+  hand-score paid =
       let k = over-kept h dealer wind (may-end h dealer wind paid) in
-      subst (λ (y : Scored). Named h dealer wind y) (sym (settled-by (keptOf h dealer wind) k (tried-kept h dealer wind))) (named-by (keptOf h dealer wind) k)
+      subst (λ (y : Scored). Named h dealer wind y) (sym (hand-score-by (keptOf h dealer wind) k (tried-kept h dealer wind))) (named-by (keptOf h dealer wind) k)
 
   pub only-one : {x y : Scored} → Named h dealer wind x → Named h dealer wind y → x ≡ y
   only-one (reported r a) (reported q b) = ap (scoredAs h dealer wind) (over-same (worth h dealer wind) r q (a .first q (b .yaku)) (b .first r (a .yaku)))
@@ -119,5 +119,5 @@ module _ (h : Hand) (dealer wind : ℕ) where
   none-tried (seven q i n) e = refl
 
   -- what the code finds is what is named
-  pub settled-named : Paid h dealer → (x : Scored) → x ≡ settledOf h dealer wind → Named h dealer wind x × (x ≡ settledOf h dealer wind)
-  settled-named paid x e = (subst (λ (y : Scored). Named h dealer wind y) (sym e) (settled paid), e)
+  pub hand-score-named : Paid h dealer → (x : Scored) → x ≡ handScoreOf h dealer wind → Named h dealer wind x × (x ≡ handScoreOf h dealer wind)
+  hand-score-named paid x e = (subst (λ (y : Scored). Named h dealer wind y) (sym e) (hand-score paid), e)

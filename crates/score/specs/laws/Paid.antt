@@ -19,10 +19,10 @@ use Rattle.reading.specs.Order.{Before}
 use Rattle.points.specs.declared.Seats.{Seats}
 use Rattle.points.specs.Points.{hundreds, gain}
 use Rattle.points.specs.Claims.{gain-by-ron, gain-by-tsumo}
-use Rattle.best.specs.Best.{withYakuman, Over}
-use Rattle.best.specs.laws.Top.{top, over-plain, yakuman-yaku}
-use Rattle.best.specs.laws.First.{MayEnd}
-use Rattle.score.specs.Named.{wonOf, seatsOf, partsOf, worth, IsReadingOf, ReadsWithYaku, IsReported}
+use Rattle.score_best.specs.Best.{withYakuman, Over}
+use Rattle.score_best.specs.laws.Top.{top, over-plain, yakuman-yaku}
+use Rattle.score_best.specs.laws.First.{MayEnd}
+use Rattle.score.specs.Named.{wonOf, seatsOf, fullReadingOf, worth, IsReadingOf, ReadsWithYaku, IsReported}
 
 -- ---- 8,000 basic points are paid: by the discarder, or by the three others
 
@@ -56,7 +56,7 @@ module _ (h : Hand) (dealer wind : ℕ) (paid : Paid h dealer) where
   unfolding worth wonOf
   may-end = record {
     yaku = yakuman-yaku (worth h dealer wind);
-    top = λ x q e. top (wonOf h dealer wind) (doraOf (h .fields .indicator)) (seatsOf h dealer) paid (partsOf h) x q e;
+    top = λ x q e. top (wonOf h dealer wind) (doraOf (h .fields .indicator)) (seatsOf h dealer) paid (fullReadingOf h) x q e;
   }
 
   -- "among readings with one the first in document 01's order is reported"
@@ -73,7 +73,7 @@ module _ (h : Hand) (dealer wind : ℕ) (paid : Paid h dealer) where
 
       go : (q : Reading) → ReadsWithYaku h dealer wind q → (c : Bool) → withYakuman (worth h dealer wind) q ≡ c → Over (worth h dealer wind) r q
       go q y true z = over q (f q (y .0) z)
-      go q y false z = inl (over-plain (wonOf h dealer wind) (doraOf (h .fields .indicator)) (seatsOf h dealer) paid (partsOf h) r q e z)
+      go q y false z = inl (over-plain (wonOf h dealer wind) (doraOf (h .fields .indicator)) (seatsOf h dealer) paid (fullReadingOf h) r q e z)
 
 -- ---- of a record that reads
 

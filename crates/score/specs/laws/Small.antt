@@ -9,7 +9,7 @@ use lib.Dec.{eqb, ltb}
 use lib.ListN.{length, getD, List·getD-eq-default}
 use Rattle.tiles.specs.Below.{number}
 use Rattle.tiles.specs.Kinds.{doraOf, isYaochu}
-use Rattle.tiles.specs.Groups.{at, isTriplet}
+use Rattle.tiles.specs.Groups.{atKind, isTriplet}
 use Rattle.tiles.specs.Tally.{tallyOf}
 use Rattle.tiles.specs.laws.Below.{cond-le, total-le, number-le}
 use Rattle.tiles.specs.laws.Tally.{length-tally, getD-tally}
@@ -18,19 +18,19 @@ use Rattle.hand.specs.declared.Hand.{Hand}
 use Rattle.hand.specs.Held.{meldKind, meldTile, meldHolds, others, inMelds, inOthers, inHeld}
 use Rattle.hand.specs.Hand.{inHand, handTally}
 use Rattle.reading.specs.declared.Reading.{Reading}
-use Rattle.groups.specs.Tests.{has, dragons, littleDragons, valueHan, isValue, earnsWait, pinfu}
+use Rattle.yaku_basics.specs.Tests.{has, dragons, littleDragons, valueHan, isValue, earnsWait, pinfu}
 use Rattle.yaku.specs.declared.Won.{Won}
-use Rattle.yaku.specs.declared.Parts.{Parts}
+use Rattle.yaku.specs.declared.FullReading.{FullReading}
 use Rattle.yaku.specs.Yaku.{yakuOf, valueHanOf}
 use Rattle.points.specs.declared.Seats.{Seats}
-use Rattle.value.specs.Han.{closedHan, openHan, hanBy, yakuHan, hanOf}
-use Rattle.fu_items.specs.Fu.{tripletFu, groupFu, groupItems, earned, added, rounded}
-use Rattle.value.specs.Value.{yakuman, valueOf}
-use Rattle.value.specs.Claims.{fu-rounded}
-use Rattle.value.specs.laws.Han.{han-at}
+use Rattle.points_value.specs.Han.{closedHan, openHan, hanBy, yakuHan, hanOf}
+use Rattle.points_fu.specs.Fu.{tripletFu, groupFu, groupItems, earned, added, rounded}
+use Rattle.points_value.specs.Value.{yakuman, valueOf}
+use Rattle.points_value.specs.Claims.{fu-rounded}
+use Rattle.points_value.specs.laws.Han.{han-at}
 use Rattle.score.specs.declared.Scored.{Scored}
-use Rattle.score.specs.Named.{wonOf, seatsOf, partsOf, worth, Named, reported, six, seven}
-use Rattle.score.specs.IsScore.{IsScore, eight, unread, read}
+use Rattle.score.specs.Named.{wonOf, seatsOf, fullReadingOf, worth, Named, reported, six, seven}
+use Rattle.score.specs.IsScore.{IsScore, eight, unreadable, read}
 use Rattle.score.specs.Score.{scoreOf, is-score}
 
 -- ---- h
@@ -59,15 +59,15 @@ yaku-han-le y closed values h =
 
 -- ---- how many of a kind there are in a hand
 
-at-le : (a n k : ℕ) → at a n k ≤ n
-unfolding at
+at-le : (a n k : ℕ) → atKind a n k ≤ n
+unfolding atKind
 at-le a n k = cond-le (eqb a k) n 0 n (omega arith) (omega arith)
 
 meld-le : (b k : ℕ) → meldHolds b k ≤ 4
 unfolding meldHolds
 meld-le b k =
     cond-le (eqb (meldKind b) 0) _ _ 4 (omega (arith, at-le (meldTile b) 1 k, at-le (meldTile b + 1) 1 k, at-le (meldTile b + 2) 1 k))
-    (cond-le (eqb (meldKind b) 1) (at (meldTile b) 3 k) (at (meldTile b) 4 k) 4 (omega (arith, at-le (meldTile b) 3 k)) (at-le (meldTile b) 4 k))
+    (cond-le (eqb (meldKind b) 1) (atKind (meldTile b) 3 k) (atKind (meldTile b) 4 k) 4 (omega (arith, at-le (meldTile b) 3 k)) (at-le (meldTile b) 4 k))
 
 melds-le : (x : Held) (k : ℕ) → inMelds x k ≤ 16
 unfolding inMelds
@@ -104,7 +104,7 @@ group-le c way =
     cond-le (isTriplet c) _ 0 32
     (cond-le (isYaochu (c - 34)) (2 * tripletFu way) (tripletFu way) 32 (omega (arith, triplet-le way)) (omega (arith, triplet-le way))) (omega arith)
 
-added-le : (w : Won) (p : Parts) → added (earned w p 0) ≤ 164
+added-le : (w : Won) (p : FullReading) → added (earned w p 0) ≤ 164
 unfolding added earned groupItems
 added-le w p =
     let g : (i : ℕ) → groupFu (getD (p .groups) i 0) (getD (p .ways) i 0) ≤ 32 = λ i. group-le (getD (p .groups) i 0) (getD (p .ways) i 0) in
@@ -132,14 +132,14 @@ abbrev pub Small : Scored → Type 0
 Small a = (a .h < 1000) × (a .fu < 1000)
 
 module _ (h : Hand) (dealer wind : ℕ) where
-  han-le : (p : Parts) (dora : ℕ) (y : Bool) → hanOf (wonOf h dealer wind) p dora y ≤ 257
+  han-le : (p : FullReading) (dora : ℕ) (y : Bool) → hanOf (wonOf h dealer wind) p dora y ≤ 257
   unfolding hanOf wonOf
   han-le p dora y =
       let w = wonOf h dealer wind in
       let values = yaku-han-le (yakuOf w p) (w .closed) (valueHanOf w p) (value-han-le (p .groups) (w .round) (w .own) (littleDragons (p .groups) (p .pair))) in
       cond-le y 0 _ 257 (omega arith) (omega (arith, values, tally-le h dora))
 
-  fu-le : (p : Parts) (dora : ℕ) (s : Seats) → valueOf (wonOf h dealer wind) p dora s .fu .0 ≤ 194
+  fu-le : (p : FullReading) (dora : ℕ) (s : Seats) → valueOf (wonOf h dealer wind) p dora s .fu .0 ≤ 194
   fu-le p dora s =
       let w = wonOf h dealer wind in
       rw (fu-rounded w p dora s)
@@ -151,7 +151,7 @@ module _ (h : Hand) (dealer wind : ℕ) where
   worth-small r =
       let dora = doraOf (h .fields .indicator) in
       let w = wonOf h dealer wind in
-      (omega (arith, han-le (partsOf h r) dora (yakuman w (partsOf h r))), omega (arith, fu-le (partsOf h r) dora (seatsOf h dealer)))
+      (omega (arith, han-le (fullReadingOf h r) dora (yakuman w (fullReadingOf h r))), omega (arith, fu-le (fullReadingOf h r) dora (seatsOf h dealer)))
 
   named-small : {a : Scored} → Named h dealer wind a → Small a
   named-small (reported r i) = worth-small r
@@ -161,7 +161,7 @@ module _ (h : Hand) (dealer wind : ℕ) where
 module _ (s : List ℕ) (dealer wind : ℕ) where
   is-small : {a : Scored} → IsScore s dealer wind a → Small a
   is-small (eight o) = (omega arith, omega arith)
-  is-small (unread d w n e) = (omega arith, omega arith)
+  is-small (unreadable d w n e) = (omega arith, omega arith)
   is-small (read d w f e n) = named-small _ dealer wind n
 
   pub small : Small (scoreOf s dealer wind)

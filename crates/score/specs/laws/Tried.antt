@@ -9,15 +9,15 @@ use Rattle.hand_record.specs.Record.{handOf, readOf, IsSound}
 use Rattle.hand_record.specs.Claims.{sound}
 use Rattle.reading.specs.declared.Reading.{Reading}
 use Rattle.reading.specs.Order.{Before}
-use Rattle.best.specs.Best.{withYakuman, upTo}
+use Rattle.score_best.specs.Best.{withYakuman, upTo}
 use Rattle.score.specs.declared.Scored.{Scored}
 use Rattle.score.specs.Readings.{AreReadingsOf, only-readings}
 use Rattle.score.specs.Named.{worth, IsReadingOf, IsReported}
-use Rattle.score.specs.IsScore.{IsScore, eight, unread, read}
+use Rattle.score.specs.IsScore.{IsScore, eight, unreadable, read}
 use Rattle.score.specs.Score.{scoreOf, is-score}
 use Rattle.score.specs.laws.Paid as paid
 use Rattle.score.specs.laws.Named as named
-use Rattle.score.specs.laws.Settled.{scored}
+use Rattle.score.specs.laws.HandScore.{scored}
 
 module _ (s : List ℕ) (dealer wind : ℕ) where
   pub tried : dealer ≤ 3 → wind ≤ 1 → IsSound s → scoreOf s dealer wind .refusal ≡ 0 →
@@ -30,7 +30,7 @@ module _ (s : List ℕ) (dealer wind : ℕ) where
 
   of-answer : {x : Scored} → IsScore s dealer wind x → (x .refusal ≡ 0 → ⊥) → x .tried ≡ 0
   of-answer (eight o) n = refl
-  of-answer (unread d w k e) n = refl
+  of-answer (unreadable d w k e) n = refl
   of-answer (read d w f e m) n = named.none-tried (handOf (readOf s)) dealer wind m n
 
   pub none-tried : (scoreOf s dealer wind .refusal ≡ 0 → ⊥) → scoreOf s dealer wind .tried ≡ 0

@@ -12,11 +12,11 @@ use Rattle.hand_record.specs.Record.{recordOf}
 use Rattle.yaku.specs.Yaku.{isYakuman}
 use Rattle.score.specs.declared.Scored.{Scored}
 use Rattle.score.specs.Score.{scoreOf}
-use Rattle.table.specs.Table.{won, Scores}
-use Rattle.table.specs.Claims.{lines}
+use Rattle.score_table.specs.Table.{won, Scores}
+use Rattle.score_table.specs.Claims.{lines}
 use Rattle.text.specs.Text.{lastDigits, digitsOf, signedOf, scoreText}
-use Rattle.slip_lines.specs.Words.{bytesOf}
-use Rattle.slip_lines.specs.Line.{slipLine, labels}
+use Rattle.text.specs.Words.{bytesOf}
+use Rattle.slip.specs.Line.{slipLine, labels}
 use Rattle.slip.specs.Slip.{valuesOf, lineAt, slipText}
 use Rattle.slip.specs.laws.Score.{yakuman-zero, zero-yakuman}
 

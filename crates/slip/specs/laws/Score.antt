@@ -11,15 +11,15 @@ use Rattle.hand.specs.declared.Hand.{Hand}
 use Rattle.hand_record.specs.laws.Bounds.{refused-number}
 use Rattle.reading.specs.declared.Reading.{Reading}
 use Rattle.yaku.specs.declared.Won.{Won}
-use Rattle.yaku.specs.declared.Parts.{Parts}
+use Rattle.yaku.specs.declared.FullReading.{FullReading}
 use Rattle.yaku.specs.Yaku.{isYakuman}
-use Rattle.fu_items.specs.Fu.{earned, added, rounded}
-use Rattle.value.specs.Value.{yakuman, valueOf}
-use Rattle.value.specs.Claims.{fu-rounded, yakuman-pays-as-one}
-use Rattle.fu_items.specs.laws.Items.{rounded-up}
+use Rattle.points_fu.specs.Fu.{earned, added, rounded}
+use Rattle.points_value.specs.Value.{yakuman, valueOf}
+use Rattle.points_value.specs.Claims.{fu-rounded, yakuman-pays-as-one}
+use Rattle.points_fu.specs.laws.Items.{rounded-up}
 use Rattle.score.specs.declared.Scored.{Scored}
-use Rattle.score.specs.Named.{wonOf, seatsOf, partsOf, worth, Named, reported, six, seven}
-use Rattle.score.specs.IsScore.{IsScore, eight, unread, read}
+use Rattle.score.specs.Named.{wonOf, seatsOf, fullReadingOf, worth, Named, reported, six, seven}
+use Rattle.score.specs.IsScore.{IsScore, eight, unreadable, read}
 use Rattle.score.specs.Score.{scoreOf, is-score}
 
 -- ---- with a yakuman "h and fu are 0"
@@ -31,14 +31,14 @@ none-listed e = absurd (false≢true e)
 module _ (h : Hand) (dealer wind : ℕ) where
   named-zero : {a : Scored} → Named h dealer wind a → isYakuman (a .yaku) ≡ true → a .fu ≡ 0
   unfolding worth valueOf
-  named-zero (reported r i) e = yakuman-pays-as-one (wonOf h dealer wind) (partsOf h r) (doraOf (h .fields .indicator)) (seatsOf h dealer) e .1
+  named-zero (reported r i) e = yakuman-pays-as-one (wonOf h dealer wind) (fullReadingOf h r) (doraOf (h .fields .indicator)) (seatsOf h dealer) e .1
   named-zero (six n) e = none-listed e
   named-zero (seven q i n) e = none-listed e
 
 module _ (s : List ℕ) (dealer wind : ℕ) where
   is-zero : {a : Scored} → IsScore s dealer wind a → isYakuman (a .yaku) ≡ true → a .fu ≡ 0
   is-zero (eight o) e = none-listed e
-  is-zero (unread d w n r) e = none-listed e
+  is-zero (unreadable d w n r) e = none-listed e
   is-zero (read d w f r n) e = named-zero _ dealer wind n e
 
   pub yakuman-zero : isYakuman (scoreOf s dealer wind .yaku) ≡ true → scoreOf s dealer wind .fu ≡ 0
@@ -46,26 +46,26 @@ module _ (s : List ℕ) (dealer wind : ℕ) where
 
 -- ---- and without one an accepted hand has fu
 
-base-le : (w : Won) (p : Parts) → 20 ≤ added (earned w p 0)
+base-le : (w : Won) (p : FullReading) → 20 ≤ added (earned w p 0)
 unfolding added earned
 base-le w p = omega arith
 
-some-fu : (w : Won) (p : Parts) (seven : Bool) → 0 < cond seven 25 (rounded (w .closed) (added (earned w p 0)))
+some-fu : (w : Won) (p : FullReading) (seven : Bool) → 0 < cond seven 25 (rounded (w .closed) (added (earned w p 0)))
 some-fu w p true = omega arith
 some-fu w p false = omega (arith, rounded-up (w .closed) (added (earned w p 0)), base-le w p)
 
 module _ (h : Hand) (dealer wind : ℕ) where
-  plain-fu : (r : Reading) → yakuman (wonOf h dealer wind) (partsOf h r) ≡ false → 0 < worth h dealer wind r .fu .0
+  plain-fu : (r : Reading) → yakuman (wonOf h dealer wind) (fullReadingOf h r) ≡ false → 0 < worth h dealer wind r .fu .0
   unfolding worth
   plain-fu r e =
       let w = wonOf h dealer wind in
-      rw (fu-rounded w (partsOf h r) (doraOf (h .fields .indicator)) (seatsOf h dealer), e) (some-fu w (partsOf h r) (eqb (partsOf h r .shape) 1))
+      rw (fu-rounded w (fullReadingOf h r) (doraOf (h .fields .indicator)) (seatsOf h dealer), e) (some-fu w (fullReadingOf h r) (eqb (fullReadingOf h r .shape) 1))
 
   worth-yakuman : (r : Reading) → worth h dealer wind r .fu .0 ≡ 0 → isYakuman (worth h dealer wind r .yaku) ≡ true
   unfolding worth valueOf
-  worth-yakuman r z = go (yakuman (wonOf h dealer wind) (partsOf h r)) refl
+  worth-yakuman r z = go (yakuman (wonOf h dealer wind) (fullReadingOf h r)) refl
     where
-      go : (b : Bool) → yakuman (wonOf h dealer wind) (partsOf h r) ≡ b → b ≡ true
+      go : (b : Bool) → yakuman (wonOf h dealer wind) (fullReadingOf h r) ≡ b → b ≡ true
       go true e = refl
       go false e = absurd (omega (arith, plain-fu r e))
 
@@ -77,7 +77,7 @@ module _ (h : Hand) (dealer wind : ℕ) where
 module _ (s : List ℕ) (dealer wind : ℕ) where
   is-yakuman : {a : Scored} → IsScore s dealer wind a → a .refusal ≡ 0 → a .fu ≡ 0 → isYakuman (a .yaku) ≡ true
   is-yakuman (eight o) e z = absurd (omega arith)
-  is-yakuman (unread d w n r) e z = absurd (omega (arith, refused-number s n r))
+  is-yakuman (unreadable d w n r) e z = absurd (omega (arith, refused-number s n r))
   is-yakuman (read d w f r n) e z = named-yakuman _ dealer wind n e z
 
   pub zero-yakuman : scoreOf s dealer wind .refusal ≡ 0 → scoreOf s dealer wind .fu ≡ 0 → isYakuman (scoreOf s dealer wind .yaku) ≡ true

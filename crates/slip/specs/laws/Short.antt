@@ -13,8 +13,8 @@ use Rattle.score.specs.laws.Changes.{score-within}
 use Rattle.text.specs.Text.{digitsOf, signedOf}
 use Rattle.text.specs.laws.Digits.{length-below-power}
 use Rattle.slip.specs.Slip.{valuesOf, lineAt, slipText}
-use Rattle.slip_lines.specs.laws.Line.{line-long, label-short}
-use Rattle.slip_lines.specs.laws.Lines.{flat-long}
+use Rattle.slip.specs.laws.Line.{line-long, label-short}
+use Rattle.slip.specs.laws.Lines.{flat-long}
 use Rattle.score.specs.laws.Small.{small}
 
 -- ---- of its values

@@ -10,10 +10,10 @@ use lib.IntN.{ℤ, pos}
 use Rattle.yaku.specs.Yaku.{isYakuman}
 use Rattle.score.specs.declared.Scored.{Scored}
 use Rattle.text.specs.Text.{digitsOf, signedOf}
-use Rattle.slip_lines.specs.Words.{bytesOf}
-use Rattle.slip_lines.specs.Line.{slipLine, labels}
+use Rattle.text.specs.Words.{bytesOf}
+use Rattle.slip.specs.Line.{slipLine, labels}
 use Rattle.slip.specs.Slip.{valuesOf, lineAt, slipText, slipRefusal, slipPage}
-use Rattle.slip_lines.specs.laws.Lines.{valueBy, lineBy, linesBy, number-at}
+use Rattle.slip.specs.laws.Lines.{valueBy, lineBy, linesBy, number-at}
 
 -- the numbers of the six lines: h, fu and the four changes
 abbrev pub numbersOf : ℕ → ℕ → List ℤ → List ℤ

@@ -5,7 +5,7 @@ use mathlib.Core.List.{[], _∷_}
 use lib.IntN.{pos, negsuc}
 use lib.ListN.{replicate, set}
 use Rattle.yaku.specs.Yaku.{isYakuman}
-use Rattle.fu_items.specs.Fu.{baseAlone}
+use Rattle.points_fu.specs.Fu.{baseAlone}
 use Rattle.score.specs.declared.Scored.{Scored}
 use Rattle.speech_numerals.specs.Numerals.{placeOf, thousandsOf, hundredsOf, tensOf, onesOf, fourOf, scaledFour, easternOf, numeral}
 use Rattle.speech_told.specs.Phrases.{countedClips}

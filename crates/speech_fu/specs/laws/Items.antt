@@ -2,7 +2,7 @@
 use mathlib.Core.Path.{_≡_}
 use mathlib.Core.List.{_++_, append-assoc}
 use Prim.Native.Nat.{ℕ}
-use Rattle.fu_items.specs.declared.Items.{Items}
+use Rattle.points_fu.specs.declared.Items.{Items}
 use Rattle.speech_told.specs.Phrases.{countedClips}
 use Rattle.speech_told.specs.Messages.{groupAt, itemsClips}
 

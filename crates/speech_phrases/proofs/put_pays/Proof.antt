@@ -16,7 +16,7 @@ returns c =
     let s = before .before in
     let fits = toZ-ofZ (s .fits .change) in
     let a = s .args in
-    (put-as (pays-some (a .language) (a .dealer) (a .seat) (a .change) _ _ (player .player .ensures) (rw fits at (size .size .ensures)) (rw fits at (if1 .if1 .taken))) (c .before .before .put-amount .ensures .0), c .before .before .put-amount .ensures .1)
+    (put-as (pays-some (a .language) (a .dealer) (a .seat) (a .change) _ _ (player .player .ensures) (rw fits at (size .absolute .ensures)) (rw fits at (if1 .if1 .taken))) (c .before .before .put-amount .ensures .0), c .before .before .put-amount .ensures .1)
 
 returns-2 : tie.Need-returns-2
 returns-2 c =

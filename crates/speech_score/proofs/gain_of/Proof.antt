@@ -9,7 +9,7 @@ use Rattle.speech_score.proofs.gain_of.Tie as tie
 returns : tie.Need-returns
 returns c =
     let s = c .before .before in
-    rw (toZ-ofZ (elem-sfits w32 (s .args .t1) (s .good .0 .0) (s .args .winner) (s .good .0 .1 .1))) at (c .size .ensures)
+    rw (toZ-ofZ (elem-sfits w32 (s .args .t1) (s .good .0 .0) (s .args .winner) (s .good .0 .1 .1))) at (c .absolute .ensures)
 
 pub gain-of-spec : {M : Type 1} → statement M
 gain-of-spec =

@@ -6,7 +6,7 @@ use lib.IntN.{pos, negsuc}
 use lib.ListN.{replicate, set}
 use Rattle.points.specs.Points.{plain}
 use Rattle.yaku.specs.Yaku.{isYakuman}
-use Rattle.fu_items.specs.Fu.{baseAlone}
+use Rattle.points_fu.specs.Fu.{baseAlone}
 use Rattle.score.specs.declared.Scored.{Scored}
 use Rattle.speech_numerals.specs.Numerals.{placeOf, underHundred, threeOf, scaledThree, englishOf, thousandsOf, hundredsOf, tensOf, onesOf, fourOf, scaledFour, easternOf, numeral}
 use Rattle.speech_told.specs.Phrases.{chosen, yakuClips, limitClips, worthClips, amountClips, paysClips, paymentsClips}

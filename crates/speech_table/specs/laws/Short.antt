@@ -8,7 +8,7 @@ use lib.Dec.{eqb}
 use lib.IntN.{pos, natAbs}
 use lib.ListN.{length, getD, length-append}
 use Rattle.tiles.specs.Below.{some}
-use Rattle.ledger.specs.declared.Game.{Game}
+use Rattle.position.specs.declared.Position.{Position}
 use Rattle.waits.specs.declared.Waits.{Waits}
 use Rattle.speech_numerals.specs.Numerals.{numeral}
 use Rattle.speech_numerals.specs.laws.Short.{numeral-short}
@@ -18,7 +18,7 @@ use Rattle.speech_told.specs.laws.Lengths.{score-short, counted-short, tiles-sh
 use Rattle.speech_told.specs.laws.OnSheet.{Has, has-none, has-then, has-more, has-cond, has-numeral, has-score, has-counted, has-tiles}
 use Rattle.speech_table.specs.Messages.{fourScores, scoresMessage, waitsMessage, readyMessage}
 
-module _ (l : ℕ) (g : Game) (f : (k : ℕ) → natAbs (getD (g .scores) k (pos 0)) < 4294967296) (a : g .sticks < 4294967296) (b : g .counter < 4294967296) where
+module _ (l : ℕ) (g : Position) (f : (k : ℕ) → natAbs (getD (g .scores) k (pos 0)) < 4294967296) (a : g .sticks < 4294967296) (b : g .counter < 4294967296) where
   pub scores-short : length (scoresMessage l g) ≤ 92
   unfolding scoresMessage fourScores
   scores-short =

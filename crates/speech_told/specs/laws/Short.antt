@@ -10,8 +10,8 @@ use lib.ListN.{length, getD, length-append}
 use Rattle.hand.specs.Hand.{isRon}
 use Rattle.hand_record.specs.Record.{handOf, readOf}
 use Rattle.yaku.specs.Yaku.{isYakuman}
-use Rattle.fu_items.specs.declared.Items.{Items}
-use Rattle.fu_items.specs.Fu.{added}
+use Rattle.points_fu.specs.declared.Items.{Items}
+use Rattle.points_fu.specs.Fu.{added}
 use Rattle.score.specs.Score.{scoreOf}
 use Rattle.score.specs.Claims.{items-total}
 use Rattle.speech_numerals.specs.Numerals.{numeral}

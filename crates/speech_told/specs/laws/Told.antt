@@ -15,11 +15,11 @@ use Rattle.hand_record.specs.declared.Answer.the-variants.{Sound, Refused}
 use Rattle.hand_record.specs.Record.{handOf, readOf, fieldsOf, refusalIn}
 use Rattle.hand_record.specs.laws.Bounds.{read-bounds}
 use Rattle.yaku.specs.Yaku.{isYakuman}
-use Rattle.value.specs.Value.{valueOf}
-use Rattle.value.specs.Claims.{yakuman-pays-as-one}
+use Rattle.points_value.specs.Value.{valueOf}
+use Rattle.points_value.specs.Claims.{yakuman-pays-as-one}
 use Rattle.score.specs.declared.Scored.{Scored}
-use Rattle.score.specs.Named.{wonOf, seatsOf, partsOf, worth, Named, reported, six, seven}
-use Rattle.score.specs.IsScore.{IsScore, eight, unread, read}
+use Rattle.score.specs.Named.{wonOf, seatsOf, fullReadingOf, worth, Named, reported, six, seven}
+use Rattle.score.specs.IsScore.{IsScore, eight, unreadable, read}
 use Rattle.score.specs.Score.{scoreOf, is-score}
 use Rattle.speech_told.specs.Phrases.{player, worthClips, amountClips, paymentsClips}
 use Rattle.speech_told.specs.Messages.{scoreMessage, scoreSaid}
@@ -60,7 +60,7 @@ module _ (h : Hand) (dealer wind : ℕ) where
   named-zeros : {a : Scored} → Named h dealer wind a → Zeros a
   unfolding worth valueOf
   named-zeros (reported r i) e =
-      let z = yakuman-pays-as-one (wonOf h dealer wind) (partsOf h r) (doraOf (h .fields .indicator)) (seatsOf h dealer) e in
+      let z = yakuman-pays-as-one (wonOf h dealer wind) (fullReadingOf h r) (doraOf (h .fields .indicator)) (seatsOf h dealer) e in
       (z .0, z .1)
   named-zeros (six n) e = none-listed e
   named-zeros (seven q i n) e = none-listed e
@@ -68,7 +68,7 @@ module _ (h : Hand) (dealer wind : ℕ) where
 module _ (s : List ℕ) (dealer wind : ℕ) where
   is-zeros : {a : Scored} → IsScore s dealer wind a → Zeros a
   is-zeros (eight o) e = none-listed e
-  is-zeros (unread d w n r) e = none-listed e
+  is-zeros (unreadable d w n r) e = none-listed e
   is-zeros (read d w f r n) e = named-zeros _ dealer wind n e
 
   zeros : Zeros (scoreOf s dealer wind)

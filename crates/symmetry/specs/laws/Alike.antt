@@ -12,10 +12,10 @@ use Rattle.tiles.specs.Below.{all, any, count, sum}
 use Rattle.tiles.specs.Kinds.{isYaochu, isDragon, isWind}
 use Rattle.tiles.specs.Groups.{isRun, isTriplet, isGroup}
 use Rattle.tiles.specs.laws.Below.{and-true, both-ways, any-counted, all-any, any-at, any-of}
-use Rattle.groups.specs.Tests.{has, isValue, dragons, winds, littleDragons, valueHan, earnsWait, pinfu, held, twins, inThreeAt, inThreeSuits, straight, touches, outside, triplets, isConcealed, concealed, kans, fourWinds}
+use Rattle.yaku_basics.specs.Tests.{has, isValue, dragons, winds, littleDragons, valueHan, earnsWait, pinfu, held, twins, inThreeAt, inThreeSuits, straight, hasYaochu, outside, triplets, isConcealed, concealed, kans, fourWinds}
 use Rattle.symmetry.specs.Renamed.{renamed}
 use Rattle.symmetry.specs.laws.Kinds.{Renaming, at-suit, test-other, isDragon-stays, isWind-stays, isYaochu-stays, one-of-three}
-use Rattle.symmetry.specs.laws.Codes.{renamedCode, code-run, code-triplet, code-test, code-test-other, isRun-code, isTriplet-code, touches-code, wait-code}
+use Rattle.symmetry.specs.laws.Codes.{renamedCode, code-run, code-triplet, code-test, code-test-other, isRun-code, isTriplet-code, has-yaochu-code, wait-code}
 use Rattle.symmetry.specs.laws.Tallies.{any-suits, total-kinds}
 
 -- the groups g with ways w, renamed, are the groups r with ways v in some order: each sum over them is the same
@@ -169,9 +169,9 @@ module _ (u : Renaming) (g w r v : List ℕ) (m : Moved u g w r v) where
   pub outside-moved : (k : ℕ) → outside r (renamed (u .to) k) ≡ outside g k
   unfolding outside
   outside-moved k =
-      ap (λ (x : Bool). x && isYaochu (renamed (u .to) k) && any 4 (λ i. isRun (getD r i 0))) (all-moved touches (touches-code u))
-      ∙ ap (λ (x : Bool). all 4 (λ i. touches (getD g i 0)) && x && any 4 (λ i. isRun (getD r i 0))) (isYaochu-stays u k)
-      ∙ ap (λ (x : Bool). all 4 (λ i. touches (getD g i 0)) && isYaochu k && x) (any-moved (λ c x. isRun c) (λ c x. isRun c) (λ c x. isRun-code u c))
+      ap (λ (x : Bool). x && isYaochu (renamed (u .to) k) && any 4 (λ i. isRun (getD r i 0))) (all-moved hasYaochu (has-yaochu-code u))
+      ∙ ap (λ (x : Bool). all 4 (λ i. hasYaochu (getD g i 0)) && x && any 4 (λ i. isRun (getD r i 0))) (isYaochu-stays u k)
+      ∙ ap (λ (x : Bool). all 4 (λ i. hasYaochu (getD g i 0)) && isYaochu k && x) (any-moved (λ c x. isRun c) (λ c x. isRun c) (λ c x. isRun-code u c))
 
   pub triplets-moved : triplets r ≡ triplets g
   triplets-moved = all-moved isTriplet (isTriplet-code u)

@@ -5,9 +5,9 @@ use mathlib.Core.Bool.{Bool, true, false, cond}
 use native.Mathlib.Omega.{arith}
 use borrow.Author.Tests.{ltb-true, ltb-false, lt-ltb, le-ltb, lt-leb, le-leb}
 use lib.Dec.{ltb, eqb}
-use Rattle.tiles.specs.Groups.{isRun, isTriplet, isGroup, at, uses}
-use Rattle.groups.specs.Tests.{earnsWait, touches}
-use Rattle.fu_items.specs.Fu.{groupFu}
+use Rattle.tiles.specs.Groups.{isRun, isTriplet, isGroup, atKind, uses}
+use Rattle.yaku_basics.specs.Tests.{earnsWait, hasYaochu}
+use Rattle.points_fu.specs.Fu.{groupFu}
 use Rattle.reading.specs.laws.Groups.{run-in, run-or}
 use Rattle.symmetry.specs.Renamed.{renamed}
 use Rattle.symmetry.specs.laws.Kinds.{Renaming, number-or, renamed-other, number-stays, there-back, test-stays, next-stays, lt-stays, kind-order, isYaochu-stays, isRunStart-stays}
@@ -77,9 +77,9 @@ module _ (u : Renaming) where
       (λ h. rw (lt-ltb (F c) 34 (run-lt c h), lt-ltb c 34 h, code-run (u .to) c h) (isRunStart-stays u c))
       (λ h. rw (le-ltb (F c) 34 (triplet-ge c h .0), le-ltb c 34 h, low-code c))
 
-  pub touches-code : (c : ℕ) → touches (F c) ≡ touches c
-  unfolding touches
-  touches-code c =
+  pub has-yaochu-code : (c : ℕ) → hasYaochu (F c) ≡ hasYaochu c
+  unfolding hasYaochu
+  has-yaochu-code c =
       run-or c
       (λ h. rw (lt-ltb (F c) 34 (run-lt c h), lt-ltb c 34 h, code-run (u .to) c h, same-number c))
       (λ h. rw (le-ltb (F c) 34 (triplet-ge c h .0), le-ltb c 34 h, triplet-ge c h .1) (isYaochu-stays u (c - 34)))
@@ -102,12 +102,12 @@ module _ (u : Renaming) where
 
   -- ---- tiles of a kind
 
-  pub at-kind : (a n k : ℕ) → at (f a) n (f k) ≡ at a n k
-  unfolding at
+  pub at-kind : (a n k : ℕ) → atKind (f a) n (f k) ≡ atKind a n k
+  unfolding atKind
   at-kind a n k = rw (test-stays u a k)
 
-  pub at-code : (c n d : ℕ) → at (F c) n (F d) ≡ at c n d
-  unfolding at
+  pub at-code : (c n d : ℕ) → atKind (F c) n (F d) ≡ atKind c n d
+  unfolding atKind
   at-code c n d = rw (code-test c d)
 
   pub uses-code : (c k : ℕ) → isGroup c ≡ true → uses (F c) (f k) ≡ uses c k

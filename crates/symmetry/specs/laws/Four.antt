@@ -15,12 +15,12 @@ use Rattle.hand.specs.declared.Hand.{Hand}
 use Rattle.hand.specs.Hand.{isRon, handTally}
 use Rattle.reading.specs.declared.Reading.{Reading}
 use Rattle.reading.specs.Reading.{ofShape}
-use Rattle.groups.specs.Melds.{meldCode, meldWay}
-use Rattle.yaku.specs.declared.Parts.{Parts}
-use Rattle.tile_yaku.specs.OfTiles.{only, isGreen}
-use Rattle.value.specs.declared.Value.{Value}
-use Rattle.value.specs.Value.{valueOf}
-use Rattle.score.specs.Named.{wonOf, seatsOf, groupsOf, waysOf, partsOf, worth}
+use Rattle.yaku_basics.specs.Melds.{meldCode, meldWay}
+use Rattle.yaku.specs.declared.FullReading.{FullReading}
+use Rattle.yaku_tiles.specs.OfTiles.{only, isGreen}
+use Rattle.points_value.specs.declared.Value.{Value}
+use Rattle.points_value.specs.Value.{valueOf}
+use Rattle.score.specs.Named.{wonOf, seatsOf, groupsOf, waysOf, fullReadingOf, worth}
 use Rattle.symmetry.specs.Renamed.{renamed}
 use Rattle.symmetry.specs.laws.Kinds.{Renaming, renamed-other, dora-stays, dora-lt}
 use Rattle.symmetry.specs.laws.Codes.{renamedCode, code-other}
@@ -146,7 +146,7 @@ module _ (u : Renaming) (h k : Hand) (s : Renames u h k) (green : only (handTall
   -- by the four groups
   worth-by : (r q : Reading) → q .shape ≡ r .shape → q .pair ≡ renamed (u .to) (r .pair) → Moved u (groupsOf h r) (waysOf h r) (groupsOf k q) (waysOf k q)
       → SamePlace u (groupsOf h r) (groupsOf k q) (r .place) (q .place) → SameWorth (worth h dealer wind r) (worth k dealer wind q)
-  unfolding worth partsOf wonOf
+  unfolding worth fullReadingOf wonOf
   worth-by r q es ep m here =
       let e = hand-tally u h k s in
       let dora : ℕ = doraOf (h .fields .indicator) in
@@ -154,10 +154,10 @@ module _ (u : Renaming) (h k : Hand) (s : Renames u h k) (green : only (handTall
       (value-stays u (wonOf h dealer wind) (handTally k) e green (omega arith) (omega arith) (r .shape) (r .pair)
       (groupsOf h r) (waysOf h r) (groupsOf k q) (waysOf k q) m (r .place) (q .place) here dora (dora-lt (h .fields .indicator)) (seatsOf h dealer))
     where
-      parts : Parts
+      parts : FullReading
       parts = record { shape = r .shape; pair = renamed (u .to) (r .pair); groups = groupsOf k q; ways = waysOf k q; place = q .place }
 
-      is : valueOf (wonOf k dealer wind) (partsOf k q) (doraOf (k .fields .indicator)) (seatsOf k dealer)
+      is : valueOf (wonOf k dealer wind) (fullReadingOf k q) (doraOf (k .fields .indicator)) (seatsOf k dealer)
           ≡ valueOf (renamedWon (u .to) (wonOf h dealer wind) (handTally k)) parts (renamed (u .to) (doraOf (h .fields .indicator))) (seatsOf h dealer)
       is = rw (won-renamed u h k s dealer wind, es, ep, ← dora-stays u (h .fields .indicator) (s .indicator), s .fields)
 

@@ -9,7 +9,7 @@ use borrow.Author.Tests.{ltb-true, ltb-false, eqb-true, eqb-false}
 use lib.Dec.{ltb, eqb}
 use lib.ListN.{length, getD, take}
 use lib.Seq.{take-length}
-use Rattle.tiles.specs.Groups.{isGroup, at, uses}
+use Rattle.tiles.specs.Groups.{isGroup, atKind, uses}
 use Rattle.tiles.specs.laws.Tally.{ofKind}
 use Rattle.reading.specs.Reading.{usedBy, Ascends}
 use Rattle.reading.specs.Order.{Lex}
@@ -42,7 +42,7 @@ module _ (u : Renaming) (a b : List ℕ) (s : Sums u a b) where
 
   pub carried-kind : (x : ℕ) → ofKind b (F x) ≡ ofKind a x
   carried-kind x =
-      sym (over-kind b (F x)) ∙ s (λ c. at c 1 (F x)) ∙ over-cong (λ c. at (F c) 1 (F x)) (λ c. at c 1 x) a (λ c. at-code u c 1 x) ∙ over-kind a x
+      sym (over-kind b (F x)) ∙ s (λ c. atKind c 1 (F x)) ∙ over-cong (λ c. atKind (F c) 1 (F x)) (λ c. atKind c 1 x) a (λ c. at-code u c 1 x) ∙ over-kind a x
 
   pub carried-length : length b ≡ length a
   carried-length = sym (over-length b) ∙ s (λ c. 1) ∙ over-length a

@@ -7,7 +7,7 @@ use borrow.Author.Tests.{ltb-true, ltb-false, leb-true, leb-false, eqb-true}
 use lib.Dec.{ltb, leb, eqb}
 use lib.ListN.{length, getD, List·getD-eq-default}
 use Rattle.tiles.specs.Kinds.{isRunStart}
-use Rattle.tiles.specs.Groups.{at}
+use Rattle.tiles.specs.Groups.{atKind}
 use Rattle.tiles.specs.Tally.{tallyOf}
 use Rattle.tiles.specs.laws.Below.{and-true}
 use Rattle.tiles.specs.laws.Tally.{getD-tally, length-tally}
@@ -15,7 +15,7 @@ use Rattle.hand.specs.declared.Fields.{Fields}
 use Rattle.hand.specs.declared.Hand.{Hand}
 use Rattle.hand.specs.Held.{meldKind, meldTile, isClosed, hasKan, meldHolds, inMelds, inOthers, inHeld}
 use Rattle.hand.specs.Hand.{inConcealed, inHand, concealedTally, handTally}
-use Rattle.groups.specs.Melds.{meldCode, meldWay}
+use Rattle.yaku_basics.specs.Melds.{meldCode, meldWay}
 use Rattle.score.specs.Named.{wonOf}
 use Rattle.symmetry.specs.Renamed.{renamed, renamedMeld, renamedFields}
 use Rattle.symmetry.specs.laws.Kinds.{Renaming, back, renamed-other, lt-stays, next-stays, there-back, isRunStart-stays}
@@ -64,7 +64,7 @@ module _ (u : Renaming) (b : ℕ) where
     where
       -- the tiles of a chi, of a pon, of a kan
       holds : Bool → Bool → ℕ → ℕ → ℕ
-      holds x y a k = cond x (at a 1 k + at (a + 1) 1 k + at (a + 2) 1 k) (cond y (at a 3 k) (at a 4 k))
+      holds x y a k = cond x (atKind a 1 k + atKind (a + 1) 1 k + atKind (a + 2) 1 k) (cond y (atKind a 3 k) (atKind a 4 k))
 
       go : (x y : Bool) → eqb (meldKind b) 0 ≡ x → holds x y (renamed (u .to) (meldTile b)) (renamed (u .to) k) ≡ holds x y (meldTile b) k
       go true y e =

@@ -6,7 +6,7 @@ use mathlib.Core.Logic.{_⊎_, inl, inr, ⊎-elim}
 use native.Mathlib.Omega.{arith}
 use lib.ListN.{length, replicate, length-append, length-replicate}
 use Rattle.bits.specs.laws.Pack.{app-inj}
-use Rattle.tiles.specs.Groups.{at}
+use Rattle.tiles.specs.Groups.{atKind}
 use Rattle.hand.specs.declared.Hand.{Hand}
 use Rattle.reading.specs.declared.Reading.{Reading}
 use Rattle.reading.specs.Reading.{usedBy, IsRegular, ofShape}
@@ -74,11 +74,11 @@ module _ (u : Renaming) (h k : Hand) where
       → Carries u (x .codes) (v .codes) (r .place) (q .place) → Carries u (y .codes) (w .codes) (p .place) (c .place) → Before r p → Before q c
   regular-before r p q c x y v w eq ec s z l = of-first q c v w (go (first-of r p x y l))
     where
-      tiles : (j : ℕ) → at (r .pair) 2 j + usedBy (x .codes) j ≡ at (p .pair) 2 j + usedBy (y .codes) j
+      tiles : (j : ℕ) → atKind (r .pair) 2 j + usedBy (x .codes) j ≡ atKind (p .pair) 2 j + usedBy (y .codes) j
       tiles j = sym (x .tiles j) ∙ y .tiles j
 
       used : r .pair ≡ p .pair → (j : ℕ) → usedBy (x .codes) j ≡ usedBy (y .codes) j
-      used e j = omega (arith, tiles j, ap (λ (n : ℕ). at n 2 j) e)
+      used e j = omega (arith, tiles j, ap (λ (n : ℕ). atKind n 2 j) e)
 
       go : First (r .pair) (p .pair) (x .codes) (y .codes) (r .place) (p .place) → First (q .pair) (c .pair) (v .codes) (w .codes) (q .place) (c .place)
       go (inl l) = inl (rw (eq, ec) (kind-order u (r .pair) (p .pair) (pairs-alike (r .pair) (p .pair) (x .codes) (y .codes) (x .order) (y .order) tiles) l))

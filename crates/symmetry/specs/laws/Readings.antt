@@ -7,7 +7,7 @@ use native.Mathlib.Omega.{arith}
 use borrow.Author.Tests.{leb-true, le-leb}
 use lib.Dec.{leb}
 use lib.ListN.{length, getD, replicate, List·getD-append}
-use Rattle.tiles.specs.Groups.{isGroup, at, uses}
+use Rattle.tiles.specs.Groups.{isGroup, atKind, uses}
 use Rattle.hand.specs.declared.Hand.{Hand}
 use Rattle.hand.specs.Hand.{concealedTally}
 use Rattle.reading.specs.declared.Reading.{Reading}
@@ -91,10 +91,10 @@ module _ (u : Renaming) (h k : Hand) (s : Renames u h k) where
     long : length b ≡ 4 - k .held .m
     long = carried-length u a b (c .sums) ∙ x .size ∙ ap (λ (n : ℕ). 4 - n) (sym (s .m))
 
-    tiles : (i : ℕ) → getD (concealedTally k) i 0 ≡ at (f (r .pair)) 2 i + usedBy b i
-    tiles i = subst (λ (z : ℕ). getD (concealedTally k) z 0 ≡ at (f (r .pair)) 2 z + usedBy b z) (there-back (back u) i) (at-image (renamed (u .from) i))
+    tiles : (i : ℕ) → getD (concealedTally k) i 0 ≡ atKind (f (r .pair)) 2 i + usedBy b i
+    tiles i = subst (λ (z : ℕ). getD (concealedTally k) z 0 ≡ atKind (f (r .pair)) 2 z + usedBy b z) (there-back (back u) i) (at-image (renamed (u .from) i))
       where
-        at-image : (i : ℕ) → getD (concealedTally k) (f i) 0 ≡ at (f (r .pair)) 2 (f i) + usedBy b (f i)
+        at-image : (i : ℕ) → getD (concealedTally k) (f i) 0 ≡ atKind (f (r .pair)) 2 (f i) + usedBy b (f i)
         at-image i = concealed-tally u h k s i ∙ x .tiles i ∙ sym (rw (at-kind u (r .pair) 2 i, used-stays u a b (x .order) (c .sums) i))
 
     placed : (j ≤ 4 - k .held .m) × (holds (image .pair) (image .groups) j (k .fields .winning) ≡ true)

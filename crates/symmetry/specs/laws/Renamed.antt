@@ -12,7 +12,7 @@ use lib.ListN.{length, getD, take, replicate, length-map, List·getD-append}
 use lib.Seq.{length-take-le, getD-take}
 use Rattle.tiles.specs.Below.{sum, some, number, total}
 use Rattle.tiles.specs.Kinds.{isRunStart}
-use Rattle.tiles.specs.Groups.{at}
+use Rattle.tiles.specs.Groups.{atKind}
 use Rattle.tiles.specs.laws.Below.{or-both, some-at, some-of, number-total}
 use Rattle.bits.specs.Bits.{fill}
 use Rattle.bits.specs.laws.Pack.{length-fill, below-fill, below-take, below-map}
@@ -46,13 +46,13 @@ all-map P f (suc n) [] h = tt
 all-map P f (suc n) (x ∷ l) h = (h 0 (omega arith), all-map P f n l (λ i g. h (suc i) (omega arith)))
 
 -- how many of the first n of a list are of a kind
-first-kinds : (l : List ℕ) (k n : ℕ) → n ≤ length l → number n (λ i. eqb (getD l i 0) k) ≡ sumOver (λ x. at x 1 k) (take n l)
-unfolding total at
+first-kinds : (l : List ℕ) (k n : ℕ) → n ≤ length l → number n (λ i. eqb (getD l i 0) k) ≡ sumOver (λ x. atKind x 1 k) (take n l)
+unfolding total atKind
 first-kinds l k n h =
     number-total (λ i. eqb (getD l i 0) k) n
-    ∙ sum-cong (λ i. at (getD l i 0) 1 k) (λ i. at (getD (take n l) i 0) 1 k) n (λ i g. ap (λ (x : ℕ). at x 1 k) (sym (getD-take n l i 0 g)))
-    ∙ ap (λ (z : ℕ). sum z (λ i. at (getD (take n l) i 0) 1 k)) (sym (length-take-le n l h))
-    ∙ over-places (λ x. at x 1 k) (take n l)
+    ∙ sum-cong (λ i. atKind (getD l i 0) 1 k) (λ i. atKind (getD (take n l) i 0) 1 k) n (λ i g. ap (λ (x : ℕ). atKind x 1 k) (sym (getD-take n l i 0 g)))
+    ∙ ap (λ (z : ℕ). sum z (λ i. atKind (getD (take n l) i 0) 1 k)) (sym (length-take-le n l h))
+    ∙ over-places (λ x. atKind x 1 k) (take n l)
 
 -- ---- melds of a hand that is accepted
 
@@ -152,10 +152,10 @@ module _ (u : Renaming) (h : Hand) (y : Accepted h) (i : IsHand h) where
   unfolding inOthers
   counted j =
       first-kinds (fill 13 tiles) (f j) n (omega (arith, length-fill 13 tiles (omega (arith, tiles-long))))
-      ∙ ap (sumOver (λ z. at z 1 (f j))) (take-fill 13 n tiles tiles-long)
-      ∙ over-inOrder (λ z. at z 1 (f j)) (map f (take n (x₀ .concealed)))
-      ∙ over-map (λ z. at z 1 (f j)) f (take n (x₀ .concealed))
-      ∙ over-cong (λ z. at (f z) 1 (f j)) (λ z. at z 1 j) (take n (x₀ .concealed)) (λ z. at-kind u z 1 j)
+      ∙ ap (sumOver (λ z. atKind z 1 (f j))) (take-fill 13 n tiles tiles-long)
+      ∙ over-inOrder (λ z. atKind z 1 (f j)) (map f (take n (x₀ .concealed)))
+      ∙ over-map (λ z. atKind z 1 (f j)) f (take n (x₀ .concealed))
+      ∙ over-cong (λ z. atKind (f z) 1 (f j)) (λ z. atKind z 1 j) (take n (x₀ .concealed)) (λ z. at-kind u z 1 j)
       ∙ sym (first-kinds (x₀ .concealed) j n (omega (arith, i .concealed)))
 
   pub renames : Renames u h k

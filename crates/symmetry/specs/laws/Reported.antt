@@ -7,10 +7,10 @@ use Rattle.hand.specs.declared.Hand.{Hand}
 use Rattle.hand.specs.Hand.{handTally}
 use Rattle.reading.specs.declared.Reading.{Reading}
 use Rattle.reading.specs.Order.{Lex}
-use Rattle.tile_yaku.specs.OfTiles.{only, isGreen}
+use Rattle.yaku_tiles.specs.OfTiles.{only, isGreen}
 use Rattle.yaku.specs.Yaku.{hasYaku}
 use Rattle.points.specs.Points.{changes}
-use Rattle.best.specs.Best.{withYaku, figures, Over}
+use Rattle.score_best.specs.Best.{withYaku, figures, Over}
 use Rattle.score.specs.declared.Scored.{Scored}
 use Rattle.score.specs.Named.{worth, IsReadingOf, ReadsWithYaku, IsReported, scoredAs, refusedWith, Named, reported, six, seven}
 use Rattle.symmetry.specs.Renamed.{SameScore}

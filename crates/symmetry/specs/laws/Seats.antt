@@ -13,7 +13,7 @@ use Rattle.tiles.specs.laws.Tabulate.{getD-tabulate}
 use Rattle.points.specs.declared.Seats.{Seats}
 use Rattle.points.specs.Points.{share, pays, gain, change, changes}
 use Rattle.score.specs.Named.{refusedWith}
-use Rattle.symmetry.specs.Turned.{on, turnedChanges, turnedScore}
+use Rattle.symmetry.specs.Rotated.{on, rotatedChanges, rotatedScore}
 
 -- the seat from which it is n on
 abbrev pub back : ℕ → ℕ → ℕ
@@ -32,8 +32,8 @@ wind-stays n w d h g = omega arith
 -- ---- four changes
 
 -- what a seat had, the seat n on has
-pub moved-at : (n seat : ℕ) (l : List ℤ) → seat < 4 → getD (turnedChanges n l) (on n seat) (pos 0) ≡ getD l seat (pos 0)
-unfolding turnedChanges
+pub moved-at : (n seat : ℕ) (l : List ℤ) → seat < 4 → getD (rotatedChanges n l) (on n seat) (pos 0) ≡ getD l seat (pos 0)
+unfolding rotatedChanges
 moved-at n seat l h =
     let e : back n (on n seat) ≡ seat = omega arith in
     getD-tabulate (pos 0) 4 (λ i. getD l (back n i) (pos 0)) (on n seat) (omega arith) ∙ ap (λ (x : ℕ). getD l x (pos 0)) e
@@ -46,8 +46,8 @@ zero-at (suc (suc zero)) = refl
 zero-at (suc (suc (suc zero))) = refl
 zero-at (suc (suc (suc (suc i)))) = refl
 
-pub refused-on : (n k : ℕ) → turnedScore n (refusedWith k) ≡ refusedWith k
-unfolding turnedScore turnedChanges
+pub refused-on : (n k : ℕ) → rotatedScore n (refusedWith k) ≡ refusedWith k
+unfolding rotatedScore rotatedChanges
 refused-on n k = rw (zero-at (back n 0), zero-at (back n 1), zero-at (back n 2), zero-at (back n 3))
 
 -- ---- payments
@@ -98,6 +98,6 @@ module _ (n w d c e : ℕ) (hw : w < 4) (hd : d < 4) (ron : Bool) (hc : ron ≡ 
     unfolding change changes
     change-on i h = rw (getD-tabulate (pos 0) 4 (change s ron a) (back n i) (omega arith), back-test n w i hw h, gain-on, pays-on i h)
 
-    pub changes-on : changes t ron a ≡ turnedChanges n (changes s ron a)
-    unfolding changes turnedChanges
+    pub changes-on : changes t ron a ≡ rotatedChanges n (changes s ron a)
+    unfolding changes rotatedChanges
     changes-on = rw (change-on 0 (omega arith), change-on 1 (omega arith), change-on 2 (omega arith), change-on 3 (omega arith))

@@ -10,7 +10,7 @@ use Rattle.tiles.specs.Below.{all, any, every, number, total}
 use Rattle.tiles.specs.Kinds.{isNumber, inSuit, isHonour, isYaochu}
 use Rattle.tiles.specs.laws.Below.{every-at, every-of, number-total, both-ways, any-at, any-of}
 use Rattle.reading.specs.Reading.{isSevenPairs, isOrphans}
-use Rattle.tile_yaku.specs.OfTiles.{only, halfFlush, flush, gatesOf, gates}
+use Rattle.yaku_tiles.specs.OfTiles.{only, halfFlush, flush, gatesOf, gates}
 use Rattle.symmetry.specs.Renamed.{renamed}
 use Rattle.symmetry.specs.laws.Kinds.{Renaming, back, at-suit, there-back, lt-stays, isNumber-stays, isHonour-stays, isYaochu-stays, inSuit-stays}
 use Rattle.tiles.specs.laws.Sums.{total-moved}
@@ -67,10 +67,10 @@ module _ (u : Renaming) where
     gates-at s l zero m = refl
     gates-at s l (suc n) m = rw (gates-at s l n (omega arith), ← at-suit u s n l (omega arith), e (9 * s + n) (omega arith))
 
-    pub gates-stays : (bare : Bool) → gates r bare ≡ gates t bare
+    pub gates-stays : (meldless : Bool) → gates r meldless ≡ gates t meldless
     unfolding gates
-    gates-stays bare =
-        ap (λ (x : Bool). bare && x)
+    gates-stays meldless =
+        ap (λ (x : Bool). meldless && x)
         (any-suits (λ s. only t (inSuit s) && gatesOf t s) (λ s. only r (inSuit s) && gatesOf r s)
         (λ s l. rw (only-stays (inSuit s) (inSuit (u .to s)) (λ k. inSuit-stays u s k l), gates-at s l 9 (omega arith))))
 

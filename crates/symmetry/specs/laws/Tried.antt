@@ -9,9 +9,9 @@ use Rattle.hand.specs.Hand.{handTally}
 use Rattle.reading.specs.declared.Reading.{Reading}
 use Rattle.reading.specs.Order.{Before}
 use Rattle.reading.specs.All.{Each, none, also, Pairwise, ended, first}
-use Rattle.tile_yaku.specs.OfTiles.{only, isGreen}
+use Rattle.yaku_tiles.specs.OfTiles.{only, isGreen}
 use Rattle.yaku.specs.Yaku.{isYakuman}
-use Rattle.best.specs.Best.{withYakuman, upTo}
+use Rattle.score_best.specs.Best.{withYakuman, upTo}
 use Rattle.score.specs.Readings.{AreReadingsOf, readingsOf, are-readings, only-readings}
 use Rattle.score.specs.Named.{worth, IsReadingOf, triedIn}
 use Rattle.symmetry.specs.laws.Kinds.{Renaming}

@@ -7,18 +7,18 @@ use native.Mathlib.Omega.{arith}
 use lib.Dec.{ltb, eqb}
 use lib.ListN.{getD}
 use Rattle.tiles.specs.Kinds.{isNumber, isHonour, isTerminal, isYaochu, isSimple}
-use Rattle.groups.specs.Tests.{littleDragons, valueHan, pinfu, outside}
+use Rattle.yaku_basics.specs.Tests.{littleDragons, valueHan, pinfu, outside}
 use Rattle.yaku.specs.declared.Won.{Won}
-use Rattle.yaku.specs.declared.Parts.{Parts}
-use Rattle.tile_yaku.specs.OfTiles.{only, honourPresent, isGreen}
+use Rattle.yaku.specs.declared.FullReading.{FullReading}
+use Rattle.yaku_tiles.specs.OfTiles.{only, honourPresent, isGreen}
 use Rattle.yaku.specs.Yaku.{valueHanOf, testsOf, isYakuman, listed, yakuOf}
 use Rattle.points.specs.Points.{basic, gain}
 use Rattle.points.specs.declared.Seats.{Seats}
-use Rattle.fu_items.specs.declared.Items.{Items}
-use Rattle.value.specs.declared.Value.{Value}
-use Rattle.value.specs.Han.{yakuHan, hanOf}
-use Rattle.fu_items.specs.Fu.{fu, groupFu, groupItems, earned, added, rounded, baseAlone, itemsOf, fuOf}
-use Rattle.value.specs.Value.{yakuman, basicOf, valueOf}
+use Rattle.points_fu.specs.declared.Items.{Items}
+use Rattle.points_value.specs.declared.Value.{Value}
+use Rattle.points_value.specs.Han.{yakuHan, hanOf}
+use Rattle.points_fu.specs.Fu.{fu, groupFu, groupItems, earned, added, rounded, baseAlone, itemsOf, fuOf}
+use Rattle.points_value.specs.Value.{yakuman, basicOf, valueOf}
 use Rattle.symmetry.specs.Renamed.{renamed, SameItems}
 use Rattle.symmetry.specs.laws.Kinds.{Renaming, isNumber-stays, isHonour-stays, isTerminal-stays, isYaochu-stays, isSimple-stays}
 use Rattle.symmetry.specs.laws.Codes.{renamedCode, groupFu-code}
@@ -51,7 +51,7 @@ renamedWon σ w t = record {
   situation = w .situation;
   ron = w .ron;
   closed = w .closed;
-  bare = w .bare;
+  meldless = w .meldless;
 }
 
 module _ (u : Renaming) (w : Won) (t : List ℕ) (e : (k : ℕ) → k < 34 → getD t (renamed (u .to) k) 0 ≡ getD (w .tally) k 0)
@@ -60,10 +60,10 @@ module _ (u : Renaming) (w : Won) (t : List ℕ) (e : (k : ℕ) → k < 34 → g
   abbrev w′ : Won
   w′ = renamedWon (u .to) w t
 
-  abbrev p : Parts
+  abbrev p : FullReading
   p = record { shape = shape; pair = pair; groups = g; ways = ws; place = place }
 
-  abbrev q : Parts
+  abbrev q : FullReading
   q = record { shape = shape; pair = renamed (u .to) pair; groups = r; ways = v; place = at }
 
   han-stays : valueHanOf w′ q ≡ valueHanOf w p
@@ -115,7 +115,7 @@ module _ (u : Renaming) (w : Won) (t : List ℕ) (e : (k : ℕ) → k < 34 → g
       (cons (only-stays u (w .tally) t e isHonour isHonour (isHonour-stays u))
       (cons (only-stays u (w .tally) t e isTerminal isTerminal (isTerminal-stays u))
       (cons green
-      (cons (gates-stays u (w .tally) t e (w .bare))
+      (cons (gates-stays u (w .tally) t e (w .meldless))
       (cons refl
       refl)))))))))))))))))))))))))))))))))))))
 
@@ -156,7 +156,7 @@ module _ (u : Renaming) (w : Won) (t : List ℕ) (e : (k : ℕ) → k < 34 → g
   rounding n = rounded (w .closed) n - n
 
   -- with what rounding adds, where they are not the base alone
-  abbrev with-rounding : Won → Parts → Bool → Bool → Items
+  abbrev with-rounding : Won → FullReading → Bool → Bool → Items
   with-rounding w p y s = cond y (baseAlone 0) (cond s (baseAlone 25) (earned w p (rounding (added (earned w p 0)))))
 
   items-stay : (y : Bool) → SameItems (itemsOf w p y) (itemsOf w′ q y)

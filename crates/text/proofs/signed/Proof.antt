@@ -12,15 +12,15 @@ use Rattle.text.proofs.signed.Statement.{statement}
 use Rattle.text.proofs.signed.Tie as tie
 
 -- what is to be written, at the size that was computed
-negative : (c : tie.Then1) → signedOf (c .before .before .before .args .n) ≡ 45 ∷ digitsOf (c .before .size .result)
+negative : (c : tie.Then1) → signedOf (c .before .before .before .args .n) ≡ 45 ∷ digitsOf (c .before .absolute .result)
 negative c =
     let s = c .before .before .before in
-    signed-negative (s .args .n) (rw (toZ-ofZ (s .fits .n)) at (c .if1 .taken)) ∙ rw (c .before .size .ensures, toZ-ofZ (s .fits .n))
+    signed-negative (s .args .n) (rw (toZ-ofZ (s .fits .n)) at (c .if1 .taken)) ∙ rw (c .before .absolute .ensures, toZ-ofZ (s .fits .n))
 
-positive : (c : tie.Else1) → signedOf (c .before .before .before .args .n) ≡ digitsOf (c .before .size .result)
+positive : (c : tie.Else1) → signedOf (c .before .before .before .args .n) ≡ digitsOf (c .before .absolute .result)
 positive c =
     let s = c .before .before .before in
-    signed-positive (s .args .n) (rw (toZ-ofZ (s .fits .n)) at (c .if1 .left)) ∙ rw (c .before .size .ensures, toZ-ofZ (s .fits .n))
+    signed-positive (s .args .n) (rw (toZ-ofZ (s .fits .n)) at (c .if1 .left)) ∙ rw (c .before .absolute .ensures, toZ-ofZ (s .fits .n))
 
 digits-requires : tie.Need-digits-requires
 digits-requires c κs =

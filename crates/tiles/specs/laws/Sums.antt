@@ -9,7 +9,7 @@ use borrow.Author.Tests.{eqb-true, eqb-false, eq-eqb, ne-eqb}
 use lib.Dec.{eqb}
 use lib.ListN.{length, getD}
 use Rattle.tiles.specs.Below.{sum, total}
-use Rattle.tiles.specs.Groups.{at}
+use Rattle.tiles.specs.Groups.{atKind}
 use Rattle.tiles.specs.laws.Tally.{ofKind}
 use Rattle.tiles.specs.laws.Below.{same-test}
 
@@ -47,12 +47,12 @@ sum-none zero = refl
 sum-none (suc n) = omega (arith, sum-none n)
 
 -- x at one of them
-pub sum-at : (a x n : ℕ) → a < n → sum n (at a x) ≡ x
-unfolding at
+pub sum-at : (a x n : ℕ) → a < n → sum n (atKind a x) ≡ x
+unfolding atKind
 sum-at a x n h =
-    let e = sum-differ (at a x) (λ i. 0) n a h (λ i l d. other i d) in
+    let e = sum-differ (atKind a x) (λ i. 0) n a h (λ i l d. other i d) in
     let z = sum-none n in
-    let o : at a x a ≡ x = rw (eq-eqb a a refl) in
+    let o : atKind a x a ≡ x = rw (eq-eqb a a refl) in
     omega arith
   where
     other : (i : ℕ) → (i ≡ a → ⊥) → cond (eqb a i) x 0 ≡ 0
@@ -67,17 +67,17 @@ module _ (n : ℕ) (to from : ℕ → ℕ) (to-lt : (k : ℕ) → k < n → to k
     (there : (k : ℕ) → from (to k) ≡ k) (again : (k : ℕ) → to (from k) ≡ k) (h g : ℕ → ℕ) (e : (k : ℕ) → k < n → g (to k) ≡ h k) where
   -- g k where j goes to k
   abbrev one : ℕ → ℕ → ℕ
-  one k j = at (to j) (g k) k
+  one k j = atKind (to j) (g k) k
 
   rows : (k : ℕ) → k < n → sum n (one k) ≡ g k
-  unfolding at
+  unfolding atKind
   rows k l =
-      sum-cong (one k) (at (from k) (g k)) n (λ j m. rw (same-test (to j) k (from k) j (λ q. ap from (sym q) ∙ there j) (λ q. ap to (sym q) ∙ again k)))
+      sum-cong (one k) (atKind (from k) (g k)) n (λ j m. rw (same-test (to j) k (from k) j (λ q. ap from (sym q) ∙ there j) (λ q. ap to (sym q) ∙ again k)))
       ∙ sum-at (from k) (g k) n (from-lt k l)
 
   columns : (j : ℕ) → j < n → sum n (λ k. one k j) ≡ h j
-  unfolding at
-  columns j l = sum-cong (λ k. one k j) (at (to j) (h j)) n (λ k m. go k (eqb (to j) k) refl) ∙ sum-at (to j) (h j) n (to-lt j l)
+  unfolding atKind
+  columns j l = sum-cong (λ k. one k j) (atKind (to j) (h j)) n (λ k m. go k (eqb (to j) k) refl) ∙ sum-at (to j) (h j) n (to-lt j l)
     where
       go : (k : ℕ) (b : Bool) → eqb (to j) k ≡ b → cond b (g k) 0 ≡ cond b (h j) 0
       go k true q = ap g (sym (eqb-true (to j) k q)) ∙ e j l
@@ -121,7 +121,7 @@ over-length [] = refl
 over-length (x ∷ l) = omega (arith, over-length l)
 
 -- how many of a kind
-pub over-kind : (l : List ℕ) (k : ℕ) → sumOver (λ x. at x 1 k) l ≡ ofKind l k
+pub over-kind : (l : List ℕ) (k : ℕ) → sumOver (λ x. atKind x 1 k) l ≡ ofKind l k
 unfolding sumOver ofKind
 over-kind [] k = refl
 over-kind (x ∷ l) k = rw (over-kind l k)

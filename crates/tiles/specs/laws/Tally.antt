@@ -10,7 +10,7 @@ use lib.ListN.{getD, set, length, List·getD-eq-default}
 use lib.Seq.{getD-set-same, getD-set-other, ext-getD}
 use borrow.Author.Tests.{eqb-true, eqb-false, ltb-true, ltb-false}
 use Rattle.tiles.specs.Below.{tabulate}
-use Rattle.tiles.specs.Groups.{at}
+use Rattle.tiles.specs.Groups.{atKind}
 use Rattle.tiles.specs.Tally.{tallyOf}
 use Rattle.tiles.specs.laws.Tabulate.{length-tabulate, getD-tabulate}
 
@@ -21,7 +21,7 @@ more t k n = set t k (getD t k 0 + n)
 -- how many of the tiles of a list are of kind k
 unfoldable pub ofKind : List ℕ → ℕ → ℕ
 ofKind [] k = 0
-ofKind (x ∷ l) k = at x 1 k + ofKind l k
+ofKind (x ∷ l) k = atKind x 1 k + ofKind l k
 
 pub length-tally : (f : ℕ → ℕ) → length (tallyOf f) ≡ 34
 unfolding tallyOf
@@ -36,8 +36,8 @@ pub tally-ext : (t : List ℕ) (f : ℕ → ℕ) → length t ≡ 34 → ((k : �
 tally-ext t f l h = ext-getD 0 t (tallyOf f) (l ∙ sym (length-tally f)) (λ k g. h k (omega arith) ∙ sym (getD-tally f k (omega arith)))
 
 -- n more of kind a
-pub getD-more : (t : List ℕ) (a n k : ℕ) → k < length t → getD (more t a n) k 0 ≡ getD t k 0 + at a n k
-unfolding more at
+pub getD-more : (t : List ℕ) (a n k : ℕ) → k < length t → getD (more t a n) k 0 ≡ getD t k 0 + atKind a n k
+unfolding more atKind
 getD-more t a n k h = go (eqb a k) refl
   where
     go : (b : Bool) → eqb a k ≡ b → getD (set t a (getD t a 0 + n)) k 0 ≡ getD t k 0 + cond b n 0
@@ -46,8 +46,8 @@ getD-more t a n k h = go (eqb a k) refl
         rw q (getD-set-same t k _ 0 h)
     go false e = rw add-zero (getD-set-other t a k _ 0 (λ q. eqb-false a k e (sym q)))
 
-pub at-le : (a n k : ℕ) → at a n k ≤ n
-unfolding at
+pub at-le : (a n k : ℕ) → atKind a n k ≤ n
+unfolding atKind
 at-le a n k = go (eqb a k)
   where
     go : (b : Bool) → cond b n 0 ≤ n
@@ -64,5 +64,5 @@ module _ (t : List ℕ) (l : length t ≡ 34) where
       go false e = rw (List·getD-eq-default t 0 {n = k} (omega (arith, ltb-false k 34 e))) (omega arith)
 
   -- n more of kind a, over a tally that is known kind by kind
-  pub more-adds : (u : List ℕ) (f : ℕ → ℕ) (a n : ℕ) → u ≡ more t a n → ((k : ℕ) → k < 34 → getD t k 0 ≡ f k) → (k : ℕ) → k < 34 → getD u k 0 ≡ f k + at a n k
+  pub more-adds : (u : List ℕ) (f : ℕ → ℕ) (a n : ℕ) → u ≡ more t a n → ((k : ℕ) → k < 34 → getD t k 0 ≡ f k) → (k : ℕ) → k < 34 → getD u k 0 ≡ f k + atKind a n k
   more-adds u f a n e h k g = rw (e, getD-more t a n k (omega arith), h k g)

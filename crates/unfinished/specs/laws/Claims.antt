@@ -2,13 +2,13 @@
 use Prim.Native.Nat.{ℕ, _*_, _+_, _-_, _≤_, _<_}
 use mathlib.Core.Path.{_≡_}
 use native.Mathlib.Omega.{arith}
-use Rattle.bits.specs.Bits.{sum}
+use Rattle.bits.specs.Bits.{widthOf}
 use Rattle.bits.specs.laws.Pack.{sum-replicate, sum-append}
 use Rattle.unfinished.specs.Unfinished.{lengthOf, padOf, widths}
 use Rattle.unfinished.specs.laws.Read.{whole}
 
 -- the widths fill the bytes
-pub filled : (m : ℕ) → m ≤ 4 → (sum (widths m) ≡ 81 - 10 * m + padOf m) × (81 - 10 * m + padOf m ≡ 8 * lengthOf m) × (padOf m < 8)
+pub filled : (m : ℕ) → m ≤ 4 → (widthOf (widths m) ≡ 81 - 10 * m + padOf m) × (81 - 10 * m + padOf m ≡ 8 * lengthOf m) × (padOf m < 8)
 unfolding widths
 filled m h =
     let w = whole m h in

@@ -2,7 +2,7 @@
 use mathlib.Core.Path.{_≡_, refl}
 use mathlib.Core.List.{[], _∷_}
 use Rattle.tiles.specs.Below.{every, some, number}
-use Rattle.tiles.specs.Groups.{at}
+use Rattle.tiles.specs.Groups.{atKind}
 use Rattle.hand.specs.Held.{meldHolds, inMelds, inOthers, inHeld, tileOver33, wrongHeld, descends, overFour}
 use Rattle.hand_record.specs.Record.{meldsOf, tilesOf, heldIn, paddingAfter}
 use Rattle.unfinished.specs.Unfinished.{countIn, heldRefusal, refusalOf, readOf}
@@ -13,5 +13,5 @@ pub worked : readOf (32 ∷ 34 ∷ 10 ∷ 49 ∷ 69 ∷ 24 ∷ 105 ∷ 203 ∷ 1
       refusal = 0;
       held = record { m = 1; melds = 1 ∷ 0 ∷ 0 ∷ 0 ∷ []; concealed = 4 ∷ 5 ∷ 6 ∷ 10 ∷ 10 ∷ 12 ∷ 13 ∷ 14 ∷ 23 ∷ 24 ∷ 0 ∷ 0 ∷ 0 ∷ [] };
     }
-unfolding every some number at meldHolds inMelds inOthers inHeld tileOver33 wrongHeld descends overFour meldsOf tilesOf heldIn paddingAfter countIn heldRefusal refusalOf readOf
+unfolding every some number atKind meldHolds inMelds inOthers inHeld tileOver33 wrongHeld descends overFour meldsOf tilesOf heldIn paddingAfter countIn heldRefusal refusalOf readOf
 worked = refl

@@ -62,7 +62,7 @@ module _ (x : Held) (p : ℕ) (c : Clean x p) where
 module _ (s : List ℕ) where
   pub sound-read : IsSound s → refusalOf s ≡ 0
   unfolding refusalOf
-  sound-read y = rw (y .length) (of-clean (heldOf s) (paddingOf s) (record { held = y .held; order = y .order; four = y .four }))
+  sound-read y = rw (y .len) (of-clean (heldOf s) (paddingOf s) (record { held = y .held; order = y .order; four = y .four }))
 
   unrefused : refusalOf s ≡ 0 → (wrongLength (length s) (countIn s) ≡ false) × (heldRefusal (heldOf s) (paddingOf s) ≡ 0)
   unfolding refusalOf
@@ -76,7 +76,7 @@ module _ (s : List ℕ) where
   read-sound e =
       let u = unrefused e in
       let c = clean-of (heldOf s) (paddingOf s) (u .1) in
-      record { length = u .0; held = c .held; order = c .order; four = c .four }
+      record { len = u .0; held = c .held; order = c .order; four = c .four }
 
   -- what the tiles held then have
   pub record SoundHeld : Type 0 where

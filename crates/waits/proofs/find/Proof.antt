@@ -12,7 +12,7 @@ use Rattle.waits.specs.declared.Waits.{Waits}
 use Rattle.waits.specs.Waits.{IsWaits}
 use Rattle.waits.specs.Answer.{waitsOf, one-answer}
 use Rattle.waits.specs.search.Found.{someIn, foundOf}
-use Rattle.waits.specs.laws.Exact.{found, found-unread, found-fifteen, found-waits}
+use Rattle.waits.specs.laws.Exact.{found, found-unreadable, found-fifteen, found-waits}
 use Rattle.waits.proofs.find.Statement.{statement}
 use Rattle.waits.proofs.find.Tie as tie
 
@@ -37,7 +37,7 @@ find-spec =
     (tie.spec (λ c κs. search needs) (λ c κs. search needs)
     (λ c.
     let r = c .before .before .read in
-    told _ _ _ (c .refused .ensures ∙ found-unread _ _ (r .result) (r .ensures) (c .before .if1 .taken)))
+    told _ _ _ (c .refused .ensures ∙ found-unreadable _ _ (r .result) (r .ensures) (c .before .if1 .taken)))
     (λ c κs. search needs) (λ c κs. search needs)
     (λ c.
     let e = c .before .before .before in

@@ -4,13 +4,13 @@ use mathlib.Core.Path.{_≡_, sym, _∙_}
 use mathlib.Core.Bool.{true}
 use mathlib.Core.Logic.{⊎-elim}
 use Prim.Native.Nat.{suc, _-_}
-use Rattle.splits.specs.search.Parts.{isParts}
+use Rattle.reading_splits.specs.search.SplitsInto.{splitsInto}
 use Rattle.waits.specs.search.Found.{reads}
 use Rattle.waits.proofs.reads.Statement.{statement}
 use Rattle.waits.proofs.reads.Tie as tie
 
 -- a pair and groups
-split : (c : tie.Joined1) → c .if1 .s ≡ isParts (suc (4 - c .before .args .m)) true (c .before .args .t)
+split : (c : tie.Joined1) → c .if1 .s ≡ splitsInto (suc (4 - c .before .args .m)) true (c .before .args .t)
 split c =
     ⊎-elim
     (λ w. w .2 ∙ w .1 .ensures .1)

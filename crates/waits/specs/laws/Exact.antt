@@ -14,7 +14,7 @@ use Rattle.unfinished.specs.declared.Unfinished.{Unfinished}
 use Rattle.unfinished.specs.Unfinished.{heldOf, refusalOf, readOf}
 use Rattle.unfinished.specs.laws.Sound.{refusal-is, held-is}
 use Rattle.waits.specs.declared.Waits.{Waits}
-use Rattle.waits.specs.Waits.{Discarded, OverAmong, refusedWith, IsWaits, unread, fifteen, answered}
+use Rattle.waits.specs.Waits.{Discarded, OverAmong, refusedWith, IsWaits, unreadable, fifteen, answered}
 use Rattle.waits.specs.search.Found.{waitSet, someIn, foundOf}
 use Rattle.waits.specs.laws.Found.{length-waits, set-exactly, some-in-exactly}
 
@@ -48,18 +48,18 @@ module _ (s d : List ℕ) where
 
       first : (b : Bool) → ltb 0 (refusalOf s) ≡ b
           → IsWaits s d (cond b (refusedWith (refusalOf s)) (cond (someIn d (ltb 33)) (refusedWith 15) (record { refusal = 0; waits = W; furiten = someIn d (λ k. getD W k false) })))
-      first true e = unread (ltb-true 0 (refusalOf s) e)
+      first true e = unreadable (ltb-true 0 (refusalOf s) e)
       first false e = second (omega (arith, ltb-false 0 (refusalOf s) e)) (someIn d (ltb 33)) refl
 
   -- ---- and the only one
   only : {a b : Waits} → IsWaits s d a → IsWaits s d b → a ≡ b
-  only (unread p) (unread q) = refl
-  only (unread p) (fifteen z o) = absurd (omega arith)
-  only (unread p) (answered z n w f l e g) = absurd (omega arith)
-  only (fifteen z o) (unread p) = absurd (omega arith)
+  only (unreadable p) (unreadable q) = refl
+  only (unreadable p) (fifteen z o) = absurd (omega arith)
+  only (unreadable p) (answered z n w f l e g) = absurd (omega arith)
+  only (fifteen z o) (unreadable p) = absurd (omega arith)
   only (fifteen z o) (fifteen y q) = refl
   only (fifteen z o) (answered y n w f l e g) = absurd (n o)
-  only (answered z n w f l e g) (unread p) = absurd (omega arith)
+  only (answered z n w f l e g) (unreadable p) = absurd (omega arith)
   only (answered z n w f l e g) (fifteen y o) = absurd (n o)
   only (answered z n w f l e g) (answered y o v h m i j) =
       let ew : w ≡ v = ext-getD false w v (l ∙ sym m) (λ k q. both-ways (getD w k false) (getD v k false) (λ x. i k .1 (e k .0 x)) (λ x. e k .1 (i k .0 x))) in
@@ -72,9 +72,9 @@ exactly-one s d = (foundOf s d, found s d, λ b h. only s d h (found s d))
 -- ---- what the call's parts give: u is what the reader gave
 
 module _ (s d : List ℕ) (u : Unfinished) (e : u ≡ readOf s) where
-  pub found-unread : 0 < u .refusal → refusedWith (u .refusal) ≡ foundOf s d
+  pub found-unreadable : 0 < u .refusal → refusedWith (u .refusal) ≡ foundOf s d
   unfolding foundOf
-  found-unread h = rw (refusal-is s u e) (rw (lt-ltb 0 (refusalOf s) (rw (refusal-is s u e) at h)))
+  found-unreadable h = rw (refusal-is s u e) (rw (lt-ltb 0 (refusalOf s) (rw (refusal-is s u e) at h)))
 
   module _ (z : u .refusal ≤ 0) where
     none : u .refusal ≡ 0

@@ -10,7 +10,7 @@ use lib.Dec.{ltb, eqb}
 use lib.ListN.{length, getD, set, length-set, List·getD-eq-default}
 use lib.Seq.{getD-set-same, getD-set-other, ext-getD}
 use Rattle.tiles.specs.Below.{some}
-use Rattle.tiles.specs.Groups.{at}
+use Rattle.tiles.specs.Groups.{atKind}
 use Rattle.tiles.specs.Tally.{tallyOf}
 use Rattle.tiles.specs.laws.Below.{and-true, any-at, any-of}
 use Rattle.tiles.specs.laws.Tally.{more, length-tally, getD-tally}
@@ -21,9 +21,9 @@ use Rattle.hand.specs.laws.Held.{tally-plus}
 use Rattle.reading.specs.declared.Reading.{Reading}
 use Rattle.reading.specs.Reading.{isSevenPairs, isOrphans, ofShape, IsReading, regular, pairs, orphans}
 use Rattle.reading.specs.laws.Groups.{at-same}
-use Rattle.splits.specs.search.Parts.{isParts}
-use Rattle.splits.specs.laws.Parts.{splits-exactly}
-use Rattle.splits.specs.laws.Regular.{regular-splits, splits-regular}
+use Rattle.reading_splits.specs.search.SplitsInto.{splitsInto}
+use Rattle.reading_splits.specs.laws.SplitsInto.{splits-exactly}
+use Rattle.reading_splits.specs.laws.Regular.{regular-splits, splits-regular}
 use Rattle.waits.specs.Waits.{withOne, IsWait}
 use Rattle.waits.specs.search.Found.{reads, isWait, waitSet, someIn}
 
@@ -48,24 +48,24 @@ module _ (t : List ℕ) (m k : ℕ) (l : length t ≡ 34) (h : 1 ≤ getD t k 0)
       ⊎-elim (λ p. (ofShape 1, pairs (record { closed = z; kinds = p; reading = refl })))
       (λ p. (ofShape 2, orphans (record { closed = z; kinds = p; reading = refl })))
       (or-either (isSevenPairs t) (isOrphans t) (b .1)))
-      (or-either (isParts (suc (4 - m)) true t) (eqb m 0 && (isSevenPairs t || isOrphans t)) e)
+      (or-either (splitsInto (suc (4 - m)) true t) (eqb m 0 && (isSevenPairs t || isOrphans t)) e)
 
   reading-reads : (r : Reading) → IsReading t m k r → reads t m ≡ true
   unfolding reads
   reading-reads r (regular g) = rw (splits-exactly (4 - m) t l .1 (regular-splits t m k r g))
-  reading-reads r (pairs p) = or-right (isParts (suc (4 - m)) true t) _ (rw (eq-eqb m 0 (p .closed), p .kinds))
-  reading-reads r (orphans p) = or-right (isParts (suc (4 - m)) true t) _ (rw (eq-eqb m 0 (p .closed), p .kinds) (or-right (isSevenPairs t) true refl))
+  reading-reads r (pairs p) = or-right (splitsInto (suc (4 - m)) true t) _ (rw (eq-eqb m 0 (p .closed), p .kinds))
+  reading-reads r (orphans p) = or-right (splitsInto (suc (4 - m)) true t) _ (rw (eq-eqb m 0 (p .closed), p .kinds) (or-right (isSevenPairs t) true refl))
 
 -- ---- a wait
 
 module _ (x : Held) (k : ℕ) (g : k < 34) where
   one-more : 1 ≤ getD (withOne x k) k 0
   unfolding withOne
-  one-more = rw (getD-tally (λ j. inOthers x j + at k 1 j) k g) (omega (arith, at-same k 1))
+  one-more = rw (getD-tally (λ j. inOthers x j + atKind k 1 j) k g) (omega (arith, at-same k 1))
 
   length-more : length (withOne x k) ≡ 34
   unfolding withOne
-  length-more = length-tally (λ j. inOthers x j + at k 1 j)
+  length-more = length-tally (λ j. inOthers x j + atKind k 1 j)
 
   pub wait-exactly : (isWait x k ≡ true) ↔ IsWait x k
   unfolding isWait

@@ -10,7 +10,7 @@ use lib.Dec.{ltb, eqb}
 use lib.ListN.{length, getD, set, length-set}
 use lib.Seq.{getD-set-same, getD-set-other}
 use Rattle.tiles.specs.Below.{sum}
-use Rattle.tiles.specs.Groups.{at}
+use Rattle.tiles.specs.Groups.{atKind}
 use Rattle.tiles.specs.laws.Tally.{more, getD-more}
 use Rattle.tiles.specs.laws.Sums.{sum-cong, sum-add, sum-at}
 use Rattle.tiles.specs.laws.Below.{same-test, cond-le}
@@ -18,8 +18,8 @@ use Rattle.reading.specs.search.Pairs.{PairBeside}
 use Rattle.reading.specs.laws.Groups.{at-same, getD-pos}
 use Rattle.reading.specs.laws.Suits.{nine}
 use Rattle.reading.specs.laws.Pairs.{suit-of-pair, suit-beside, honour-of-pair, honour-beside}
-use Rattle.splits.specs.search.Parts.{isParts}
-use Rattle.splits.specs.laws.Parts.{splits-exactly}
+use Rattle.reading_splits.specs.search.SplitsInto.{splitsInto}
+use Rattle.reading_splits.specs.laws.SplitsInto.{splits-exactly}
 use Rattle.waits.specs.search.Over.{sortOf, ofSort, isOver, overs}
 
 -- ---- a kind's suit or honour
@@ -66,21 +66,21 @@ unfolding ofSort
 of-honour t c l = rw (le-ltb c 3 l)
 
 -- ---- a tile more
-more-of : (t : List ℕ) (k c : ℕ) → length t ≡ 34 → k < 34 → c < 10 → ofSort (more t k 1) c ≡ ofSort t c + at (sortOf k) 1 c
-unfolding at
+more-of : (t : List ℕ) (k c : ℕ) → length t ≡ 34 → k < 34 → c < 10 → ofSort (more t k 1) c ≡ ofSort t c + atKind (sortOf k) 1 c
+unfolding atKind
 more-of t k c l h o =
     either c
     (λ s.
     let f : ℕ → ℕ = λ i. getD t (9 * c + i) 0 in
-    let g : ℕ → ℕ = λ i. at k 1 (9 * c + i) in
+    let g : ℕ → ℕ = λ i. atKind k 1 (9 * c + i) in
     let p : sum 9 (λ i. getD (more t k 1) (9 * c + i) 0) ≡ sum 9 f + sum 9 g =
     sum-cong (λ i. getD (more t k 1) (9 * c + i) 0) (λ i. f i + g i) 9 (λ i z. getD-more t k 1 (9 * c + i) (omega arith)) ∙ sum-add f g 9 in
     of-suit (more t k 1) c s ∙ p ∙ rw (of-suit t c s, nine k 1 c, sort-suit k c h s))
     (λ s. of-honour (more t k 1) c s ∙ getD-more t k 1 (24 + c) (omega arith) ∙ rw (of-honour t c s, sort-honour k c s))
 
 -- ---- a pair beside groups
-pair-of : (u : List ℕ) (p : ℕ) (gs : List ℕ) → PairBeside u p gs → p < 34 → (c : ℕ) → c < 10 → ofSort u c % 3 ≡ at (sortOf p) 2 c
-unfolding at
+pair-of : (u : List ℕ) (p : ℕ) (gs : List ℕ) → PairBeside u p gs → p < 34 → (c : ℕ) → c < 10 → ofSort u c % 3 ≡ atKind (sortOf p) 2 c
+unfolding atKind
 pair-of u p gs b h c o =
     either c
     (λ s. rw (of-suit u c s, sort-suit p c h s) (suit s (eqb (p / 9) c) refl))
@@ -115,27 +115,27 @@ long-more t k n l = rw length-set l
 
 -- ---- so a tile that makes them
 module _ (t : List ℕ) (k p : ℕ) (gs : List ℕ) (l : length t ≡ 34) (h : k < 34) (o : p < 34) (b : PairBeside (more t k 1) p gs) where
-  both : (c : ℕ) → c < 10 → (ofSort t c + at (sortOf k) 1 c) % 3 ≡ at (sortOf p) 2 c
+  both : (c : ℕ) → c < 10 → (ofSort t c + atKind (sortOf k) 1 c) % 3 ≡ atKind (sortOf p) 2 c
   both c i = rw (← more-of t k c l h i) (pair-of (more t k 1) p gs b o c i)
 
   -- its own suit or honour has some over
   own-over : isOver t (sortOf k) ≡ true
-  unfolding isOver at
+  unfolding isOver atKind
   own-over = rw (ne-eqb (ofSort t (sortOf k) % 3) 0 (one-less (eqb (sortOf p) (sortOf k)) (ofSort t (sortOf k)) (rw (at-same (sortOf k) 1) at (both
       (sortOf k) (sort-low k h)))))
 
   -- and no third has
   few-over : overs t 10 ≤ 2
-  unfolding isOver at
+  unfolding isOver atKind
   few-over =
       let f : ℕ → ℕ = λ c. cond (isOver t c) 1 0 in
-      let g : ℕ → ℕ = λ c. at (sortOf k) 1 c + at (sortOf p) 1 c in
+      let g : ℕ → ℕ = λ c. atKind (sortOf k) 1 c + atKind (sortOf p) 1 c in
       let q : sum 10 f ≤ sum 10 g = sum-le f g 10 (λ c i. over-le (eqb (sortOf k) c) (eqb (sortOf p) c) (ofSort t c) (both c i)) in
-      omega (arith, sum-add (at (sortOf k) 1) (at (sortOf p) 1) 10, sum-at (sortOf k) 1 10 (sort-low k h), sum-at (sortOf p) 1 10 (sort-low p o))
+      omega (arith, sum-add (atKind (sortOf k) 1) (atKind (sortOf p) 1) 10, sum-at (sortOf k) 1 10 (sort-low k h), sum-at (sortOf p) 1 10 (sort-low p o))
 
 -- where either fails, the tile makes no pair and groups
 module _ (t : List ℕ) (k n : ℕ) (l : length t ≡ 34) (h : k < 34) where
-  makes : isParts (suc n) true (more t k 1) ≡ true → (isOver t (sortOf k) ≡ true) × (overs t 10 ≤ 2)
+  makes : splitsInto (suc n) true (more t k 1) ≡ true → (isOver t (sortOf k) ≡ true) × (overs t 10 ≤ 2)
   makes e =
       let m : length (more t k 1) ≡ 34 = long-more t k 1 l in
       let s = splits-exactly n (more t k 1) m .0 e in
@@ -143,17 +143,17 @@ module _ (t : List ℕ) (k n : ℕ) (l : length t ≡ 34) (h : k < 34) where
       let o : s .pair < 34 = rw m at (getD-pos (more t k 1) (s .pair) (omega (arith, s .tiles (s .pair), at-same (s .pair) 2))) in
       (own-over t k (s .pair) (s .groups) l h o b, few-over t k (s .pair) (s .groups) l h o b)
 
-  pub none-over : isOver t (sortOf k) ≡ false → isParts (suc n) true (more t k 1) ≡ false
-  none-over q = go (isParts (suc n) true (more t k 1)) refl
+  pub none-over : isOver t (sortOf k) ≡ false → splitsInto (suc n) true (more t k 1) ≡ false
+  none-over q = go (splitsInto (suc n) true (more t k 1)) refl
     where
-      go : (b : Bool) → isParts (suc n) true (more t k 1) ≡ b → isParts (suc n) true (more t k 1) ≡ false
+      go : (b : Bool) → splitsInto (suc n) true (more t k 1) ≡ b → splitsInto (suc n) true (more t k 1) ≡ false
       go true e = absurd (false≢true (sym q ∙ makes e .0))
       go false e = e
 
-  pub many-over : 2 < overs t 10 → isParts (suc n) true (more t k 1) ≡ false
-  many-over q = go (isParts (suc n) true (more t k 1)) refl
+  pub many-over : 2 < overs t 10 → splitsInto (suc n) true (more t k 1) ≡ false
+  many-over q = go (splitsInto (suc n) true (more t k 1)) refl
     where
-      go : (b : Bool) → isParts (suc n) true (more t k 1) ≡ b → isParts (suc n) true (more t k 1) ≡ false
+      go : (b : Bool) → splitsInto (suc n) true (more t k 1) ≡ b → splitsInto (suc n) true (more t k 1) ≡ false
       go true e = absurd (omega (arith, makes e .1))
       go false e = e
 

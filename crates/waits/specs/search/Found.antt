@@ -9,14 +9,14 @@ use Rattle.tiles.specs.Below.{some, tabulate}
 use Rattle.hand.specs.declared.Held.{Held}
 use Rattle.hand.specs.Held.{inHeld}
 use Rattle.reading.specs.Reading.{isSevenPairs, isOrphans}
-use Rattle.splits.specs.search.Parts.{isParts}
+use Rattle.reading_splits.specs.search.SplitsInto.{splitsInto}
 use Rattle.unfinished.specs.Unfinished.{heldOf, refusalOf}
 use Rattle.waits.specs.declared.Waits.{Waits}
 use Rattle.waits.specs.Waits.{withOne, refusedWith}
 
 -- the tiles t have a reading with m melds
 unfoldable pub reads : List ℕ → ℕ → Bool
-reads t m = isParts (suc (4 - m)) true t || (eqb m 0 && (isSevenPairs t || isOrphans t))
+reads t m = splitsInto (suc (4 - m)) true t || (eqb m 0 && (isSevenPairs t || isOrphans t))
 
 -- k is a wait
 unfoldable pub isWait : Held → ℕ → Bool

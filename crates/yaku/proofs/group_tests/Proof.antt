@@ -4,8 +4,8 @@ use mathlib.Core.Bool.{Bool}
 use mathlib.Core.List.{List}
 use borrow.Author.Needs.{needs}
 use Rattle.units.specs.declared.Han.{Han}
-use Rattle.tile_yaku.specs.search.TileTests.{tileTestsOf}
-use Rattle.tile_yaku.specs.declared.TileTests.{TileTests}
+use Rattle.yaku_tiles.specs.search.TileTests.{tileTestsOf}
+use Rattle.yaku_tiles.specs.declared.TileTests.{TileTests}
 use Rattle.yaku.specs.Yaku.{testsOf, isYakuman, hasYaku}
 use Rattle.yaku.specs.declared.GroupTests.{GroupTests}
 use Rattle.yaku.specs.search.Common.{anyPlace, groupTestsOf}

@@ -7,9 +7,9 @@ use lib.ListN.{getD}
 use lib.Dec.{eqb}
 use Rattle.tiles.specs.Below.{all}
 use Rattle.tiles.specs.Groups.{isRun}
-use Rattle.groups.specs.Tests.{isValue, earnsWait, pinfu, concealed, kans}
+use Rattle.yaku_basics.specs.Tests.{isValue, earnsWait, pinfu, concealed, kans}
 use Rattle.yaku.specs.declared.Won.{Won}
-use Rattle.yaku.specs.declared.Parts.{Parts}
+use Rattle.yaku.specs.declared.FullReading.{FullReading}
 use Rattle.yaku.specs.declared.GroupTests.{GroupTests}
 use Rattle.yaku.specs.Yaku.{testsOf, isYakuman, hasYaku}
 use Rattle.yaku.specs.laws.Common.{yakuman-with, any-with}
@@ -32,7 +32,7 @@ last a b v false = some (a && b) (not v)
     some true false = refl
     some false y = refl
 
-module _ (w : Won) (p : Parts) (k : GroupTests) (x : Bool) (h n : ℕ) (ek : k ≡ groupTestsOf w (p .shape) (p .pair) (p .groups))
+module _ (w : Won) (p : FullReading) (k : GroupTests) (x : Bool) (h n : ℕ) (ek : k ≡ groupTestsOf w (p .shape) (p .pair) (p .groups))
     (ex : x ≡ earnsWait (p .place) (getD (p .groups) (p .place - 1) 0) (w .win)) (eh : h ≡ concealed (p .groups) (p .ways)) (en : n ≡ kans (p .ways)) where
   fourth : k .runs && not x ≡ getD (testsOf w p) 4 false
   unfolding groupTestsOf testsOf pinfu
@@ -52,7 +52,7 @@ module _ (w : Won) (p : Parts) (k : GroupTests) (x : Bool) (h n : ℕ) (ek : k �
   by-place : record {
     wait = x;
     pinfu = k .runs && not x;
-    hidden = h;
+    ankou = h;
     kan = n;
     yakuman = k .yakuman || ((w .closed && eqb h 4) || eqb n 4);
     any = k .any || ((k .runs && not x) || eqb h 3 || eqb n 3 || (w .closed && eqb h 4) || eqb n 4);
@@ -67,5 +67,5 @@ place-tests-spec =
     (λ c.
     let e = c .before .before .before .before in
     let s = e .before .before .before in
-    by-place (s .args .w) (s .args .p) (s .args .k) (e .earns-wait .result) (s .args .hidden) (s .args .kan)
+    by-place (s .args .w) (s .args .p) (s .args .k) (e .earns-wait .result) (s .args .ankou) (s .args .kan)
     (s .pre .0) (rw (← e .before .placed .ensures) (e .earns-wait .ensures)) (s .pre .1 .0) (s .pre .1 .1)))

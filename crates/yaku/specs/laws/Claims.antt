@@ -6,13 +6,13 @@ use borrow.Author.Tests.{not-true}
 use lib.ListN.{getD}
 use Rattle.tiles.specs.Below.{all, every}
 use Rattle.tiles.specs.laws.Below.{every-at}
-use Rattle.groups.specs.Tests.{twins, pinfu}
+use Rattle.yaku_basics.specs.Tests.{twins, pinfu}
 use Rattle.yaku.specs.Yaku.{closedOnly, testsOf, isYakuman, listed, yakuOf}
 use Rattle.yaku.specs.declared.Won.{Won}
-use Rattle.yaku.specs.declared.Parts.{Parts}
+use Rattle.yaku.specs.declared.FullReading.{FullReading}
 use Rattle.yaku.specs.laws.Lists.{not-both}
 
-module _ (w : Won) (p : Parts) where
+module _ (w : Won) (p : FullReading) where
   pub closed-only : w .closed ≡ false → all 8 (λ i. not (getD (testsOf w p) (getD closedOnly i 0) false)) ≡ true
   unfolding testsOf pinfu
   closed-only e = rw e

@@ -10,7 +10,7 @@ use Rattle.tiles.specs.Below.{any, some, tabulate}
 use Rattle.tiles.specs.laws.Below.{any-at, any-of}
 use Rattle.yaku.specs.Yaku.{testsOf, isYakuman, listed, hasYaku}
 use Rattle.yaku.specs.declared.Won.{Won}
-use Rattle.yaku.specs.declared.Parts.{Parts}
+use Rattle.yaku.specs.declared.FullReading.{FullReading}
 use Rattle.yaku.specs.search.Common.{byPlace, anyPlace, atEach}
 
 one-more : (q a b x : Bool) → a || b || x ≡ (a || (not q && x)) || (b || (q && x))
@@ -70,7 +70,7 @@ module _ (y : List Bool) where
   listed-all e = all-by (isYakuman y) e
 
 -- the tests of a reading, from those of its pair and groups
-module _ (w : Won) (p : Parts) where
+module _ (w : Won) (p : FullReading) where
   abbrev each : List Bool
   each = atEach w (p .shape) (p .pair) (p .groups)
 

@@ -7,10 +7,10 @@ use lib.ListN.{getD, replicate}
 use lib.Dec.{eqb}
 use Rattle.tiles.specs.Below.{all, tabulate}
 use Rattle.tiles.specs.Groups.{isRun}
-use Rattle.groups.specs.Tests.{isValue, earnsWait, pinfu, littleDragons, valueHan, concealed, kans}
+use Rattle.yaku_basics.specs.Tests.{isValue, earnsWait, pinfu, littleDragons, valueHan, concealed, kans}
 use Rattle.yaku.specs.Yaku.{testsOf, isYakuman, hasYaku}
 use Rattle.yaku.specs.declared.Won.{Won}
-use Rattle.yaku.specs.declared.Parts.{Parts}
+use Rattle.yaku.specs.declared.FullReading.{FullReading}
 use Rattle.yaku.specs.declared.GroupTests.{GroupTests}
 use Rattle.yaku.specs.declared.PlaceTests.{PlaceTests}
 
@@ -38,11 +38,11 @@ groupTestsOf w shape pair g = record {
 }
 
 -- what a place says, and the ways with it
-unfoldable pub placeTestsOf : Won → Parts → PlaceTests
+unfoldable pub placeTestsOf : Won → FullReading → PlaceTests
 placeTestsOf w p = record {
   wait = earnsWait (p .place) (getD (p .groups) (p .place - 1) 0) (w .win);
   pinfu = pinfu (w .closed) (p .groups) (p .pair) (p .place) (w .win) (w .round) (w .own);
-  hidden = concealed (p .groups) (p .ways);
+  ankou = concealed (p .groups) (p .ways);
   kan = kans (p .ways);
   yakuman = isYakuman (testsOf w p);
   any = hasYaku (testsOf w p);

@@ -1,7 +1,0 @@
--- `game::ready` meets its contract.
-use native.Mathlib.Nat.{div-one}
-use Rattle.game.proofs.ready.Statement.{statement}
-use Rattle.game.proofs.ready.Tie as tie
-
-pub ready-spec : {M : Type 1} → statement M
-ready-spec = tie.close (tie.spec (λ c. rw (div-one (c .args .bits))))

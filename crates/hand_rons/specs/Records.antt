@@ -1,0 +1,65 @@
+-- Records that lie end to end, and what makes them rons on one tile (02, S-6).
+use mathlib.Core.Bool.{Bool, false, _||_, not, cond}
+use mathlib.Core.List.{List, [], _∷_}
+use Prim.Native.Nat.{ℕ, zero, suc, _+_, _-_, _%_}
+use lib.Dec.{ltb, eqb}
+use lib.ListN.{take, drop}
+use Rattle.hand.specs.declared.Fields.{Fields}
+use Rattle.hand.specs.declared.Hand.{Hand}
+use Rattle.hand.specs.Hand.{isRon}
+use Rattle.hand_record.specs.Record.{lengthOf, countIn, refusalIn, handOf, readOf}
+
+-- the hand that Read gives of a win's record
+abbrev pub handFor : List ℕ → Hand
+handFor s = handOf (readOf s)
+
+-- "They lie end to end, with their number: each but the last as long as its m says, the last all that is left"
+unfoldable pub recordsOf : ℕ → List ℕ → List (List ℕ)
+recordsOf zero s = []
+recordsOf (suc zero) s = s ∷ []
+recordsOf (suc (suc n)) s = take (lengthOf (countIn s)) s ∷ recordsOf (suc n) (drop (lengthOf (countIn s)) s)
+
+-- "Read's refusal of the first unreadable record", 0 where each reads; "what doesn't fit is Read's 1"
+unfoldable pub firstUnreadable : List (List ℕ) → ℕ
+firstUnreadable [] = 0
+firstUnreadable (s ∷ ss) = cond (ltb 0 (refusalIn (readOf s .answer))) (refusalIn (readOf s .answer)) (firstUnreadable ss)
+
+-- "two have one winner, or they differ in discarder, winning tile, indicator or situation"
+abbrev pub conflict : Fields → Fields → Bool
+conflict f g =
+    eqb (f .winner) (g .winner)
+    || not (eqb (f .discarder) (g .discarder))
+    || not (eqb (f .winning) (g .winning))
+    || not (eqb (f .indicator) (g .indicator))
+    || not (eqb (f .situation) (g .situation))
+
+-- one of the records is such a one beside f
+unfoldable pub conflicts : Fields → List (List ℕ) → Bool
+conflicts f [] = false
+conflicts f (s ∷ ss) = conflict f (handFor s .fields) || conflicts f ss
+
+-- 17: "where a record isn't ron, two have one winner, or they differ ..."
+unfoldable pub notOnOneTile : List (List ℕ) → Bool
+notOnOneTile [] = false
+notOnOneTile (s ∷ ss) = not (isRon (handFor s .fields)) || conflicts (handFor s .fields) ss || notOnOneTile ss
+
+-- the seat wins one of them
+unfoldable pub isWinner : List (List ℕ) → ℕ → Bool
+isWinner [] seat = false
+isWinner (s ∷ ss) seat = eqb (handFor s .fields .winner) seat || isWinner ss seat
+
+-- who discarded the tile; all rons on one tile say the same
+abbrev pub discarderOf : List (List ℕ) → ℕ
+discarderOf [] = 0
+discarderOf (s ∷ ss) = handFor s .fields .discarder
+
+-- "the first winner in turn order after the discarder": the next seat, the one after it, or the last
+abbrev pub firstAfter : ℕ → (ℕ → Bool) → ℕ
+firstAfter d wins = cond (wins ((d + 1) % 4)) ((d + 1) % 4) (cond (wins ((d + 2) % 4)) ((d + 2) % 4) ((d + 3) % 4))
+
+abbrev pub firstWinner : List (List ℕ) → ℕ
+firstWinner rs = firstAfter (discarderOf rs) (isWinner rs)
+
+-- how many turns after the discarder a seat is
+abbrev pub turnsAfter : ℕ → ℕ → ℕ
+turnsAfter d seat = (seat + 4 - d) % 4

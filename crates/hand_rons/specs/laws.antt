@@ -1,0 +1,4 @@
+pub mod OneTile
+pub mod Cut
+pub mod First
+pub mod Hands

@@ -1,0 +1,5 @@
+pub mod Kinds
+pub mod Turn
+pub mod Fill
+pub mod Through
+pub mod Examples

@@ -1,6 +1,0 @@
--- Play    what a log keys in, an entry booked, the text that tally prints, and as many lines of it as fit in a buffer
--- Claims  demand 3 for every log; the text of a log a buffer at a time; the example of document 01
--- laws    what they stand on
-pub mod Play
-pub mod laws
-pub mod Claims

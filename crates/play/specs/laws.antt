@@ -1,4 +1,0 @@
-pub mod Turn
-pub mod Fill
-pub mod Through
-pub mod Examples

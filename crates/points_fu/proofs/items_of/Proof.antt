@@ -1,0 +1,50 @@
+-- `points_fu::items_of` meets its contract.
+use mathlib.Core.Path.{_≡_}
+use Prim.Native.Nat.{ℕ, _-_, _≤_}
+use native.Mathlib.Omega.{arith}
+use borrow.Author.Needs.{needs}
+use borrow.Author.Tests.{eq-eqb, ne-eqb}
+use Rattle.points_fu.specs.Fu.{fu, itemsOf, earned, added}
+use Rattle.points_fu.specs.declared.Items.{Items}
+use Rattle.points_fu.specs.laws.Items.{added-alone}
+use Rattle.points_fu.proofs.items_of.Statement.{statement}
+use Rattle.points_fu.proofs.items_of.Tie as tie
+
+-- the items that were rounded up to r, at most 170
+within : (i : Items) (n r : ℕ) → n ≡ added i → n ≤ r → r ≤ 170 → added (record {
+  base = i .base;
+  ron = i .ron;
+  pair = i .pair;
+  group = i .group;
+  wait = i .wait;
+  tsumo = i .tsumo;
+  rounding = fu (r - n);
+}) ≤ 170
+unfolding added
+within i n r e h l = omega arith
+
+returns-3 : tie.Need-returns-3
+unfolding itemsOf earned
+returns-3 c =
+    let c2 = c .before .before in
+    let c3 = c2 .before in
+    let c4 = c3 .before in
+    let c5 = c4 .before in (
+      rw (c5 .before .if1 .left, ne-eqb _ _ (c5 .if2 .left), c2 .rounded .ensures .0, c3 .added .ensures, c4 .earned .ensures .0),
+      within _ _ _ (c3 .added .ensures) (c2 .rounded .ensures .1 .0) (c2 .rounded .ensures .1 .1),
+    )
+
+pub items-of-spec : {M : Type 1} → statement M
+unfolding itemsOf
+items-of-spec =
+    tie.close
+    (tie.spec
+    (λ c κs. search needs)
+    (λ c. (rw (c .before .if1 .taken) (c .base-alone .ensures), rw (c .base-alone .ensures) (omega (arith, added-alone 0))))
+    (λ c κs. search needs)
+    (λ c. (
+      rw (c .before .before .if1 .left, eq-eqb _ _ (c .before .if2 .taken)) (c .base-alone2 .ensures),
+      rw (c .base-alone2 .ensures) (omega (arith, added-alone 25)),
+    ))
+    (λ c κs. search needs) (λ c κs. search needs) (λ c κs. search needs) (λ c. search needs)
+    returns-3)

@@ -1,0 +1,27 @@
+-- `points_value::common_of` meets its contract.
+use borrow.Author.Needs.{needs}
+use mathlib.Core.Path.{refl}
+use Rattle.points_value.specs.search.Common.{hanBefore}
+use Rattle.points_value.proofs.common_of.Statement.{statement}
+use Rattle.points_value.proofs.common_of.Tie as tie
+
+returns : tie.Need-returns
+unfolding hanBefore
+returns c =
+    let h = c .before .before .before in
+    let tests = h .before .before .before .group-tests .ensures .0 in
+    record {
+      groups = refl;
+      tests = tests;
+      han = rw (h .han .ensures .0, h .before .han-of .ensures .0, tests);
+      few = h .han .ensures .1;
+      ankou = c .before .before .concealed .ensures;
+      kan = c .before .kans .ensures;
+      items = c .group-items .ensures;
+    }
+
+pub common-of-spec : {M : Type 1} → statement M
+common-of-spec =
+    tie.close
+    (tie.spec (λ c κs. search needs) (λ c. search needs) (λ c κs. search needs) (λ c κs. search needs) (λ c κs. search needs)
+    (λ c κs. search needs) (λ c κs. search needs) returns)

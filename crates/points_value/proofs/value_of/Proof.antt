@@ -1,0 +1,95 @@
+-- `points_value::value_of` meets its contract.
+use borrow.Author.Needs.{needs}
+use native.Mathlib.Omega.{arith}
+use mathlib.Core.Path.{_≡_, refl, sym, ap, _∙_}
+use mathlib.Core.Bool.{cond}
+use mathlib.Core.List.{List}
+use Prim.Native.Nat.{ℕ, _+_}
+use lib.Dec.{eqb}
+use Rattle.yaku.specs.Yaku.{testsOf, isYakuman, yakuOf, hasYaku}
+use Rattle.yaku.specs.declared.Won.{Won}
+use Rattle.yaku.specs.declared.FullReading.{FullReading}
+use Rattle.yaku.specs.declared.PlaceTests.{PlaceTests}
+use Rattle.yaku.specs.search.Common.{placeTestsOf}
+use Rattle.yaku.specs.laws.Common.{listed-yakuman, listed-any}
+use Rattle.units.specs.declared.Fu.{Fu}
+use Rattle.yaku_basics.specs.Tests.{concealed, kans}
+use Rattle.points_fu.specs.Fu.{groupItems, fuOf}
+use Rattle.points_fu.specs.search.Items.{itemsBy}
+use Rattle.points_value.specs.Han.{hanOf}
+use Rattle.points_value.specs.Value.{valueOf}
+use Rattle.points_value.specs.search.Common.{hanBefore}
+use Rattle.points_value.specs.laws.Common.{han-with}
+use Rattle.points_value.proofs.value_of.Statement.{statement}
+use Rattle.points_value.proofs.value_of.Tie as tie
+
+-- by what the place says
+module _ (w : Won) (p : FullReading) (q : PlaceTests) (e : q ≡ placeTestsOf w p) where
+  yakuman-is : q .yakuman ≡ isYakuman (yakuOf w p)
+  unfolding placeTestsOf yakuOf
+  yakuman-is = ap (λ (x : PlaceTests). x .yakuman) e ∙ sym (listed-yakuman (testsOf w p))
+
+  any-is : q .any ≡ hasYaku (yakuOf w p)
+  unfolding placeTestsOf yakuOf
+  any-is = ap (λ (x : PlaceTests). x .any) e ∙ sym (listed-any (testsOf w p))
+
+  han-is : (dora before h : ℕ) → before ≡ hanBefore w dora (p .shape) (p .pair) (p .groups)
+      → h ≡ cond (q .yakuman) 0 (before + cond (q .pinfu) 1 0 + cond (eqb (q .ankou) 3) 2 0 + cond (eqb (q .kan) 3) 2 0) → h ≡ hanOf w p dora (q .yakuman)
+  unfolding placeTestsOf testsOf
+  han-is dora before h eb eh = rw (eh, eb, e) (han-with w p dora (isYakuman (testsOf w p)) refl)
+
+-- what the groups earn by the ways of p
+earned-is : (p : FullReading) (ways : List ℕ) (l : List Fu) → p .ways ≡ ways → l ≡ itemsBy (p .groups) ways → l ≡ groupItems p
+unfolding groupItems
+earned-is p ways l ew el = rw (el, ← ew)
+
+returns : tie.Need-returns
+unfolding valueOf fuOf
+returns c =
+    let c1 = c .before in
+    let c2 = c1 .before in
+    let c3 = c2 .before in
+    let c4 = c3 .before in
+    let c5 = c4 .before in
+    let q = c5 .before .place-tests in
+    let s = c5 .before .before .before .before .before .before .before .before in
+    let m = yakuman-is (s .args .w) (s .args .p) (q .result) (q .ensures) in
+    let a = s .args in
+    let h =
+    han-is (a .w) (a .p) (q .result) (q .ensures) (a .dora) (a .k .han .0) (c5 .hand-han .result .0) (s .pre .0 .han) (c5 .hand-han .ensures .0) in (
+      rw (
+        ← m,
+        ← c .yaku-of .ensures,
+        ← h,
+        ← c4 .items-of .ensures .0,
+        ← c3 .added .ensures,
+        ← c2 .basic .ensures .0,
+        ← c1 .gain .ensures .0,
+      ),
+      (m, any-is (s .args .w) (s .args .p) (q .result) (q .ensures)),
+    )
+
+pub value-of-spec : {M : Type 1} → statement M
+value-of-spec =
+    tie.close
+    (tie.spec
+    (λ c κs. let s = c .before .before in (s .pre .0 .ankou, s .pre .1 .1))
+    (λ c κs. let s = c .before .before .before in (s .pre .0 .kan, s .pre .1 .1))
+    (λ c κs. let s = c .before .before .before .before .before in (s .pre .0 .items, s .pre .1 .1))
+    (λ c κs.
+    let k = c .before .before in
+    let h = k .before in
+    let s = h .before .before .before in
+    let w = sym (s .pre .1 .0) in
+    (s .pre .0 .tests, (h .concealed-at .ensures ∙ ap (concealed (s .args .p .groups)) w, k .kans-at .ensures ∙ ap kans w, s .pre .1 .1)))
+    (λ c κs. c .before .before .before .before .before .before .before .pre .0 .few)
+    (λ c κs.
+    let q = c .before in
+    let i = q .before in
+    let s = i .before .before .before .before .before .before in
+    (s .pre .0 .tests, (q .place-tests .ensures, earned-is (s .args .p) _ (i .items-at .result) (s .pre .1 .0) (i .items-at .ensures))))
+    (λ c κs. search needs) (λ c κs. search needs) (λ c κs. search needs)
+    (λ c κs.
+    let q = c .before .before .before .before .before in
+    (q .before .before .before .before .before .before .before .pre .0 .tests, q .place-tests .ensures))
+    returns)

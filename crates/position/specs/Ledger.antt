@@ -1,0 +1,373 @@
+-- The ledger (01, The game and its paragraph "Ledger"; 02, S-5 to S-8 and S-11): kept from the bookings' arguments alone, with a position's fields.
+-- The game's numbers; the fields; refusals; what an accepted booking does, as one structure; the fields after it; the ledger of a list.
+use mathlib.Core.Path.{_≡_}
+use mathlib.Core.Bool.{Bool, true, false, _&&_, _||_, not, cond}
+use mathlib.Core.List.{List, [], _∷_}
+use Prim.Native.Nat.{ℕ, _+_, _-_, _*_, _/_, _%_, _^_}
+use lib.Dec.{ltb, leb, eqb}
+use lib.IntN.{ℤ, pos, negℤ, _+ℤ_}
+use lib.Signed.{ltZ, leZ}
+use lib.ListN.{getD, set, replicate}
+use Rattle.tiles.specs.Below.{all, any, count, sum, tabulate}
+use Rattle.hand.specs.declared.Hand.{Hand}
+use Rattle.hand.specs.Hand.{isRon, handTally}
+use Rattle.score.specs.declared.Scored.{Scored}
+use Rattle.score.specs.Score.{scoreOf}
+use Rattle.position.specs.declared.Position.{Position}
+use Rattle.position.specs.Booking.{Booking, result, riichi, win, draw, chombo, pao, multiRon}
+pub use Rattle.hand_rons.specs.Records.{handFor}
+use Rattle.hand_rons.specs.Records.{recordsOf, firstUnreadable, notOnOneTile, isWinner, firstWinner}
+
+-- ---- the game's numbers, each named once
+
+-- "30,000 each at first"
+abbrev pub startingScore : ℤ
+startingScore = pos 30000
+
+-- "scores plus 1,000 times sticks not 120,000": what they are in all
+abbrev pub pointsInPlay : ℤ
+pointsInPlay = pos 120000
+
+-- "200 hands finished"
+abbrev pub lastHand : ℕ
+lastHand = 200
+
+-- "so the floor of a score becomes −28,540,000" (02, S-6)
+abbrev pub floor : ℤ
+floor = negℤ (pos 28540000)
+
+-- ---- the fields
+
+-- a mark in a position is a number: set where it is not 0
+abbrev pub isSet : ℕ → Bool
+isSet n = ltb 0 n
+
+-- the number of a mark that a booking sets or clears
+abbrev pub mark : Bool → ℕ
+mark b = cond b 1 0
+
+-- "scores (30,000 each at first; ..), ..; all but the scores are 0 or unset at first"; "The game holds a counter, 0 at first" (02, S-5); no feeder is named
+unfoldable pub fresh : Position
+fresh = record {
+  scores = tabulate 4 0 (λ i. startingScore);
+  sticks = 0;
+  declared = tabulate 4 0 (λ i. mark false);
+  dealer = 0;
+  wind = 0;
+  hands = 0;
+  over = mark false;
+  counter = 0;
+  feeders = replicate 8 0;
+}
+
+-- the score of seat i ("Seats 0 to 3")
+abbrev pub scoreAt : Position → ℕ → ℤ
+scoreAt l i = getD (l .scores) i (pos 0)
+
+-- seat i is one of the "declared seats"
+abbrev pub isDeclared : Position → ℕ → Bool
+isDeclared l i = isSet (getD (l .declared) i 0)
+
+-- how many "declared seats" there are
+abbrev pub declarations : Position → ℕ
+declarations l = count 4 (isDeclared l)
+
+-- the place of a holder's yaku, 28 or 29, among the feeders (02, S-8): by holder, 28's before 29's
+abbrev pub feederIndex : ℕ → ℕ → ℕ
+feederIndex holder yaku = 4 * (yaku - 28) + holder
+
+-- what a position holds there: 0 where no feeder is named, 1 + the feeder where one is
+abbrev pub feederAt : Position → ℕ → ℕ
+feederAt l place = getD (l .feeders) place 0
+
+-- "scores plus 1,000 times sticks"
+unfoldable pub totalOf : Position → ℤ
+totalOf l = scoreAt l 0 +ℤ scoreAt l 1 +ℤ scoreAt l 2 +ℤ scoreAt l 3 +ℤ pos (1000 * l .sticks)
+
+-- ---- refusals
+
+-- a and b are equal ("not 120,000" below)
+abbrev pub eqZ : ℤ → ℤ → Bool
+eqZ a b = leZ a b && leZ b a
+
+-- "over (marked so, or 200 hands finished)"
+abbrev pub isOver : Position → Bool
+isOver l = isSet (l .over) || eqb (l .hands) lastHand
+
+-- at a place "a feeder over 3, or one equal to its holder" (02, S-8), n being 0 or 1 + the feeder
+abbrev pub wrongFeeder : ℕ → ℕ → Bool
+wrongFeeder place n = ltb (1 + 3) n || eqb n (1 + place % 4)
+
+-- "out of form (dealer over 3, wind over 1, over 200 hands, fewer sticks than declared seats, a score under the floor below, or scores plus 1,000 times sticks not 120,000)";
+-- "The counter never exceeds the hands finished, and a game where it does is out of form" (02, S-5);
+-- "A game that holds a feeder over 3, or one equal to its holder, is out of form" (02, S-8)
+unfoldable pub outOfForm : Position → Bool
+outOfForm l =
+    ltb 3 (l .dealer)
+    || ltb 1 (l .wind)
+    || ltb lastHand (l .hands)
+    || ltb (l .sticks) (declarations l)
+    || ltb (l .hands) (l .counter)
+    || any 8 (λ i. wrongFeeder i (feederAt l i))
+    || any 4 (λ i. ltZ (scoreAt l i) floor)
+    || not (eqZ (totalOf l) pointsInPlay)
+
+-- 9: "a game that isn't open"
+unfoldable pub notOpen : Position → Bool
+notOpen l = isOver l || outOfForm l
+
+-- what Score gives of a win's record, "with the game's dealer and wind"
+abbrev pub scoredFor : Position → List ℕ → Scored
+scoredFor l s = scoreOf s (l .dealer) (l .wind)
+
+-- 11: "riichi field non-zero and winner not declared, or the reverse"
+abbrev pub riichiMismatch : Position → Hand → Bool
+riichiMismatch l h = cond (ltb 0 (h .fields .riichi)) (not (isDeclared l (h .fields .winner))) (isDeclared l (h .fields .winner))
+
+-- of a win's record in an open game: "Score's 1 to 7 with the game's dealer and wind; 11"
+abbrev pub winRefusal : Position → List ℕ → ℕ
+winRefusal l s = cond (ltb 0 (scoredFor l s .refusal)) (scoredFor l s .refusal) (cond (riichiMismatch l (handFor s)) 11 0)
+
+-- "6, 7 or 11 of the first record that meets one" (02, S-6); 0 where none does
+unfoldable pub firstRefused : Position → List (List ℕ) → ℕ
+firstRefused l [] = 0
+firstRefused l (s ∷ ss) = cond (ltb 0 (winRefusal l s)) (winRefusal l s) (firstRefused l ss)
+
+-- "four bits, seat 0 first, set for ready"
+abbrev pub isReady : ℕ → ℕ → Bool
+isReady bits i = eqb (bits / 2 ^ (3 - i) % 2) 1
+
+-- 18: "a holder who is also the feeder, a yaku other than those two, or the same holder and yaku named twice in a hand" (02, S-8)
+abbrev pub wrongPao : Position → ℕ → ℕ → ℕ → Bool
+wrongPao l holder feeder yaku = eqb holder feeder || not (eqb yaku 28 || eqb yaku 29) || isSet (feederAt l (feederIndex holder yaku))
+
+-- 21: "A riichi by a seat with under 1,000 points .. ; 1,000 exactly is enough" (02, S-11)
+abbrev pub lacksStick : Position → ℕ → Bool
+lacksStick l seat = ltZ (scoreAt l seat) (pos 1000)
+
+-- "Where refusals meet a booking by the ledger's fields, the first listed is its number"; 0 where none does. `shut` says that the game isn't open, which is refused with 9;
+-- of a draw "12 is never given now" (02, S-7); of a multiple ron "After 9 it refuses with 17 an empty set or one over three, then ..." (02, S-6)
+unfoldable pub refusalWhen : Bool → Position → Booking → ℕ
+refusalWhen shut l (riichi seat) = cond (ltb 3 seat) 8 (cond shut 9 (cond (isDeclared l seat) 10 (cond (lacksStick l seat) 21 0)))
+refusalWhen shut l (pao holder feeder yaku) = cond (ltb 3 holder || ltb 3 feeder) 8 (cond shut 9 (cond (wrongPao l holder feeder yaku) 18 0))
+refusalWhen shut l (result (win s)) = cond shut 9 (winRefusal l s)
+refusalWhen shut l (result (draw bits)) = cond (ltb 15 bits) 8 (cond shut 9 0)
+refusalWhen shut l (result (chombo seat)) = cond (ltb 3 seat) 8 (cond shut 9 0)
+refusalWhen shut l (result (multiRon number s)) =
+    cond shut 9
+    (cond (eqb number 0 || ltb 3 number) 17
+    (cond (ltb 0 (firstUnreadable (recordsOf number s))) (firstUnreadable (recordsOf number s))
+    (cond (notOnOneTile (recordsOf number s)) 17 (firstRefused l (recordsOf number s)))))
+
+-- by a position alone, which is open or not
+unfoldable pub refusalFor : Position → Booking → ℕ
+refusalFor l b = refusalWhen (notOpen l) l b
+
+-- ---- what an accepted booking does
+
+-- what it gives each seat, or takes; the sticks that it leaves on the table; the seats that are declared after it; whether it finishes the hand; whether the deal passes;
+-- the counter and the feeders that it leaves
+pub record Effect : Type 0 where
+  pub gives : ℕ → ℤ
+  pub sticks : ℕ
+  pub declared : ℕ → Bool
+  pub finishes : Bool
+  pub passes : Bool
+  pub counter : ℕ
+  pub feeders : List ℕ
+
+-- "Win, draw and chombo each finish a hand and clear declarations"; "The booking lapses when the hand is finished" (02, S-8)
+abbrev pub finishing : (ℕ → ℤ) → ℕ → Bool → ℕ → Effect
+finishing gives sticks passes counter =
+    record { gives = gives; sticks = sticks; declared = λ i. false; finishes = true; passes = passes; counter = counter; feeders = replicate 8 0 }
+
+-- the hand goes on: the deal and the counter stay
+abbrev pub going : Position → (ℕ → ℤ) → ℕ → (ℕ → Bool) → List ℕ → Effect
+going l gives sticks declared feeders =
+    record { gives = gives; sticks = sticks; declared = declared; finishes = false; passes = false; counter = l .counter; feeders = feeders }
+
+-- "riichi costs the seat 1,000"
+unfoldable pub riichiGives : ℕ → ℕ → ℤ
+riichiGives seat i = cond (eqb i seat) (negℤ (pos 1000)) (pos 0)
+
+-- the winner gets what the others pay, p being what each seat pays
+unfoldable pub paidByOthers : ℕ → (ℕ → ℕ) → ℕ → ℤ
+paidByOthers winner p i = cond (eqb i winner) (pos (sum 4 p)) (negℤ (pos (p i)))
+
+-- "A ron payer pays 300 more for each counter, and on tsumo each payer pays 100 more" (02, S-5):
+-- what seat i pays more for n counters, one seat paying them alone or not
+unfoldable pub repeatPays : ℕ → ℕ → Bool → ℕ → ℕ → ℕ
+repeatPays winner payer alone n i = cond (eqb i winner) 0 (cond alone (cond (eqb i payer) (300 * n) 0) (100 * n))
+
+-- "this addition" (02, S-5): the winner gets what the others pay more
+abbrev pub repeatGives : ℕ → ℕ → Bool → ℕ → ℕ → ℤ
+repeatGives winner payer alone n = paidByOthers winner (repeatPays winner payer alone n)
+
+-- what a yakuman gives the winner: "Yakuman 8,000"; "ron, 4A to a child, 6A to the dealer", and on tsumo "children A, dealer 2A" or "2A each",
+-- the same in all (01, Fu and points)
+abbrev pub wholeOf : Bool → ℕ
+wholeOf dealers = cond dealers 48000 32000
+
+-- "the feeder pays the whole on tsumo .. On ron the feeder and the discarder pay half each ..; if they are one seat it pays all" (02, S-8; 004, article 67):
+-- what seat i pays of the whole
+unfoldable pub paoPays : ℕ → ℕ → ℕ → Bool → ℕ → ℕ → ℕ
+paoPays winner discarder feeder ron whole i =
+    cond (eqb i winner) 0 (cond ron (cond (eqb i feeder) (whole / 2) 0 + cond (eqb i discarder) (whole / 2) 0) (cond (eqb i feeder) whole 0))
+
+-- "dealer's win"; any other is "a child's win"
+abbrev pub isDealersWin : Position → List ℕ → Bool
+isDealersWin l s = eqb (handFor s .fields .winner) (l .dealer)
+
+-- a win with record s; liable is 0 where nobody is named for its yaku, and 1 + the feeder where one is
+module _ (l : Position) (s : List ℕ) (liable : ℕ) where
+  -- what seat i gets or pays of the winner's gain: its change c, or by article 67 with pao
+  abbrev pub gainGives : (ℕ → ℤ) → ℕ → ℤ
+  gainGives c i =
+      let f = handFor s .fields in
+      cond (isSet liable) (paidByOthers (f .winner) (paoPays (f .winner) (f .discarder) (liable - 1) (isRon f) (wholeOf (isDealersWin l s))) i) (c i)
+
+  -- what n counters give it: "the feeder pays the whole on tsumo, counters included. On ron .. the discarder paying the counters" (02, S-8);
+  -- on a tsumo without pao all pay them, and `liable - 1` is not read
+  abbrev pub counterGives : ℕ → ℕ → ℤ
+  counterGives n = let f = handFor s .fields in repeatGives (f .winner) (cond (isRon f) (f .discarder) (liable - 1)) (isRon f || isSet liable) n
+
+-- "If the holder then wins with that yaku reported (for 29, with four wind triplets, not three and a pair)" (02, S-8): 0, or 1 + the feeder that is named
+abbrev pub paoIn : Position → ℕ → Bool → Bool → ℕ
+paoIn l winner dragons winds = cond dragons (feederAt l (feederIndex winner 28)) (cond winds (feederAt l (feederIndex winner 29)) 0)
+
+-- each wind is held three times or more; with 29 reported these are "four wind triplets", as `winds-of-reading` of Claims says
+abbrev pub holdsFourWinds : Hand → Bool
+holdsFourWinds h = all 4 (λ w. leb 3 (getD (handTally h) (27 + w) 0))
+
+-- by what is reported of record s
+abbrev pub paoFor : Position → List ℕ → ℕ
+paoFor l s =
+    let yaku = scoredFor l s .yaku in
+    paoIn l (handFor s .fields .winner) (getD yaku 28 false) (getD yaku 29 false && holdsFourWinds (handFor s))
+
+-- "A win gives the four changes of the reported reading, by the ledger's dealer and wind, and the winner 1,000 a stick"; "document 01's plus this addition" (02, S-5);
+-- "compared with article 67" (02, S-8): what a win with record s gives seat i, the winner taking n counters and k sticks
+unfoldable pub winGives : Position → List ℕ → ℕ → ℕ → ℕ → ℤ
+winGives l s n k i =
+    gainGives l s (paoFor l s) (λ j. getD (scoredFor l s .changes) j (pos 0)) i +ℤ counterGives l s (paoFor l s) n i
+    +ℤ cond (eqb i (handFor s .fields .winner)) (pos (1000 * k)) (pos 0)
+
+-- what all records give it: "all against the game as it was before. Sticks and counters go to the first winner" (02, S-6)
+unfoldable pub multiRonGives : Position → ℕ → List (List ℕ) → ℕ → ℤ
+multiRonGives l first [] i = pos 0
+multiRonGives l first (s ∷ ss) i =
+    let foremost = eqb (handFor s .fields .winner) first in
+    winGives l s (cond foremost (l .counter) 0) (cond foremost (l .sticks) 0) i +ℤ multiRonGives l first ss i
+
+-- "r ready": how many seats
+abbrev pub readySeats : ℕ → ℕ
+readySeats bits = count 4 (isReady bits)
+
+-- "A draw with r ready, 1 to 3, costs each other seat 3,000/(4 − r) and gives each ready one 3,000/r; else no points move"
+abbrev pub shareOf : ℕ → Bool → ℤ
+shareOf r ready = cond (eqb r 0 || eqb r 4) (pos 0) (cond ready (pos (3000 / r)) (negℤ (pos (3000 / (4 - r)))))
+
+-- what a draw gives seat i
+unfoldable pub drawGives : ℕ → ℕ → ℤ
+drawGives bits i = shareOf (readySeats bits) (isReady bits i)
+
+-- "each such seat pays 3,000 to every other seat" (02, S-7): what seat i pays seat j, the seats `at` being at fault
+abbrev pub finePaid : (ℕ → Bool) → ℕ → ℕ → ℕ
+finePaid at i j = cond (not (eqb i j) && at i) 3000 0
+
+-- what seat i gets of the others less what it pays them, "two such seats paying each other" (02, S-7)
+unfoldable pub fineOf : (ℕ → Bool) → ℕ → ℤ
+fineOf at i = pos (sum 4 (λ j. finePaid at j i)) +ℤ negℤ (pos (sum 4 (finePaid at i)))
+
+-- "each declared seat gets 1,000 back"
+abbrev pub backTo : Position → ℕ → ℤ
+backTo l i = cond (isDeclared l i) (pos 1000) (pos 0)
+
+-- what a chombo of the seats `at` gives seat i; of one seat it "costs the seat 9,000 and gives each other seat 3,000", as `chombo-of-one` of Claims says
+unfoldable pub chomboGives : Position → (ℕ → Bool) → ℕ → ℤ
+chomboGives l at i = fineOf at i +ℤ backTo l i
+
+-- of a chombo "a stick less for each" declared seat; "the deal and counter stay, and the hand is finished" (02, S-7)
+abbrev pub chomboOf : Position → (ℕ → Bool) → Effect
+chomboOf l at = finishing (chomboGives l at) (l .sticks - declarations l) false (l .counter)
+
+-- seat i is "Declared, yet not ready" (02, S-7)
+abbrev pub isAtFault : Position → ℕ → ℕ → Bool
+isAtFault l bits i = isDeclared l i && not (isReady bits i)
+
+-- riichi "adds a stick and declares the seat"; a win "leaving none"; "A draw in which a declared seat isn't ready" is "a chombo" of "each such seat" (02, S-7);
+-- "The deal passes on a child's win or a draw with the dealer not ready";
+-- the counter "rises by one at each dealer's win and each draw, returns to 0 at a child's win, and isn't touched by a chombo" (02, S-5);
+-- pao "names holder, feeder and yaku" (02, S-8);
+-- of a multiple ron "If the dealer is a winner the deal stays and the counter rises; otherwise the deal passes and the counter clears" (02, S-6)
+unfoldable pub effectOf : Position → Booking → Effect
+effectOf l (riichi seat) = going l (riichiGives seat) (l .sticks + 1) (λ i. eqb i seat || isDeclared l i) (l .feeders)
+effectOf l (result (win s)) = finishing (winGives l s (l .counter) (l .sticks)) 0 (not (isDealersWin l s)) (cond (isDealersWin l s) (l .counter + 1) 0)
+effectOf l (result (draw bits)) =
+    cond (any 4 (isAtFault l bits)) (chomboOf l (isAtFault l bits))
+    (finishing (drawGives bits) (l .sticks) (not (isReady bits (l .dealer))) (l .counter + 1))
+effectOf l (result (chombo seat)) = chomboOf l (λ i. eqb i seat)
+effectOf l (pao holder feeder yaku) = going l (λ i. pos 0) (l .sticks) (isDeclared l) (set (l .feeders) (feederIndex holder yaku) (1 + feeder))
+effectOf l (result (multiRon number s)) =
+    let rs = recordsOf number s in
+    finishing (multiRonGives l (firstWinner rs) rs) 0 (not (isWinner rs (l .dealer))) (cond (isWinner rs (l .dealer)) (l .counter + 1) 0)
+
+-- ---- the fields after it
+
+-- the deal is at "South's seat 3"
+abbrev pub isLast : Position → Bool
+isLast l = eqb (l .wind) 1 && eqb (l .dealer) 3
+
+-- "The deal passes" to the next in "turn order"; "after South's seat 3 .. dealer and wind staying"
+abbrev pub dealerAfter : Position → Bool → ℕ
+dealerAfter l passes = cond (passes && not (isLast l)) ((l .dealer + 1) % 4) (l .dealer)
+
+-- "after seat 3 the wind turns South"
+abbrev pub windAfter : Position → Bool → ℕ
+windAfter l passes = cond (passes && eqb (l .dealer) 3) 1 (l .wind)
+
+-- "finished hands"
+abbrev pub handsAfter : Position → Bool → ℕ
+handsAfter l finishes = cond finishes (l .hands + 1) (l .hands)
+
+-- "after South's seat 3 the game is marked over"; "it is marked so at 200 finished hands too, the deal passing as usual"
+abbrev pub overAfter : Position → Effect → Bool
+overAfter l e = (e .passes && isLast l) || eqb (handsAfter l (e .finishes)) lastHand
+
+-- the position after a booking that does e
+unfoldable pub applied : Position → Effect → Position
+applied l e = record {
+  scores = tabulate 4 0 (λ i. scoreAt l i +ℤ e .gives i);
+  sticks = e .sticks;
+  declared = tabulate 4 0 (λ i. mark (e .declared i));
+  dealer = dealerAfter l (e .passes);
+  wind = windAfter l (e .passes);
+  hands = handsAfter l (e .finishes);
+  over = mark (overAfter l e);
+  counter = e .counter;
+  feeders = e .feeders;
+}
+
+-- ---- the ledger after any booking, and after a list
+
+-- "the first listed is its number and the ledger stays. Otherwise ..."
+unfoldable pub after : Position → Booking → Position
+after l b = cond (ltb 0 (refusalFor l b)) l (applied l (effectOf l b))
+
+-- booking b in position p gives the refusal n and leaves the position p′
+abbrev pub Moves : Position → Booking → ℕ → Position → Type 0
+Moves p b n p′ = (n ≡ refusalFor p b) × (p′ ≡ after p b)
+
+-- after each of a list, from l on
+unfoldable pub ledgerFrom : Position → List Booking → Position
+ledgerFrom l [] = l
+ledgerFrom l (b ∷ bs) = ledgerFrom (after l b) bs
+
+-- "fresh at first"
+unfoldable pub ledger : List Booking → Position
+ledger bs = ledgerFrom fresh bs
+
+-- "all that the rules give or take for the bookings accepted": all that seat i is given from l on
+unfoldable pub givenFrom : Position → List Booking → ℕ → ℤ
+givenFrom l [] i = pos 0
+givenFrom l (b ∷ bs) i = cond (ltb 0 (refusalFor l b)) (pos 0) (effectOf l b .gives i) +ℤ givenFrom (after l b) bs i

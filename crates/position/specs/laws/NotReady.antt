@@ -1,0 +1,140 @@
+-- A draw in which a declared seat is not ready is a chombo; no booking is refused with 12.
+use mathlib.Core.Path.{_≡_, refl, sym, ap, _∙_}
+use mathlib.Core.Bool.{Bool, true, false, _||_, cond}
+use mathlib.Core.List.{List, [], _∷_}
+use Prim.Native.Nat.{ℕ, _+_, _-_, _*_, _≤_, _<_}
+use native.Mathlib.Omega.{arith}
+use lib.Dec.{ltb, eqb}
+use lib.IntN.{pos, _+ℤ_, +ℤ-assoc}
+use lib.ListN.{length}
+use Rattle.tiles.specs.Below.{any}
+use Rattle.tiles.specs.laws.Below.{cond-le}
+use Rattle.hand.specs.declared.Hand.{Hand}
+use Rattle.hand.specs.Held.{descends, overFour}
+use Rattle.hand.specs.Refusals.{wrongFields, inRecord, wrongSituation, refusalOf}
+use Rattle.bits.specs.Bits.{bitsOf}
+use Rattle.hand_record.specs.Record.{refusedWith, soundAs, refusalIn, wrongLength, countIn, handIn, paddingOf, answerBy, answerIn, readOf}
+use Rattle.score.specs.declared.Scored.{Scored}
+use Rattle.score.specs.Named.{Named, reported, six, seven}
+use Rattle.score.specs.IsScore.{IsScore, eight, unreadable, read}
+use Rattle.score.specs.Score.{scoreOf, is-score}
+use Rattle.score.specs.laws.Z.{add-law, eq-parts}
+use Rattle.position.specs.declared.Position.{Position}
+use Rattle.position.specs.Booking.{Booking, result, riichi, win, draw, chombo, pao, multiRon}
+use Rattle.hand_rons.specs.Records.{recordsOf, firstUnreadable, notOnOneTile}
+use Rattle.position.specs.Ledger.{scoreAt, isDeclared, declarations, notOpen, handFor, scoredFor, riichiMismatch, winRefusal, firstRefused, lacksStick, wrongPao, refusalFor, refusalWhen, fineOf, backTo, chomboGives, chomboOf, isAtFault, effectOf, applied, after}
+use Rattle.position.specs.NotReady.{BookedAsChombo}
+use Rattle.position.specs.laws.Effect.{score-applied}
+use Rattle.position.specs.laws.Fair.{chombo-balanced}
+
+-- ---- what such a draw does
+
+module _ (l : Position) (bits : ℕ) where
+  applied-is : BookedAsChombo l bits (applied l (chomboOf l (isAtFault l bits)))
+  unfolding applied chomboGives
+  applied-is = record {
+    scores = λ i h. score-applied l (chomboOf l (isAtFault l bits)) i h ∙ sym (+ℤ-assoc (scoreAt l i) (fineOf (isAtFault l bits) i) (backTo l i));
+    sticks = refl;
+    dealer = refl;
+    wind = refl;
+    counter = refl;
+    hands = refl;
+    declared = refl;
+    over = refl;
+  }
+
+  pub booked-as-chombo : refusalFor l (result (draw bits)) ≡ 0 → any 4 (isAtFault l bits) ≡ true → BookedAsChombo l bits (after l (result (draw bits)))
+  unfolding after effectOf
+  booked-as-chombo e t = rw (e, t) applied-is
+
+-- ---- the four gifts and the sticks that stay are the sticks that were
+
+module _ (l : Position) (at : ℕ → Bool) where
+  pub with-sticks : declarations l ≤ l .sticks →
+      chomboGives l at 0 +ℤ chomboGives l at 1 +ℤ chomboGives l at 2 +ℤ chomboGives l at 3 +ℤ pos (1000 * (l .sticks - declarations l)) ≡ pos (1000 * l .sticks)
+  with-sticks h =
+      let x0 = chomboGives l at 0 in
+      let x1 = chomboGives l at 1 in
+      let x2 = chomboGives l at 2 in
+      let x3 = chomboGives l at 3 in
+      let k : ℕ = 1000 * (l .sticks - declarations l) in
+      eq-parts _ _ (omega (arith, chombo-balanced l at h, add-law x0 x1, add-law (x0 +ℤ x1) x2, add-law (x0 +ℤ x1 +ℤ x2) x3, add-law (x0 +ℤ x1 +ℤ x2 +ℤ x3) (pos k)))
+
+-- ---- Read's refusals are 5 at most, Score's 8
+
+refusal-le : (h : Hand) (padding : ℕ) → refusalOf h padding ≤ 5
+unfolding refusalOf
+refusal-le h padding =
+    cond-le (wrongFields h padding) 2 _ 5 (omega arith)
+    (cond-le (descends (h .held)) 3 _ 5 (omega arith) (cond-le (overFour (inRecord h)) 4 _ 5 (omega arith) (cond-le (wrongSituation h) 5 0 5 (omega arith) (omega arith))))
+
+answer-le : (h : Hand) (j : ℕ) → j ≤ 5 → refusalIn (answerBy h j .answer) ≤ 5
+unfolding answerBy
+answer-le h j l = go (ltb 0 j)
+  where
+    go : (b : Bool) → refusalIn (cond b (refusedWith j) (soundAs h) .answer) ≤ 5
+    go true = l
+    go false = omega arith
+
+read-le : (s : List ℕ) → refusalIn (readOf s .answer) ≤ 5
+unfolding readOf answerIn
+read-le s = go (wrongLength (length s) (countIn s))
+  where
+    go : (b : Bool) → refusalIn (cond b (refusedWith 1) (answerIn (countIn s) (bitsOf s)) .answer) ≤ 5
+    go true = omega arith
+    go false = answer-le (handIn (countIn s) (bitsOf s)) _ (refusal-le (handIn (countIn s) (bitsOf s)) (paddingOf (countIn s) (bitsOf s)))
+
+module _ (s : List ℕ) (dealer wind : ℕ) where
+  named-le : {h : Hand} {a : Scored} → Named h dealer wind a → a .refusal ≤ 8
+  named-le (reported r i) = omega arith
+  named-le (six n) = omega arith
+  named-le (seven q i n) = omega arith
+
+  answered-le : {a : Scored} → IsScore s dealer wind a → a .refusal ≤ 8
+  answered-le (eight e) = omega arith
+  answered-le (unreadable d w n e) = let same : refusalIn (readOf s .answer) ≡ n = ap refusalIn e in omega (arith, read-le s)
+  answered-le (read d w f e m) = named-le m
+
+  score-le : scoreOf s dealer wind .refusal ≤ 8
+  score-le = answered-le (is-score s dealer wind)
+
+-- ---- no refusal is 12
+
+abbrev Not12 : ℕ → Type 0
+Not12 n = n ≡ 12 → ⊥
+
+neither : (b : Bool) (n m : ℕ) → Not12 n → Not12 m → Not12 (cond b n m)
+neither true n m p q = p
+neither false n m p q = q
+
+unreadable-12 : (ss : List (List ℕ)) → Not12 (firstUnreadable ss)
+unfolding firstUnreadable
+unreadable-12 [] = λ e. omega arith
+unreadable-12 (s ∷ ss) = neither (ltb 0 (refusalIn (readOf s .answer))) (refusalIn (readOf s .answer)) _ (λ e. omega (arith, read-le s)) (unreadable-12 ss)
+
+module _ (l : Position) where
+  win-12 : (s : List ℕ) → Not12 (winRefusal l s)
+  win-12 s =
+      let v : ℕ = scoredFor l s .refusal in
+      neither (ltb 0 v) v _ (λ e. omega (arith, score-le s (l .dealer) (l .wind))) (neither (riichiMismatch l (handFor s)) 11 0 (λ e. omega arith) (λ e. omega arith))
+
+  refused-12 : (ss : List (List ℕ)) → Not12 (firstRefused l ss)
+  unfolding firstRefused
+  refused-12 [] = λ e. omega arith
+  refused-12 (s ∷ ss) = neither (ltb 0 (winRefusal l s)) (winRefusal l s) _ (win-12 s) (refused-12 ss)
+
+  pub never-12 : (b : Booking) → Not12 (refusalFor l b)
+  unfolding refusalFor refusalWhen
+  never-12 (riichi seat) =
+      neither (ltb 3 seat) 8 _ (λ e. omega arith) (neither (notOpen l) 9 _ (λ e. omega arith) (neither (isDeclared l seat) 10 _ (λ e. omega arith) (neither (lacksStick l seat) 21 0 (λ e. omega arith) (λ e. omega arith))))
+  never-12 (result (win s)) = neither (notOpen l) 9 _ (λ e. omega arith) (win-12 s)
+  never-12 (result (draw bits)) = neither (ltb 15 bits) 8 _ (λ e. omega arith) (neither (notOpen l) 9 0 (λ e. omega arith) (λ e. omega arith))
+  never-12 (result (chombo seat)) = neither (ltb 3 seat) 8 _ (λ e. omega arith) (neither (notOpen l) 9 0 (λ e. omega arith) (λ e. omega arith))
+  never-12 (pao holder feeder yaku) =
+      neither (ltb 3 holder || ltb 3 feeder) 8 _ (λ e. omega arith)
+      (neither (notOpen l) 9 _ (λ e. omega arith) (neither (wrongPao l holder feeder yaku) 18 0 (λ e. omega arith) (λ e. omega arith)))
+  never-12 (result (multiRon number s)) =
+      let rs = recordsOf number s in
+      neither (notOpen l) 9 _ (λ e. omega arith)
+      (neither (eqb number 0 || ltb 3 number) 17 _ (λ e. omega arith)
+      (neither (ltb 0 (firstUnreadable rs)) (firstUnreadable rs) _ (unreadable-12 rs) (neither (notOnOneTile rs) 17 (firstRefused l rs) (λ e. omega arith) (refused-12 rs))))

@@ -1,0 +1,11 @@
+-- `position_moves::declare` meets its contract: each call gives its seat's mark.
+use borrow.Author.Needs.{needs}
+use Rattle.position_moves.proofs.declare.Statement.{statement}
+use Rattle.position_moves.proofs.declare.Tie as tie
+
+pub declare-spec : {M : Type 1} → statement M
+declare-spec =
+    tie.close
+    (tie.spec
+    (λ c. search needs) (λ c κs. search needs) (λ c. search needs) (λ c κs. search needs) (λ c. search needs) (λ c κs. search needs) (λ c. search needs) (λ c κs. search needs)
+    (λ c. rw (c .before .before .before .mark .ensures .0, c .before .before .mark2 .ensures .0, c .before .mark3 .ensures .0, c .mark4 .ensures .0)))

@@ -1,0 +1,112 @@
+-- What the win of a record that scores v comes to, and that this is the ledger's.
+use mathlib.Core.Path.{_≡_, refl, sym, ap, _∙_}
+use mathlib.Core.Bool.{Bool, true, false, not, _||_, cond}
+use mathlib.Core.List.{List, [], _∷_}
+use Prim.Native.Nat.{ℕ, _+_, _-_, _*_, _≤_, _<_}
+use native.Mathlib.Omega.{arith}
+use borrow.Author.Tests.{lt-ltb, le-ltb}
+use lib.Dec.{ltb, eqb}
+use lib.IntN.{ℤ, pos, _+ℤ_}
+use lib.ListN.{getD}
+use Rattle.tiles.specs.Below.{tabulate}
+use Rattle.hand.specs.declared.Fields.{Fields}
+use Rattle.hand.specs.declared.Hand.{Hand}
+use Rattle.hand.specs.Hand.{isRon}
+use Rattle.hand_record.specs.Record.{refusalIn, readOf}
+use Rattle.score.specs.declared.Scored.{Scored}
+use Rattle.score.specs.laws.HandScore.{score-unreadable}
+use Rattle.position.specs.declared.Position.{Position}
+use Rattle.position.specs.Booking.{result, win}
+use Rattle.position.specs.Ledger.{isSet, isDeclared, notOpen, handFor, scoredFor, winRefusal, paidByOthers, repeatGives, wholeOf, paoPays, paoFor, winGives, effectOf, applied}
+use Rattle.position.specs.laws.Form.{Open}
+use Rattle.position.specs.laws.Sums.{Gifts, zeros-gifts}
+use Rattle.position_moves.specs.laws.Steps.{finished}
+use Rattle.position_win.specs.declared.Settled.{Settled}
+
+-- what a win with changes c and additions a gives each seat, the winner taking k sticks
+abbrev pub winningsOf : List ℤ → List ℤ → ℕ → ℕ → List ℤ
+winningsOf c a winner k = tabulate 4 0 (λ i. getD c i (pos 0) +ℤ getD a i (pos 0) +ℤ cond (eqb i winner) (pos (1000 * k)) (pos 0))
+
+-- c, or what `by` says of each seat where t: seat by seat
+seat-by-seat : (by : ℕ → ℤ) (c a : List ℤ) (winner k : ℕ) (t : Bool) →
+    winningsOf (cond t (tabulate 4 0 by) c) a winner k
+    ≡ tabulate 4 0 (λ i. cond t (by i) (getD c i (pos 0)) +ℤ getD a i (pos 0) +ℤ cond (eqb i winner) (pos (1000 * k)) (pos 0))
+seat-by-seat by c a winner k true = refl
+seat-by-seat by c a winner k false = refl
+
+-- nothing, with a refusal
+abbrev pub nothing : ℕ → Settled
+nothing n = record { refusal = n; winner = 0; gives = pos 0 ∷ pos 0 ∷ pos 0 ∷ pos 0 ∷ [] }
+
+-- ---- a record that read
+
+-- a win with the fields f that scores v; liable is 0, or 1 + the feeder of the yaku that is reported; the winner takes n counters and k sticks
+module _ (g : Position) (f : Fields) (v : Scored) (liable n k : ℕ) where
+  -- 11's condition
+  abbrev mismatched : Bool
+  mismatched = cond (ltb 0 (f .riichi)) (not (isDeclared g (f .winner))) (isDeclared g (f .winner))
+
+  abbrev pub wonRefusal : ℕ
+  wonRefusal = cond (ltb 0 (v .refusal)) (v .refusal) (cond mismatched 11 0)
+
+  -- what article 67 gives
+  abbrev pao-gives : ℕ → ℤ
+  pao-gives = paidByOthers (f .winner) (paoPays (f .winner) (f .discarder) (liable - 1) (isRon f) (wholeOf (eqb (f .winner) (g .dealer))))
+
+  -- the changes, or what article 67 gives
+  abbrev pub changesOf : List ℤ
+  changesOf = cond (isSet liable) (tabulate 4 0 pao-gives) (v .changes)
+
+  -- what the counters add
+  abbrev pub additionsOf : List ℤ
+  additionsOf = tabulate 4 0 (repeatGives (f .winner) (cond (isRon f) (f .discarder) (liable - 1)) (isRon f || isSet liable) n)
+
+  -- what it comes to
+  abbrev pub SettledAs : Settled → Type 0
+  SettledAs r = (r .refusal ≡ wonRefusal) × (r .refusal ≡ 0 → (r .winner ≡ f .winner) × (r .gives ≡ winningsOf changesOf additionsOf (f .winner) k)) × Gifts (r .gives)
+
+  pub won-refused : (r : Settled) (m : ℕ) → r ≡ nothing m → wonRefusal ≡ m → 0 < m → SettledAs r
+  won-refused r m e q l = rw e (sym q, λ z. absurd (omega arith), zeros-gifts)
+
+  pub won-accepted : (c a by : List ℤ) → wonRefusal ≡ 0 → c ≡ changesOf → a ≡ additionsOf → by ≡ winningsOf c a (f .winner) k → Gifts by
+      → SettledAs (record { refusal = 0; winner = f .winner; gives = by })
+  won-accepted c a by q y x p w = (sym q, λ z. (refl, p ∙ rw (y, x)), w)
+
+  pub won-unscored : 0 < v .refusal → wonRefusal ≡ v .refusal
+  won-unscored l = rw (lt-ltb 0 (v .refusal) l)
+
+  pub won-scored : v .refusal ≤ 0 → (b : Bool) → mismatched ≡ b → wonRefusal ≡ cond b 11 0
+  won-scored l b q = rw (le-ltb 0 (v .refusal) l, q)
+
+-- ---- a record
+
+module _ (g : Position) (s : List ℕ) (n k : ℕ) where
+  -- what its settling comes to
+  abbrev pub IsSettled : Settled → Type 0
+  IsSettled r = (r .refusal ≡ winRefusal g s) × (r .refusal ≡ 0 → (r .winner ≡ handFor s .fields .winner) × (r .gives ≡ tabulate 4 0 (winGives g s n k))) × Gifts (r .gives)
+
+  winnings-are : let f = handFor s .fields in let v = scoredFor g s in
+      winningsOf (changesOf g f v (paoFor g s) n k) (additionsOf g f v (paoFor g s) n k) (f .winner) k ≡ tabulate 4 0 (winGives g s n k)
+  unfolding winGives
+  winnings-are =
+      let f = handFor s .fields in
+      let v = scoredFor g s in
+      seat-by-seat (pao-gives g f v (paoFor g s) n k) (v .changes) (additionsOf g f v (paoFor g s) n k) (f .winner) k (isSet (paoFor g s))
+
+  pub settled-read : (h : Hand) (v : Scored) (liable : ℕ) (r : Settled) → h ≡ handFor s → v ≡ scoredFor g s → liable ≡ paoFor g s → SettledAs g (h .fields) v liable n k r → IsSettled r
+  settled-read h v liable r p q e w =
+      let a = w .1 in
+      (rw (p, q) at (w .0), (λ z. let y = rw (e, p, q) at (a z) in (y .0, y .1 ∙ winnings-are)), w .2)
+
+  pub settled-unreadable : Open g → (r : Settled) (m : ℕ) → r ≡ nothing m → refusalIn (readOf s .answer) ≡ m → 0 < m → IsSettled r
+  settled-unreadable o r m e q l =
+      let f = o .form in
+      let c : winRefusal g s ≡ m = rw (score-unreadable s (g .dealer) (g .wind) (f .dealer) (f .wind) m q l, lt-ltb 0 m l) in
+      rw e (sym c, λ z. absurd (omega arith), zeros-gifts)
+
+-- ---- the game after a win
+
+pub win-applied : (g : Position) (s : List ℕ) (by : List ℤ) (w m : ℕ) → by ≡ tabulate 4 0 (winGives g s (g .counter) (g .sticks)) → w ≡ handFor s .fields .winner
+    → m ≡ cond (eqb w (g .dealer)) (g .counter + 1) 0 → finished g by 0 (not (eqb w (g .dealer))) m ≡ applied g (effectOf g (result (win s)))
+unfolding finished applied effectOf
+win-applied g s by w m e p q = rw (e, q, p)

@@ -1,0 +1,3 @@
+pub mod SplitsInto
+pub mod Groups
+pub mod Regular

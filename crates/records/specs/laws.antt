@@ -1,4 +1,0 @@
-pub mod Sets
-pub mod Cut
-pub mod First
-pub mod Hands

@@ -1,0 +1,12 @@
+-- `score_best::joined` meets its contract: each place is picked.
+use borrow.Author.Needs.{needs}
+use Rattle.score_best.specs.search.HandCommon.{joined}
+use Rattle.score_best.proofs.joined.Statement.{statement}
+use Rattle.score_best.proofs.joined.Tie as tie
+
+pub joined-spec : {M : Type 1} → statement M
+unfolding joined
+joined-spec =
+    tie.close
+    (tie.spec (λ c. search needs) (λ c. search needs) (λ c κs. search needs) (λ c. search needs) (λ c. search needs) (λ c κs. search needs)
+    (λ c. search needs) (λ c. search needs) (λ c κs. search needs) (λ c. search needs) (λ c. search needs) (λ c κs. search needs) (λ c. rw (c .pick4 .ensures, c .before .pick3 .ensures, c .before .before .pick2 .ensures, c .before .before .before .pick .ensures)))

@@ -1,0 +1,2 @@
+pub mod HandCommon
+pub mod Best

@@ -1,7 +1,0 @@
--- `setting::pick` meets its contract.
-use borrow.Author.Tests.{eq-eqb, ne-eqb}
-use Rattle.setting.proofs.pick.Statement.{statement}
-use Rattle.setting.proofs.pick.Tie as tie
-
-pub pick-spec : {M : Type 1} → statement M
-pick-spec = tie.close (tie.spec (λ c. rw (eq-eqb _ _ (c .if1 .taken))) (λ c. rw (ne-eqb _ _ (c .if1 .left))))

@@ -1,0 +1,16 @@
+-- `yaku_groups::in_three_at` meets its contract.
+use borrow.Author.Needs.{needs}
+use borrow.Author.Tests.{lt-ltb, le-ltb, le-leb, lt-leb}
+use Rattle.yaku_basics.specs.Tests.{inThreeAt}
+use Rattle.yaku_groups.proofs.in_three_at.Statement.{statement}
+use Rattle.yaku_groups.proofs.in_three_at.Tie as tie
+
+pub in-three-at-spec : {M : Type 1} → statement M
+unfolding inThreeAt
+in-three-at-spec =
+    tie.close
+    (tie.spec
+    (λ c. rw (lt-leb _ _ (c .if1 .taken))) (λ c. search needs) (λ c. search needs) (λ c κs. search needs)
+    (λ c. search needs) (λ c κs. search needs)
+    (λ c. rw (le-leb _ _ (c .before .before .before .if1 .left), lt-ltb _ _ (c .before .before .if2 .taken), c .before .has .ensures, c .has2 .ensures))
+    (λ c. rw (le-leb _ _ (c .before .if1 .left), le-ltb _ _ (c .if2 .left))))

@@ -1,0 +1,13 @@
+-- `yaku_groups::in_three_suits` meets its contract.
+use borrow.Author.Needs.{needs}
+use Rattle.yaku_basics.specs.Tests.{inThreeSuits}
+use Rattle.yaku_groups.proofs.in_three_suits.Statement.{statement}
+use Rattle.yaku_groups.proofs.in_three_suits.Tie as tie
+
+pub in-three-suits-spec : {M : Type 1} → statement M
+unfolding inThreeSuits
+in-three-suits-spec =
+    tie.close
+    (tie.spec
+    (λ c. search needs) (λ c κs. search needs) (λ c. search needs) (λ c κs. search needs) (λ c. search needs)
+    (λ c κs. search needs) (λ c. search needs) (λ c κs. search needs) (λ c. rw (c .in-three-at4 .ensures, c .before .in-three-at3 .ensures, c .before .before .in-three-at2 .ensures, c .before .before .before .in-three-at .ensures)))
