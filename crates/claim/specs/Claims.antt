@@ -36,7 +36,8 @@ module _ (s : List ℕ) where
     two-exactly = laws.exactly s claim dealer wind 2
 
     -- it has one, and does not pay that gain
-    pub three-exactly : HasVerdict s claim dealer wind 3 ↔ NamedWith s claim dealer wind (λ r g. ReadsWithYaku hand dealer wind r × (gainIn hand dealer wind r ≡ g → ⊥))
+    pub three-exactly : HasVerdict s claim dealer wind 3 ↔ NamedWith s claim dealer wind
+        (λ r g. ReadsWithYaku hand dealer wind r × (gainIn hand dealer wind r ≡ g → ⊥))
     three-exactly = laws.exactly s claim dealer wind 3
 
     -- it does, and another reading with a yaku pays more

@@ -55,7 +55,8 @@ else-as-now = after.as-now
 pub correctable-marked : (g : Game) (e : Entry) → gameRefusal g e ≡ 0 → let n = gameAfter g e .correctable in (n ≡ 0) ⊎ (n ≡ 1)
 correctable-marked = after.correctable-marked
 
--- "It refuses with 20, before all else but the 9 for a game out of form, when there is none to supersede"; past both with what its result meets in the earlier game
+-- "It refuses with 20, before all else but the 9 for a game out of form, when there is none to supersede"; past both with what its result meets in the
+-- earlier game
 pub nine-then-twenty : (g : Game) (r : Result) → let n = gameRefusal g (correction r) in
     ((outOfForm (g .now) ≡ true) ⊎ ((isSet (g .correctable) ≡ true) × (outOfForm (g .earlier) ≡ true)) → n ≡ 9)
     × (outOfForm (g .now) ≡ false → isSet (g .correctable) ≡ false → n ≡ 20)
@@ -87,7 +88,8 @@ module _ (es : List Entry) where
   -- "A correction that was accepted can itself be superseded": two are the second alone
   pub correction-twice : (a r : Result) → gameRefusal g (correction a) ≡ 0
       → let new = gameAfter g (correction a) in
-      (gameRefusal new (correction r) ≡ gameRefusal g (correction r)) × (gameRefusal g (correction r) ≡ 0 → gameAfter new (correction r) ≡ gameAfter g (correction r))
+      (gameRefusal new (correction r) ≡ gameRefusal g (correction r))
+      × (gameRefusal g (correction r) ≡ 0 → gameAfter new (correction r) ≡ gameAfter g (correction r))
   correction-twice a r e = let p = lists.both-kept es in (superseded.twice-refusal g p a r e, superseded.twice-game g p a r e)
 
   -- "as long as no other booking has been accepted since": after one that finished no hand there is none to supersede

@@ -13,7 +13,8 @@ use Rattle.game.specs.Runs.{Every, refusalsFrom}
 pub record Demand3 (es : List Entry) (ns : List ℕ) (g : Game) : Type 0 where
   -- "The four scores plus 1,000 times the sticks on the table are 120,000."
   pub sum : totalOf (g .now) ≡ pointsInPlay
-  -- "Each seat has 30,000 plus all that the rules give or take for the bookings accepted": "The scores found after a list are those of the bookings left standing" (02, S-10)
+  -- "Each seat has 30,000 plus all that the rules give or take for the bookings accepted": "The scores found after a list are those of the bookings left
+  -- standing" (02, S-10)
   pub seats : (i : ℕ) → i < 4 → scoreAt (g .now) i ≡ startingScore +ℤ givenFrom fresh (standing es) i
   -- "The whole game equals the ledger of document 01, kept for the same list", of the bookings left standing
   pub ledger : g .now ≡ ledger (standing es)
@@ -23,7 +24,8 @@ pub record Demand3 (es : List Entry) (ns : List ℕ) (g : Game) : Type 0 where
   pub named : (ns ≡ refusalsFrom freshGame es) × Every (λ l b n. n ≡ refusalFor l b) freshGame es ns
   -- the same of a win, in full
   pub wins : Every (OfWin AcceptedWhen) freshGame es ns
-  -- "Each accepted win was paid by a reading of its tiles that has a yaku, and the winner's gain in it is at least that in every other reading of the same tiles that has a yaku."
+  -- "Each accepted win was paid by a reading of its tiles that has a yaku, and the winner's gain in it is at least that in every other reading of the same
+  -- tiles that has a yaku."
   pub paid : Every (OfWin PaidByBest) freshGame es ns
   -- the same of a multiple ron, "the set as one booking", and "each of the winners has the best reading of that winner's tiles" (02, S-6)
   pub multi-rons-accepted : Every (OfMultiRon MultiRonAcceptedWhen) freshGame es ns

@@ -54,7 +54,8 @@ gameFrom g (e ∷ es) = gameFrom (gameAfter g e) es
 
 -- ---- the bookings left standing
 
--- where bs stand, and after them `last`: the booking that a correction supersedes, "the last finished booking, as long as no other booking has been accepted since", or none
+-- where bs stand, and after them `last`: the booking that a correction supersedes, "the last finished booking, as long as no other booking has been accepted
+-- since", or none
 unfoldable pub standingFrom : List Booking → List Booking → List Entry → List Booking
 standingFrom bs last [] = bs ++ last
 standingFrom bs last (booking b ∷ es) =

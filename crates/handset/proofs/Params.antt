@@ -1,4 +1,5 @@
--- The parameters beside a lent struct, a list of any length: what the MIR, the signatures, the contract and the memory of a booking function have of them, each by recursion on the list. `proofs/Lent.antt` walks the function.
+-- The parameters beside a lent struct, a list of any length: what the MIR, the signatures, the contract and the memory of a booking function have of them,
+-- each by recursion on the list. `proofs/Lent.antt` walks the function.
 -- `Param` says what such a parameter is; `number` and `bytes`, at the end, are the two that there are.
 use mathlib.Core.Path.{_≡_, refl, sym, subst}
 use Prim.Native.Nat.{ℕ, zero, suc}
@@ -30,15 +31,18 @@ use denote.Exit.{yes, Last, left}
 -- ---- rules beside those of `types.Run`
 module _ {M : Type 1} {𝓤 : URA M} {H : Heap 𝓤} {A : Atoms 𝓤} {K : Type 0} {W : Given 𝓤 H A} where
   -- a place whose local is known by an equation
-  pub found : K → {Γ : List (Item 𝓤)} {E : Env 𝓤 H} {i : ℕ} {e : Ty × ℕ} {st : List PStep} {sp : Spot 𝓤 H} → getD E i (noLocal 𝓤 H) ≡ e → Walks K W Γ E (e .0, e .1, zero) st sp → Finds K W Γ E (place i st) sp
+  pub found : K → {Γ : List (Item 𝓤)} {E : Env 𝓤 H} {i : ℕ} {e : Ty × ℕ} {st : List PStep} {sp : Spot 𝓤 H} → getD E i (noLocal 𝓤 H) ≡ e
+      → Walks K W Γ E (e .0, e .1, zero) st sp → Finds K W Γ E (place i st) sp
   found t {Γ} {E} {st = st} is w = record { go = λ Kt h. subst (λ (e : Ty × ℕ). ent 𝓤 (⋆ 𝓤 H A Γ) (walk 𝓤 H E (e .0, e .1, zero) st Kt)) (sym is) (w .go Kt h) }
 
   -- operands read in another context, which this one gives and which gives this one back
-  pub within : (Γ Γ′ : List (Item 𝓤)) {E : Env 𝓤 H} {xs : List Operand} {vs : List Val} → Sq W Γ (prop (⋆ 𝓤 H A Γ′)) → Sq W Γ′ (prop (⋆ 𝓤 H A Γ)) → Opds K W Γ′ E xs vs → Opds K W Γ E xs vs
+  pub within : (Γ Γ′ : List (Item 𝓤)) {E : Env 𝓤 H} {xs : List Operand} {vs : List Val} → Sq W Γ (prop (⋆ 𝓤 H A Γ′)) → Sq W Γ′ (prop (⋆ 𝓤 H A Γ))
+      → Opds K W Γ′ E xs vs → Opds K W Γ E xs vs
   within Γ Γ′ to back os = record { go = λ Kt h. via 𝓤 (⋆ 𝓤 H A Γ′) (to .prf) (os .go Kt (via 𝓤 (⋆ 𝓤 H A Γ) (back .prf) h)) }
 
   -- and at the second entry, which is put first
-  pub second : K → {i j : Item 𝓤} {Γ : List (Item 𝓤)} {E : Env 𝓤 H} {xs : List Operand} {vs : List Val} → Opds K W (j ∷ i ∷ Γ) E xs vs → Opds K W (i ∷ j ∷ Γ) E xs vs
+  pub second : K → {i j : Item 𝓤} {Γ : List (Item 𝓤)} {E : Env 𝓤 H} {xs : List Operand} {vs : List Val} → Opds K W (j ∷ i ∷ Γ) E xs vs
+      → Opds K W (i ∷ j ∷ Γ) E xs vs
   second t {i} {j} {Γ} = within (i ∷ j ∷ Γ) (j ∷ i ∷ Γ) (move ! (1 ∷ []) $ done !) (move ! (1 ∷ []) $ done !)
 
 -- a parameter at p lifetimes: its type as it is lent and as the callee is given it, its machine value, and what a contract sees of it
@@ -53,8 +57,10 @@ pub record Param (p : ℕ) : Type 2 where
   pub tells : (κs : Lfts (suc p)) → Tells (lent κs) (Is (lent κs)) (λ x. machine κs x ∷ [])
   pub last : (κs : Lfts (suc p)) (x : lent κs .Denot) → Last (lent κs .exit yes) x
   pub silent : (κs : Lfts (suc p)) (x : lent κs .Denot) (f : Last (lent κs .exit yes) x) → left (lent κs .exit yes) x f ≡ ftrue
-  pub typed : {M : Type 1} (𝓤 : URA M) (H : Heap 𝓤) (A : Atoms 𝓤) → Given 𝓤 H A → (κs : Lfts (suc p)) (x : lent κs .Denot) → Is (lent κs) x (machine κs x ∷ []) → Holds (hasTy mir (machine κs x)) × WT (machine κs x)
-  pub over : {M : Type 1} (𝓤 : URA M) (H : Heap 𝓤) (A : Atoms 𝓤) (κs : Lfts (suc p)) (x : lent κs .Denot) (vs : List Val) → ent 𝓤 (sem 𝓤 H A (lent κs .own x vs)) (sem 𝓤 H A (given (κs .1) .own (hand κs x) vs))
+  pub typed : {M : Type 1} (𝓤 : URA M) (H : Heap 𝓤) (A : Atoms 𝓤) → Given 𝓤 H A → (κs : Lfts (suc p)) (x : lent κs .Denot)
+      → Is (lent κs) x (machine κs x ∷ []) → Holds (hasTy mir (machine κs x)) × WT (machine κs x)
+  pub over : {M : Type 1} (𝓤 : URA M) (H : Heap 𝓤) (A : Atoms 𝓤) (κs : Lfts (suc p)) (x : lent κs .Denot) (vs : List Val)
+      → ent 𝓤 (sem 𝓤 H A (lent κs .own x vs)) (sem 𝓤 H A (given (κs .1) .own (hand κs x) vs))
 
 module _ {p : ℕ} where
   -- ---- in the MIR
@@ -137,11 +143,14 @@ module _ {p : ℕ} where
     fits (a ∷ ps) x ws = (tt, fits ps (x .1) (ws .1))
 
     module _ {M : Type 1} (𝓤 : URA M) (H : Heap 𝓤) (A : Atoms 𝓤) where
-      pub had : (ps : List (Param p)) (x : Values ps) (ws : Fins κs (lents ps) (kept ps) x) (vss : Valss (typesAt (lents ps) κs)) → ent 𝓤 (emp 𝓤) (sem 𝓤 H A (hasOf κs (lents ps) (kept ps) (stays ps) x ws vss))
+      pub had : (ps : List (Param p)) (x : Values ps) (ws : Fins κs (lents ps) (kept ps) x) (vss : Valss (typesAt (lents ps) κs))
+          → ent 𝓤 (emp 𝓤) (sem 𝓤 H A (hasOf κs (lents ps) (kept ps) (stays ps) x ws vss))
       had [] x ws vss = id⊢ 𝓤 (emp 𝓤)
       had (a ∷ ps) x ws vss = via 𝓤 (sep 𝓤 (emp 𝓤) (emp 𝓤)) (emp∗ 𝓤 (emp 𝓤)) (mono∗ 𝓤 (id⊢ 𝓤 (emp 𝓤)) (had ps (x .1) (ws .1) (vss .1)))
 
-      pub overs : (ps : List (Param p)) (x : Values ps) → ent 𝓤 (sem 𝓤 H A (owns (typesAt (lents ps) κs) x (lent-vals ps x))) (sem 𝓤 H A (owns (typesAt (givens ps) (κs .1)) (handed ps x) (given-vals ps x)))
+      pub overs : (ps : List (Param p)) (x : Values ps)
+          → ent 𝓤 (sem 𝓤 H A (owns (typesAt (lents ps) κs) x (lent-vals ps x)))
+          (sem 𝓤 H A (owns (typesAt (givens ps) (κs .1)) (handed ps x) (given-vals ps x)))
       overs [] x = id⊢ 𝓤 (emp 𝓤)
       overs (a ∷ ps) x = mono∗ 𝓤 (a .over 𝓤 H A κs (x .0) (a .machine κs (x .0) ∷ [])) (overs ps (x .1))
 
@@ -175,16 +184,22 @@ module _ {p : ℕ} where
       allocated t [] k = nothing t $ k tt
       allocated t (a ∷ ps) k = alloc1 t (λ b. allocated t ps (λ bs. move t (1 ∷ 2 ∷ 0 ∷ []) $ join t $ join t $ k (b, bs)))
 
-      pub passed : K → (κs : Lfts (suc p)) (ps : List (Param p)) (bs : Blocks ps) (x : Values κs ps) → Are (typesAt (lents ps) κs) (Ises (typesAt (lents ps) κs)) x (lent-vals κs ps x)
-          → (E : Env 𝓤 H) {Γ : List (Item 𝓤)} {g : Goal 𝓤 H} → Step K W (cells κs ps bs x ∷ Γ) g (rooms ps bs ∷ Γ) (passes (env ps bs E) (flat (typesAt (lents ps) κs) (lent-vals κs ps x)) g)
+      pub passed : K → (κs : Lfts (suc p)) (ps : List (Param p)) (bs : Blocks ps) (x : Values κs ps)
+          → Are (typesAt (lents ps) κs) (Ises (typesAt (lents ps) κs)) x (lent-vals κs ps x)
+          → (E : Env 𝓤 H) {Γ : List (Item 𝓤)} {g : Goal 𝓤 H}
+          → Step K W (cells κs ps bs x ∷ Γ) g (rooms ps bs ∷ Γ) (passes (env ps bs E) (flat (typesAt (lents ps) κs) (lent-vals κs ps x)) g)
       passed t κs [] bs x are E = pass0 t
-      passed t κs (a ∷ ps) bs x are E = step (λ s. split t $ split t $ pass1 t (init t 0 refl (a .typed 𝓤 H A W κs (x .0) (are .0))) $ move t (2 ∷ []) $ passed t κs ps (bs .1) (x .1) (are .1) E $ move t (1 ∷ 2 ∷ 0 ∷ []) $ join t $ join t $ s)
+      passed t κs (a ∷ ps) bs x are E =
+          step (λ s. split t $ split t $ pass1 t (init t 0 refl (a .typed 𝓤 H A W κs (x .0) (are .0))) $ move t (2 ∷ []) $ passed t κs ps (bs .1) (x .1)
+          (are .1) E $ move t (1 ∷ 2 ∷ 0 ∷ []) $ join t $ join t $ s)
 
-      pub freed : K → (κs : Lfts (suc p)) (ps : List (Param p)) (bs : Blocks ps) (x : Values κs ps) {Γ : List (Item 𝓤)} {E : Env 𝓤 H} {g : Goal 𝓤 H} → Step K W Γ (frees E g) (cells κs ps bs x ∷ Γ) (frees (env ps bs E) g)
+      pub freed : K → (κs : Lfts (suc p)) (ps : List (Param p)) (bs : Blocks ps) (x : Values κs ps) {Γ : List (Item 𝓤)} {E : Env 𝓤 H} {g : Goal 𝓤 H}
+          → Step K W Γ (frees E g) (cells κs ps bs x ∷ Γ) (frees (env ps bs E) g)
       freed t κs [] bs x = drop t
       freed t κs (a ∷ ps) bs x = step (λ s. split t $ split t $ forget t 0 refl $ free1 t $ freed t κs ps (bs .1) (x .1) $ s)
 
-      pub loaded : K → (κs : Lfts (suc p)) (ps : List (Param p)) (bs : Blocks ps) (x : Values κs ps) (F : Env 𝓤 H) (to : ℕ → ℕ) {Γ : List (Item 𝓤)} {E : Env 𝓤 H} → ((i : ℕ) → getD E (to i) (noLocal 𝓤 H) ≡ getD (env ps bs F) i (noLocal 𝓤 H))
+      pub loaded : K → (κs : Lfts (suc p)) (ps : List (Param p)) (bs : Blocks ps) (x : Values κs ps) (F : Env 𝓤 H)
+          (to : ℕ → ℕ) {Γ : List (Item 𝓤)} {E : Env 𝓤 H} → ((i : ℕ) → getD E (to i) (noLocal 𝓤 H) ≡ getD (env ps bs F) i (noLocal 𝓤 H))
           → Opds K W (cells κs ps bs x ∷ Γ) E (operands to ps) (flat (typesAt (givens ps) (κs .1)) (given-vals κs ps x))
       loaded t κs [] bs x F to at = no-more t
       loaded t κs (a ∷ ps) bs x F to {Γ} at =
@@ -193,7 +208,8 @@ module _ {p : ℕ} where
           let r : Item 𝓤 = cells κs ps (bs .1) (x .1) in
           within (((c ⊛ d) ⊛ r) ∷ Γ) (c ∷ d ∷ r ∷ Γ) (split ! $ split ! $ done !) (join ! $ join ! $ done !)
           (and-then t (load t (found t (at 0) (stop t)) (look t 0 {q = fullShare} refl))
-          (within (c ∷ d ∷ r ∷ Γ) (r ∷ c ∷ d ∷ Γ) (move ! (2 ∷ []) $ done !) (move ! (1 ∷ 2 ∷ []) $ done !) (loaded t κs ps (bs .1) (x .1) F (λ i. to (suc i)) {Γ = c ∷ d ∷ Γ} (λ i. at (suc i)))))
+          (within (c ∷ d ∷ r ∷ Γ) (r ∷ c ∷ d ∷ Γ) (move ! (2 ∷ []) $ done !) (move ! (1 ∷ 2 ∷ []) $ done !)
+          (loaded t κs ps (bs .1) (x .1) F (λ i. to (suc i)) {Γ = c ∷ d ∷ Γ} (λ i. at (suc i)))))
 
 -- ---- the parameters that there are
 -- a `u8`

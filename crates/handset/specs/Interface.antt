@@ -1,4 +1,5 @@
--- What the exported calls give where the proved one answers by an enum or by a part (01, "The form each place takes": "a definition gives this paper's number and values for each of its cases").
+-- What the exported calls give where the proved one answers by an enum or by a part (01, "The form each place takes": "a definition gives this paper's
+-- number and values for each of its cases").
 use mathlib.Core.Path.{_≡_}
 use mathlib.Core.Bool.{false}
 use mathlib.Core.List.{List, [], _∷_}

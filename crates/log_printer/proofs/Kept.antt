@@ -37,5 +37,6 @@ module _ (s : List ℕ) (h : length s ≤ 65536) where
     pub ends : r .written ≡ 0 → (83 + r .written ≤ length page → r .walk .entry < 4294967295 → textLeft (r .walk) s ≡ []) → printed ≡ length (printedText s)
     ends z none = omega (arith, k .4, left, z, ap length (none (omega (arith, z, k .0)) (omega (arith, count, inside, h))))
 
-    pub turns : (out : List ℕ) → length out ≡ 65536 → (r .written ≡ 0 → ⊥) → Kept s out (r .walk) (printed + r .written) × (length (textLeft (r .walk) s) < length (textLeft w s))
+    pub turns : (out : List ℕ) → length out ≡ 65536 → (r .written ≡ 0 → ⊥)
+        → Kept s out (r .walk) (printed + r .written) × (length (textLeft (r .walk) s) < length (textLeft w s))
     turns out l z = ((l, inside, count, omega (arith, k .3, fits, ahead z), omega (arith, k .4, left)), omega (arith, left, z))

@@ -58,6 +58,7 @@ text-from-start log h = through.text-whole log h
 
 -- "Hexadecimal 01 24 prints exactly"
 pub example : printedText (1 ∷ 36 ∷ []) ≡ bytesOf "1 R 0 30000 29000 30000 30000 1" ++ (10 ∷ bytesOf "2 D 0 29000 32000 29000 29000 1") ++ (10 ∷ [])
-unfolding printedText textFrom entryLine resultOf bookingOf entryOf freshGame gameOutOfForm gameNotOpen gameRefusal withEntry gameAfter recordLength lengthBy entryLength partsFew partsOf
+unfolding printedText textFrom entryLine resultOf bookingOf entryOf freshGame gameOutOfForm gameNotOpen gameRefusal withEntry gameAfter recordLength lengthBy
+    entryLength partsFew partsOf
     lastDigits digitsOf signedOf spaced lineOf fresh refusalFor refusalWhen notOpen outOfForm totalOf after applied effectOf riichiGives drawGives
 example = refl

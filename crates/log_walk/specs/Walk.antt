@@ -58,7 +58,8 @@ stepBy (header ∷ rest) refusal g =
 unfoldable pub stepOf : Game → List ℕ → ℕ → Step
 stepOf g log at = stepBy (partAt log at) (refusalAt log at) g
 
--- the entry that bytes start with, booked as a part by itself: its refusal and the game after it; "Refusal 14" and the game as it was where they start with none
+-- the entry that bytes start with, booked as a part by itself: its refusal and the game after it; "Refusal 14" and the game as it was where they start with
+-- none
 abbrev pub BooksEntry : Game → List ℕ → ℕ → Game → Type 0
 BooksEntry g s refusal h =
     let t = stepOf g s 0 in

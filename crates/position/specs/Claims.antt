@@ -17,7 +17,8 @@ use Rattle.score.specs.Named.{groupsOf, IsReadingOf, scoredAs}
 use Rattle.position.specs.declared.Position.{Position}
 use Rattle.hand_rons.specs.Records.{recordsOf, isWinner, discarderOf, firstWinner, turnsAfter}
 use Rattle.position.specs.Booking.{Booking, result, riichi, win, draw, multiRon}
-use Rattle.position.specs.Ledger.{fresh, scoreAt, declarations, feederAt, floor, outOfForm, notOpen, handFor, refusalFor, paidByOthers, repeatGives, wholeOf, paoPays, gainGives, holdsFourWinds, fineOf, chomboGives, chomboOf, isAtFault, effectOf, after, ledger}
+use Rattle.position.specs.Ledger.{fresh, scoreAt, declarations, feederAt, floor, outOfForm, notOpen, handFor, refusalFor, paidByOthers, repeatGives}
+use Rattle.position.specs.Ledger.{wholeOf, paoPays, gainGives, holdsFourWinds, fineOf, chomboGives, chomboOf, isAtFault, effectOf, after, ledger}
 pub use Rattle.position.specs.Wins.{changeBy, paoBy}
 pub use Rattle.position.specs.NotReady.{BookedAsChombo}
 pub use Rattle.position.specs.Article67.{Article67}
@@ -128,7 +129,8 @@ one-is-win = one.one-is-win
 -- "the first winner in turn order after the discarder": of an accepted multiple ron it is a winner, and no winner comes before it
 pub first-winner : (l : Position) (number : ℕ) (s : List ℕ) → refusalFor l (result (multiRon number s)) ≡ 0 →
     let rs = recordsOf number s in
-    (isWinner rs (firstWinner rs) ≡ true) × ((seat : ℕ) → isWinner rs seat ≡ true → turnsAfter (discarderOf rs) (firstWinner rs) ≤ turnsAfter (discarderOf rs) seat)
+    (isWinner rs (firstWinner rs) ≡ true) × ((seat : ℕ) → isWinner rs seat ≡ true
+    → turnsAfter (discarderOf rs) (firstWinner rs) ≤ turnsAfter (discarderOf rs) seat)
 first-winner = multi-ron.first-winner
 
 -- ---- no stick, no riichi (02, S-11)

@@ -98,7 +98,8 @@ isOver l = isSet (l .over) || eqb (l .hands) lastHand
 abbrev pub wrongFeeder : ℕ → ℕ → Bool
 wrongFeeder place n = ltb (1 + 3) n || eqb n (1 + place % 4)
 
--- "out of form (dealer over 3, wind over 1, over 200 hands, fewer sticks than declared seats, a score under the floor below, or scores plus 1,000 times sticks not 120,000)";
+-- "out of form (dealer over 3, wind over 1, over 200 hands, fewer sticks than declared seats, a score under the floor below, or scores plus 1,000 times
+-- sticks not 120,000)";
 -- "The counter never exceeds the hands finished, and a game where it does is out of form" (02, S-5);
 -- "A game that holds a feeder over 3, or one equal to its holder, is out of form" (02, S-8)
 unfoldable pub outOfForm : Position → Bool
@@ -145,7 +146,8 @@ wrongPao l holder feeder yaku = eqb holder feeder || not (eqb yaku 28 || eqb yak
 abbrev pub lacksStick : Position → ℕ → Bool
 lacksStick l seat = ltZ (scoreAt l seat) (pos 1000)
 
--- "Where refusals meet a booking by the ledger's fields, the first listed is its number"; 0 where none does. `shut` says that the game isn't open, which is refused with 9;
+-- "Where refusals meet a booking by the ledger's fields, the first listed is its number"; 0 where none does. `shut` says that the game isn't open, which is
+-- refused with 9;
 -- of a draw "12 is never given now" (02, S-7); of a multiple ron "After 9 it refuses with 17 an empty set or one over three, then ..." (02, S-6)
 unfoldable pub refusalWhen : Bool → Position → Booking → ℕ
 refusalWhen shut l (riichi seat) = cond (ltb 3 seat) 8 (cond shut 9 (cond (isDeclared l seat) 10 (cond (lacksStick l seat) 21 0)))
@@ -165,7 +167,8 @@ refusalFor l b = refusalWhen (notOpen l) l b
 
 -- ---- what an accepted booking does
 
--- what it gives each seat, or takes; the sticks that it leaves on the table; the seats that are declared after it; whether it finishes the hand; whether the deal passes;
+-- what it gives each seat, or takes; the sticks that it leaves on the table; the seats that are declared after it; whether it finishes the hand; whether the
+-- deal passes;
 -- the counter and the feeders that it leaves
 pub record Effect : Type 0 where
   pub gives : ℕ → ℤ
@@ -245,7 +248,8 @@ paoFor l s =
     let yaku = scoredFor l s .yaku in
     paoIn l (handFor s .fields .winner) (getD yaku 28 false) (getD yaku 29 false && holdsFourWinds (handFor s))
 
--- "A win gives the four changes of the reported reading, by the ledger's dealer and wind, and the winner 1,000 a stick"; "document 01's plus this addition" (02, S-5);
+-- "A win gives the four changes of the reported reading, by the ledger's dealer and wind, and the winner 1,000 a stick"; "document 01's plus this addition"
+-- (02, S-5);
 -- "compared with article 67" (02, S-8): what a win with record s gives seat i, the winner taking n counters and k sticks
 unfoldable pub winGives : Position → List ℕ → ℕ → ℕ → ℕ → ℤ
 winGives l s n k i =

@@ -54,7 +54,8 @@ module _ (l : Position) (s : List ℕ) where
   abbrev pub IsBest : Reading → Type 0
   IsBest r = IsReported (handFor s) (l .dealer) (l .wind) r × ((q : Reading) → HasYaku q → gainBy q ≤ gainBy r)
 
-  -- accepted exactly when no refusal meets it (01, Win): the game was open, the record sound, a reading of its tiles has a yaku, and riichi field and declaration agree
+  -- accepted exactly when no refusal meets it (01, Win): the game was open, the record sound, a reading of its tiles has a yaku, and riichi field and
+  -- declaration agree
   abbrev pub AcceptedWhen : ℕ → Type 0
   AcceptedWhen n = (n ≡ 0) ↔ ((notOpen l ≡ false) × IsSound s × ((r : Reading) × HasYaku r) × (riichiMismatch l (handFor s) ≡ false))
 
@@ -66,7 +67,8 @@ module _ (l : Position) (s : List ℕ) where
   abbrev pub gainWithCounters : Reading → ℤ
   gainWithCounters r = paidIn r (l .counter) (handFor s .fields .winner)
 
-  -- accepted: paid by the reported reading, and no reading with a yaku gives the winner more with the counters: "equal for every reading of the tiles, so the best one
+  -- accepted: paid by the reported reading, and no reading with a yaku gives the winner more with the counters: "equal for every reading of the tiles, so
+  -- the best one
   -- stays best" (02, S-5)
   abbrev pub BestWithCounters : ℕ → Type 0
   BestWithCounters n =

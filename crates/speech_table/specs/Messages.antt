@@ -18,7 +18,8 @@ use Rattle.speech_score.specs.Said.{Answers}
 -- "of seats 0 to 3 the player, 76 where negative, the amount, 68"
 unfoldable pub fourScores : ℕ → ℕ → List ℤ → List ℕ
 fourScores l dealer s =
-    scoreClips l dealer 0 (getD s 0 (pos 0)) ++ (scoreClips l dealer 1 (getD s 1 (pos 0)) ++ (scoreClips l dealer 2 (getD s 2 (pos 0)) ++ scoreClips l dealer 3 (getD s 3 (pos 0))))
+    scoreClips l dealer 0 (getD s 0 (pos 0)) ++
+    (scoreClips l dealer 1 (getD s 1 (pos 0)) ++ (scoreClips l dealer 2 (getD s 2 (pos 0)) ++ scoreClips l dealer 3 (getD s 3 (pos 0))))
 
 -- "Scores of a game: ..; 77 and the sticks where there are any; 78 and the counters where there are any"
 unfoldable pub scoresMessage : ℕ → Position → List ℕ

@@ -38,7 +38,8 @@ groupAt g k = getD g k (fu 0) .0
 unfoldable pub itemsClips : ℕ → Items → List ℕ
 itemsClips l i =
     countedClips l 84 (i .base .0) ++ (countedClips l 85 (i .ron .0) ++ (countedClips l 86 (i .pair .0)
-    ++ (countedClips l 87 (groupAt (i .group) 0) ++ (countedClips l 88 (groupAt (i .group) 1) ++ (countedClips l 89 (groupAt (i .group) 2) ++ (countedClips l 90 (groupAt (i .group) 3)
+    ++ (countedClips l 87 (groupAt (i .group) 0) ++
+    (countedClips l 88 (groupAt (i .group) 1) ++ (countedClips l 89 (groupAt (i .group) 2) ++ (countedClips l 90 (groupAt (i .group) 3)
     ++ (countedClips l 91 (i .wait .0) ++ (countedClips l 92 (i .tsumo .0) ++ countedClips l 93 (i .rounding .0)))))))))
 
 -- "Fu of a record: each item ..; 94, the fu, 70. With a yakuman: 75"

@@ -1,4 +1,5 @@
--- What two scores have in common, and what the name of a limit stands for (SPEECH, What is claimed: "the winner, the way of winning, the yaku, h, fu and each seat's payment").
+-- What two scores have in common, and what the name of a limit stands for (SPEECH, What is claimed: "the winner, the way of winning, the yaku, h, fu and
+-- each seat's payment").
 use mathlib.Core.Path.{_≡_}
 use mathlib.Core.Bool.{Bool, false, cond}
 use mathlib.Core.List.{List, [], _∷_}

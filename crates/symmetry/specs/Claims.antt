@@ -54,6 +54,7 @@ module _ (σ : ℕ → ℕ) (r : IsRenaming σ) (s : List ℕ) (i : IsSound s) w
     renamed-scores = renamed.renamed-score σ r s i dealer wind before after
 
     -- "The yaku set may differ only where two readings tie": it never differs. Regular readings of the same tiles have their pairs in one suit, and with
-    -- the same pair their groups differ within one suit (laws/Suits of reading), so a renaming keeps the order, and where two tie the image of the same one is reported
+    -- the same pair their groups differ within one suit (laws/Suits of reading), so a renaming keeps the order, and where two tie the image of the same one
+    -- is reported
     pub yaku-differs-by-tie : (scoreOf (renamedRecord σ s) dealer wind .yaku ≡ scoreOf s dealer wind .yaku → ⊥) → Tie (handOf (readOf s)) dealer wind
     yaku-differs-by-tie d = absurd (d (renamed-scores .yaku))

@@ -22,8 +22,11 @@ bit : (c : tie.In-loop Inv-loop μ-loop) → getD (c .before .before .args .b .n
 bit c = c .before .before .pre .2 (c .before .loop .i)
 
 grown : (c : tie.In-loop Inv-loop μ-loop)
-    → (c .before .loop .r < 128) × (c .before .loop .r * 2 + getD (c .before .before .args .b .now) (c .before .loop .i) 0 < 2 ^ (c .before .before .args .n - (c .before .loop .left - 1)))
-grown c = grow (c .before .before .args .n) (c .before .loop .left) _ _ (c .before .before .pre .0) (c .loop-test .taken) (search needs) (c .before .loop .inv .2) (bit c)
+    → (c .before .loop .r < 128) × (c .before .loop .r * 2 + getD (c .before .before .args .b .now) (c .before .loop .i) 0 < 2 ^
+    (c .before .before .args .n - (c .before .loop .left - 1)))
+grown c =
+    grow (c .before .before .args .n) (c .before .loop .left) _ _ (c .before .before .pre .0) (c .loop-test .taken) (search needs) (c .before .loop .inv .2)
+    (bit c)
 
 pub gather-spec : {M : Type 1} → statement M
 gather-spec =

@@ -22,7 +22,8 @@ abbrev μ-loop : tie.MeasureT-loop
 abbrev start : tie.In-loop Inv-loop μ-loop → tie.Start Inv-loop μ-loop
 start c = c .before .before .before .before .before
 
-now : (c : tie.In-loop Inv-loop μ-loop) → Turn (start c .args .ws .now) (c .before .loop .i) (c .before .loop .o) (start c .args .at + widthOf (start c .args .ws .now)) (length (c .before .loop .b))
+now : (c : tie.In-loop Inv-loop μ-loop) → Turn (start c .args .ws .now) (c .before .loop .i) (c .before .loop .o)
+    (start c .args .at + widthOf (start c .args .ws .now)) (length (c .before .loop .b))
 now c = turn _ _ _ _ _ (c .loop-test .taken) (start c .pre .1) (c .before .loop .inv .1) (omega arith)
 
 pub pack-into-spec : {M : Type 1} → statement M
@@ -41,7 +42,8 @@ pack-into-spec =
     let t = c .before .before .before .before .before .before in
     let l = t .before .loop in
     let a = start t .args in
-    let e : c .before .before .put .last .0 ≡ sets (l .b) (l .o) (digits (getD (a .ws .now) (l .i) 0) (getD (a .vs .now) (l .i) 0)) = c .before .before .put .ensures in (
+    let e : c .before .before .put .last .0 ≡ sets (l .b) (l .o) (digits (getD (a .ws .now) (l .i) 0) (getD (a .vs .now) (l .i) 0)) =
+    c .before .before .put .ensures in (
       search needs,
       now t .2,
       ap length e ∙ simp length-sets (l .inv .2),

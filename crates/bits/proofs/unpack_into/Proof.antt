@@ -13,7 +13,8 @@ use Rattle.bits.proofs.unpack_into.Tie as tie
 
 abbrev Inv-loop : tie.InvT-loop
 Inv-loop ws b at out₀ i₀ o₀ out i o =
-    (i ≤ length ws) × (o + widthOf (drop i ws) ≡ at + widthOf ws) × (length out ≡ length out₀) × (sets out i (unpack (drop i ws) (drop o b)) ≡ sets out₀ 0 (unpack ws (drop at b)))
+    (i ≤ length ws) × (o + widthOf (drop i ws) ≡ at + widthOf ws) × (length out ≡ length out₀)
+    × (sets out i (unpack (drop i ws) (drop o b)) ≡ sets out₀ 0 (unpack ws (drop at b)))
 
 abbrev μ-loop : tie.MeasureT-loop
 μ-loop ws b at out₀ i₀ o₀ out i o = length ws - i
@@ -22,7 +23,8 @@ abbrev μ-loop : tie.MeasureT-loop
 abbrev start : tie.In-loop Inv-loop μ-loop → tie.Start Inv-loop μ-loop
 start c = c .before .before .before .before .before
 
-now : (c : tie.In-loop Inv-loop μ-loop) → Turn (start c .args .ws .now) (c .before .loop .i) (c .before .loop .o) (start c .args .at + widthOf (start c .args .ws .now)) (length (start c .args .b .now))
+now : (c : tie.In-loop Inv-loop μ-loop) → Turn (start c .args .ws .now) (c .before .loop .i) (c .before .loop .o)
+    (start c .args .at + widthOf (start c .args .ws .now)) (length (start c .args .b .now))
 now c = turn _ _ _ _ _ (c .loop-test .taken) (start c .pre .1) (c .before .loop .inv .1) (start c .pre .2)
 
 pub unpack-into-spec : {M : Type 1} → statement M

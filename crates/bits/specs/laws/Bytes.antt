@@ -147,7 +147,8 @@ run-turn w n i h =
     ap (λ (k : ℕ). w * k) e ∙ mul-suc w (n - (i + 1)) ∙ add-comm (w * (n - (i + 1))) w
 
 pub run-step : (b out : List ℕ) (w n i o : ℕ) → i < n
-    → sets out i (unpack (replicate (n - i) w) (drop o b)) ≡ sets (set out i (val 0 (take w (drop o b)))) (i + 1) (unpack (replicate (n - (i + 1)) w) (drop (o + w) b))
+    → sets out i (unpack (replicate (n - i) w) (drop o b)) ≡ sets (set out i (val 0 (take w (drop o b)))) (i + 1)
+    (unpack (replicate (n - (i + 1)) w) (drop (o + w) b))
 run-step b out w n i o h =
     let e : n - i ≡ suc (n - (i + 1)) = omega arith in
     ap (λ (k : ℕ). sets out i (unpack (replicate k w) (drop o b))) e ∙ rw (drop-drop, add-one)

@@ -2,7 +2,9 @@
 use Prim.Native.Nat.{ℕ, zero, suc, _+_, _*_, _/_, _%_, _^_, _-_, _<_, _≤_}
 use mathlib.Core.Path.{_≡_, refl, sym, ap, _∙_}
 use mathlib.Core.List.{List, [], _∷_, _++_, map, append-assoc, append-nil}
-use native.Mathlib.Nat.{mod-lt, mod-eq-of-lt, le-of-suc-le-suc, not-suc-le-zero, mod-one, mul-one, zero-mul, div-one, pow-succ', mul-assoc, add-mul, suc-ne-zero, suc-inj, add-zero, add-suc, suc-add, mul-zero, mul-suc, add-comm, zero-add, sub-zero, zero-sub, suc-sub-suc, one-mul, div-lt-iff-lt-mul}
+use native.Mathlib.Nat.{mod-lt, mod-eq-of-lt, le-of-suc-le-suc, not-suc-le-zero, mod-one, mul-one, zero-mul, div-one, pow-succ', mul-assoc, add-mul}
+use native.Mathlib.Nat.{suc-ne-zero, suc-inj, add-zero, add-suc, suc-add, mul-zero, mul-suc, add-comm, zero-add, sub-zero, zero-sub, suc-sub-suc, one-mul}
+use native.Mathlib.Nat.{div-lt-iff-lt-mul}
 use native.Mathlib.Numerals.{add-one, one-add, sub-one}
 use native.Mathlib.Omega.{arith}
 use lib.ListN.{length, getD, take, drop, set, replicate, length-append, length-drop, length-replicate}
@@ -218,14 +220,16 @@ pub turn : (ws : List ℕ) (i o end n : ℕ) → i < length ws → EachBelow 9 w
 turn ws i o end n h w e l = omega (arith, sum-step ws i h, w i)
 
 pub pack-step : (ws vs b : List ℕ) (i o : ℕ) → i < length ws → i < length vs
-    → sets b o (pack (drop i ws) (drop i vs)) ≡ sets (sets b o (digits (getD ws i 0) (getD vs i 0))) (o + getD ws i 0) (pack (drop (i + 1) ws) (drop (i + 1) vs))
+    → sets b o (pack (drop i ws) (drop i vs)) ≡ sets (sets b o (digits (getD ws i 0) (getD vs i 0))) (o + getD ws i 0)
+    (pack (drop (i + 1) ws) (drop (i + 1) vs))
 pack-step ws vs b i o h g =
     let d : List ℕ = digits (getD ws i 0) (getD vs i 0) in
     rw (add-one, drop-cons ws i 0 h, drop-cons vs i 0 g)
     (sets-append b o d _ ∙ rw (length-digits (getD ws i 0) (getD vs i 0)))
 
 pub unpack-step : (ws b out : List ℕ) (i o : ℕ) → i < length ws
-    → sets out i (unpack (drop i ws) (drop o b)) ≡ sets (set out i (val 0 (take (getD ws i 0) (drop o b)))) (i + 1) (unpack (drop (i + 1) ws) (drop (o + getD ws i 0) b))
+    → sets out i (unpack (drop i ws) (drop o b)) ≡ sets (set out i (val 0 (take (getD ws i 0) (drop o b)))) (i + 1)
+    (unpack (drop (i + 1) ws) (drop (o + getD ws i 0) b))
 unpack-step ws b out i o h = rw (add-one, drop-cons ws i 0 h, drop-drop)
 
 -- runs of one width, and tests that compute

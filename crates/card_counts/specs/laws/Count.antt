@@ -18,7 +18,8 @@ use Rattle.cards.specs.laws.Exact.{card-list-drawn}
 use Rattle.card_counts.specs.laws.Shift.{count-alike, all-members}
 
 -- those that begin with the kind a, and those from the next kind on
-draws-count : (n m j a : ℕ) (t : List ℕ) → getD t a 0 < 4 → length (draws n (suc m) (suc j) a t) ≡ length (draws n m (suc j) a (more t a 1)) + length (draws n (suc m) j (a + 1) t)
+draws-count : (n m j a : ℕ) (t : List ℕ) → getD t a 0 < 4 → length (draws n (suc m) (suc j) a t)
+    ≡ length (draws n m (suc j) a (more t a 1)) + length (draws n (suc m) j (a + 1) t)
 unfolding draws draw
 draws-count n m j a t h =
     let x = draws n m (suc j) a (more t a 1) in
@@ -49,7 +50,9 @@ past = refl
 eights : length (drawn 0 8) ≡ 996
 unfolding drawn
 eights =
-    let step : (j a : ℕ) → _<_ (getD (replicate 34 0) a 0) 4 → length (draws 2 8 (suc j) a (replicate 34 0)) ≡ length (draws 2 7 (suc j) a (more (replicate 34 0) a 1)) + length (draws 2 8 j (a + 1) (replicate 34 0)) = λ j a h. draws-count 2 7 j a (replicate 34 0) h in
+    let step : (j a : ℕ) → _<_ (getD (replicate 34 0) a 0) 4 → length (draws 2 8 (suc j) a (replicate 34 0))
+    ≡ length (draws 2 7 (suc j) a (more (replicate 34 0) a 1)) + length (draws 2 8 j (a + 1) (replicate 34 0)) = λ j a h. draws-count 2 7 j a
+    (replicate 34 0) h in
     let lt : 0 < 4 = omega arith in
     let rest = first-others in
     omega (

@@ -86,7 +86,8 @@ module _ (d e : ℕ) where
     uses-before c k q b =
         let m = e + (c - d) in
         run-or c
-        (λ h. rw (lt-ltb m 34 (omega (arith, q .run h))) (omega (arith, at-other m 1 k (omega arith), at-other (m + 1) 1 k (omega arith), at-other (m + 2) 1 k (omega arith))))
+        (λ h. rw (lt-ltb m 34 (omega (arith, q .run h)))
+        (omega (arith, at-other m 1 k (omega arith), at-other (m + 1) 1 k (omega arith), at-other (m + 2) 1 k (omega arith))))
         (λ h. let i = q .triplet h in rw (le-ltb m 34 (omega arith)) (at-other (m - 34) 3 k (omega arith)))
 
     used-to : (gs : List ℕ) (j : ℕ) → Each (CodeIn d) gs → usedBy (map to gs) (e + j) ≡ usedBy gs (d + j)
@@ -164,7 +165,14 @@ module _ (s u : ℕ) (few : u ≤ 2) where
           four = λ k.
               from-or (9 * u) k
               (λ b. omega (arith, kinds-before (9 * s) (9 * u) l k b, among-kind (map move l) k))
-              (λ j q. rw q (omega (arith, kinds-to (9 * s) (9 * u) l j suited, among-kind (map move l) (9 * u + j), among-kind l (9 * s + j), c .four (9 * s + j))));
+              (λ j q. rw q (omega (
+                arith,
+                kinds-to (9 * s) (9 * u) l j suited,
+                among-kind (map move l) (9 * u + j),
+                among-kind l (9 * s + j),
+                c .four
+                    (9 * s + j),
+              )));
           splits = (c .splits .0, splits-cong (among-kind (map move l)) (splits-to (c .splits .0) (splits-cong (λ k. sym (among-kind l k)) (c .splits .1))));
           ascending = pairwise-map move (λ x y h. omega arith) (c .ascending);
         }

@@ -7,7 +7,8 @@ use native.Mathlib.Omega.{arith}
 use borrow.Author.Needs.{needs}
 use lib.ListN.{length, getD, set, take}
 use Rattle.tiles.specs.laws.Tally.{more}
-use Rattle.card_writer.specs.laws.Put.{Left, left-all, left-same, left-put, left-room, put-done, written, leaf-room, put-leaf, put-over, written-end, written-skip, turn-with}
+use Rattle.card_writer.specs.laws.Put.{Left, left-all, left-same, left-put, left-room, put-done, written, leaf-room, put-leaf, put-over, written-end}
+use Rattle.card_writer.specs.laws.Put.{written-skip, turn-with}
 use borrow.Fn.Kinds.{In}
 use borrow.Fn.PlainCycle.{Measures, is, falls, and}
 use Rattle.card_writer.proofs.draw.Reads as draw
@@ -56,13 +57,17 @@ module _ (t : ℕ) (c : draw-lts.In-loop (claims t) (draw-at t) draw.Post Inv-lo
   rest a = let s = start .args in written (take (s .size - s .left) (s .prefix)) (s .n) (s .left) (s .end) a (s .t4)
 
   abbrev next : List ℕ → List ℕ
-  next u = let s = start .args in let a = c .before .loop .a in written (take (s .size - (s .left - 1)) (set (s .prefix) (s .size - s .left) a)) (s .n) (s .left - 1) (s .end) a u
+  next u =
+      let s = start .args in let a = c .before .loop .a in
+      written (take (s .size - (s .left - 1)) (set (s .prefix) (s .size - s .left) a)) (s .n) (s .left - 1) (s .end) a u
 
-  turn : (u : List ℕ) → getD (start .args .t4) (c .before .loop .a) 0 < 4 → u ≡ more (start .args .t4) (c .before .loop .a) 1 → rest (c .before .loop .a) ≡ next u ++ rest (c .before .loop .a + 1)
+  turn : (u : List ℕ) → getD (start .args .t4) (c .before .loop .a) 0 < 4 → u ≡ more (start .args .t4) (c .before .loop .a) 1
+      → rest (c .before .loop .a) ≡ next u ++ rest (c .before .loop .a + 1)
   turn u h e =
       let s = start .args in
       let l : length (s .prefix) ≡ 8 = search needs in
-      turn-with (s .prefix) (s .t4) u (s .size) (s .left) (s .n) (s .end) (c .before .loop .a) (c .before .before .if1 .left) (start .pre .1 .0) (omega (arith, start .pre .1 .1)) (c .loop-test .taken) h e
+      turn-with (s .prefix) (s .t4) u (s .size) (s .left) (s .n) (s .end) (c .before .loop .a) (c .before .before .if1 .left) (start .pre .1 .0)
+      (omega (arith, start .pre .1 .1)) (c .loop-test .taken) h e
 
 pub +draw-spec : {M : Type 1} → statement M
 +draw-spec = close μ-draw λ t. draw-lts.spec
@@ -74,16 +79,22 @@ pub +draw-spec : {M : Type 1} → statement M
     (λ c κs. tt)
     (λ c κs.
     let s = c .before .before .before .before .before in
-    let l : length (s .args .prefix) ≡ 8 = search needs in
-    (s .pre .1 .1, leaf-room (s .args .prefix) (s .args .t4) (s .args .size) (s .args .left) (s .args .n) (s .args .end) (s .args .low) (c .before .before .before .if1 .taken) (s .args .at) (length (s .args .buf .now)) (sym (c .before .before .splits .ensures .1) ∙ c .before .if2 .taken) (omega arith) (s .pre .1 .3)))
+    let l : length (s .args .prefix) ≡ 8 = search needs in (
+      s .pre .1 .1,
+      leaf-room (s .args .prefix) (s .args .t4) (s .args .size) (s .args .left) (s .args .n) (s .args .end) (s .args .low)
+          (c .before .before .before .if1 .taken) (s .args .at) (length (s .args .buf .now)) (sym (c .before .before .splits .ensures .1) ∙ c .before .if2 .taken)
+          (omega arith) (s .pre .1 .3),
+    ))
     (λ c. c .before .before .put-card .kept .0)
     (λ c.
     let p = c .before .before .before .before in
     let s = p .before .before .before .before in
-    put-leaf (s .args .prefix) (s .args .t4) (s .args .size) (s .args .left) (s .args .n) (s .args .end) (s .args .low) (p .before .before .if1 .taken) (sym (p .before .splits .ensures .1) ∙ p .if2 .taken) (c .before .before .put-card .ensures))
+    put-leaf (s .args .prefix) (s .args .t4) (s .args .size) (s .args .left) (s .args .n) (s .args .end) (s .args .low) (p .before .before .if1 .taken)
+    (sym (p .before .splits .ensures .1) ∙ p .if2 .taken) (c .before .before .put-card .ensures))
     (λ c.
     let s = c .before .before .before .before in
-    put-over (s .args .prefix) (s .args .t4) (s .args .size) (s .args .left) (s .args .n) (s .args .end) (s .args .low) (c .before .before .if1 .taken) (s .args .buf .now) (s .args .at) (sym (c .before .splits .ensures .1) ∙ c .if2 .left))
+    put-over (s .args .prefix) (s .args .t4) (s .args .size) (s .args .left) (s .args .n) (s .args .end) (s .args .low) (c .before .before .if1 .taken)
+    (s .args .buf .now) (s .args .at) (sym (c .before .splits .ensures .1) ∙ c .if2 .left))
     (λ c. left-all _ _ _)
     (λ c. omega arith)
     (λ c. omega arith)
@@ -95,7 +106,8 @@ pub +draw-spec : {M : Type 1} → statement M
     let d = c .before .before .before in
     let u = c .add .result in
     let p = start t d .pre .1 in
-    let r = left-room (next t d u) (rest t d (d .before .loop .a + 1)) (turn t d u (c .before .before .if3 .taken) (c .add .ensures)) (d .before .loop .inv) (p .3) in
+    let r = left-room (next t d u) (rest t d (d .before .loop .a + 1)) (turn t d u (c .before .before .if3 .taken) (c .add .ensures)) (d .before .loop .inv)
+    (p .3) in
     (omega arith, (omega (arith, p .0), p .1, p .2, r)))
     (λ c. omega arith)
     (λ c. omega arith)

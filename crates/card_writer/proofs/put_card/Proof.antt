@@ -39,4 +39,5 @@ put-card-spec =
     (λ c.
     let a = c .before .before .args in
     let e : length (a .t3) ≡ 8 = search needs in
-    put-through (a .buf .now) (a .t3) (c .before .loop .buf) (a .at) (c .before .loop .i) (a .size) (omega (arith, c .before .before .pre)) (c .before .loop .inv .0) (c .loop-test .left) (c .before .loop .inv .2)))
+    put-through (a .buf .now) (a .t3) (c .before .loop .buf) (a .at) (c .before .loop .i) (a .size) (omega (arith, c .before .before .pre))
+    (c .before .loop .inv .0) (c .loop-test .left) (c .before .loop .inv .2)))

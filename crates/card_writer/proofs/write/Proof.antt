@@ -25,7 +25,8 @@ module _ (c : tie.Else2) where
   product = ap (λ (m : ℕ). start .args .size * m) (c .before .count-of .ensures .0)
 
   -- what is drawn has as many bytes as were asked for
-  bytes : length (written (take (start .args .size - start .args .size) (replicate 8 0)) ((start .args .size - 2) / 3) (start .args .size) (9 * start .args .suit + 9) (9 * start .args .suit) (replicate 34 0)) ≡ start .args .size * countOf (start .args .size)
+  bytes : length (written (take (start .args .size - start .args .size) (replicate 8 0)) ((start .args .size - 2) / 3) (start .args .size)
+      (9 * start .args .suit + 9) (9 * start .args .suit) (replicate 34 0)) ≡ start .args .size * countOf (start .args .size)
   bytes = ap length (all-drawn (start .args .suit) (start .args .size) (replicate 8 0) suited) ∙ whole (start .args .suit) (start .args .size) sized
 
 pub write-spec : {M : Type 1} → statement M
@@ -66,5 +67,6 @@ write-spec =
     let d = c .before .before .before .before .before in
     let s = start d .args in
     let e = all-drawn (s .suit) (s .size) (replicate 8 0) (suited d) in
-    let p = put-all (s .suit) (s .size) (s .buf .now) (c .before .before .draw .last .0) (c .before .before .draw .result) (suited d) (sized d) (omega (arith, product d, c .before .before .before .before .if3 .left)) (rw e at (c .before .before .draw .ensures)) in
+    let p = put-all (s .suit) (s .size) (s .buf .now) (c .before .before .draw .last .0) (c .before .before .draw .result) (suited d) (sized d)
+    (omega (arith, product d, c .before .before .before .before .if3 .left)) (rw e at (c .before .before .draw .ensures)) in
     (ap (λ (m : ℕ). record { refusal = 0; count = m }) (d .before .count-of .ensures .0) ∙ p .0, p .1)))

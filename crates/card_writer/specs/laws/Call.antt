@@ -103,7 +103,8 @@ all-drawn suit size prefix h =
     let j : 9 * suit + 9 - 9 * suit ≡ 9 = omega arith in
     rw (z, j) (one-after-another (drawn suit size) ∙ ap flatten (only-cards suit size (drawn suit size) (card-list-drawn suit size h)))
 
-pub put-all : (suit size : ℕ) (buf new : List ℕ) (r : ℕ) → suit ≤ 2 → (k : Known suit size) → size * countOf size ≤ length buf → Put buf 0 (cardBytes suit size) new r
+pub put-all : (suit size : ℕ) (buf new : List ℕ) (r : ℕ) → suit ≤ 2 → (k : Known suit size) → size * countOf size ≤ length buf
+    → Put buf 0 (cardBytes suit size) new r
     → (record { refusal = 0; count = countOf size } ≡ answerOf suit size (length buf)) × (new ≡ cardBuffer suit size buf)
 unfolding refuses answerOf cardBuffer
 put-all suit size buf new r h k l p =

@@ -82,7 +82,8 @@ module _ (prefix : List ℕ) (n end a : ℕ) (t : List ℕ) where
       let s : end - a ≡ suc (end - (a + 1)) = omega arith in
       rw (s, le-ltb (getD t a 0) 4 f)
 
-  pub written-with : (left : ℕ) → (left ≡ 0 → ⊥) → a < end → getD t a 0 < 4 → written prefix n left end a t ≡ written (prefix ++ (a ∷ [])) n (left - 1) end a (more t a 1) ++ written prefix n left end (a + 1) t
+  pub written-with : (left : ℕ) → (left ≡ 0 → ⊥) → a < end → getD t a 0 < 4
+      → written prefix n left end a t ≡ written (prefix ++ (a ∷ [])) n (left - 1) end a (more t a 1) ++ written prefix n left end (a + 1) t
   unfolding written draws draw
   written-with zero h l f = absurd (h refl)
   written-with (suc m) h l f =
@@ -90,19 +91,23 @@ module _ (prefix : List ℕ) (n end a : ℕ) (t : List ℕ) where
       let z : suc m - 1 ≡ m = omega arith in
       let x = draws n m (suc (end - (a + 1))) a (more t a 1) in
       let y = draw (draws n m) (end - (a + 1)) (a + 1) t in
-      rw (s, z, lt-ltb (getD t a 0) 4 f) (bytes-append prefix (map (λ (l : List ℕ). a ∷ l) x) y ∙ ap (λ (b : List ℕ). b ++ bytesOf prefix y) (bytes-taken prefix a x))
+      rw (s, z, lt-ltb (getD t a 0) 4 f) (bytes-append prefix (map (λ (l : List ℕ). a ∷ l) x) y
+      ∙ ap (λ (b : List ℕ). b ++ bytesOf prefix y) (bytes-taken prefix a x))
 
 -- the tiles so far, with one more
-pub prefix-more : (prefix : List ℕ) (size left a : ℕ) → (left ≡ 0 → ⊥) → left ≤ size → size ≤ length prefix → take (size - (left - 1)) (set prefix (size - left) a) ≡ take (size - left) prefix ++ (a ∷ [])
+pub prefix-more : (prefix : List ℕ) (size left a : ℕ) → (left ≡ 0 → ⊥) → left ≤ size → size ≤ length prefix
+    → take (size - (left - 1)) (set prefix (size - left) a) ≡ take (size - left) prefix ++ (a ∷ [])
 prefix-more prefix size left a h l r =
     let s : size - (left - 1) ≡ suc (size - left) = omega arith in
     rw s (take-suc-set prefix (size - left) a (omega arith))
 
 -- one tile of a card
-pub slice-turn : (b prefix : List ℕ) (at i size : ℕ) → i < size → size ≤ length prefix → sets (set b (at + i) (getD prefix i 0)) (at + (i + 1)) (slice (i + 1) size prefix) ≡ sets b (at + i) (slice i size prefix)
+pub slice-turn : (b prefix : List ℕ) (at i size : ℕ) → i < size → size ≤ length prefix
+    → sets (set b (at + i) (getD prefix i 0)) (at + (i + 1)) (slice (i + 1) size prefix) ≡ sets b (at + i) (slice i size prefix)
 slice-turn b prefix at i size h l = let e : at + (i + 1) ≡ suc (at + i) = omega arith in rw (slice-cons i size prefix 0 h l, e, add-one)
 
-pub put-through : (b prefix m : List ℕ) (at i size : ℕ) → size ≤ length prefix → i ≤ size → size ≤ i → sets m (at + i) (slice i size prefix) ≡ sets b at (take size prefix) → Put b at (take size prefix) m (at + size)
+pub put-through : (b prefix m : List ℕ) (at i size : ℕ) → size ≤ length prefix → i ≤ size → size ≤ i
+    → sets m (at + i) (slice i size prefix) ≡ sets b at (take size prefix) → Put b at (take size prefix) m (at + size)
 put-through b prefix m at i size l g h e =
     let q : size ≡ i = le-antisymm h g in
     let z : slice i size prefix ≡ [] = rw (← q) (slice-empty size prefix) in
@@ -110,8 +115,10 @@ put-through b prefix m at i size l g h e =
 
 -- ---- a turn of the draw: the tiles so far are the first size - left of so
 pub turn-with : (prefix t u : List ℕ) (size left n end a : ℕ) → (left ≡ 0 → ⊥) → left ≤ size → size ≤ length prefix → a < end → getD t a 0 < 4 → u ≡ more t a 1
-    → written (take (size - left) prefix) n left end a t ≡ written (take (size - (left - 1)) (set prefix (size - left) a)) n (left - 1) end a u ++ written (take (size - left) prefix) n left end (a + 1) t
-turn-with prefix t u size left n end a h g l q f e = rw (prefix-more prefix size left a h g l, e) (written-with (take (size - left) prefix) n end a t left h q f)
+    → written (take (size - left) prefix) n left end a t ≡ written (take (size - (left - 1)) (set prefix (size - left) a)) n (left - 1) end a u ++ written
+    (take (size - left) prefix) n left end (a + 1) t
+turn-with prefix t u size left n end a h g l q f e =
+    rw (prefix-more prefix size left a h g l, e) (written-with (take (size - left) prefix) n end a t left h q f)
 
 -- there is room for the next part of what is left
 pub left-room : {b m w r : List ℕ} {at e : ℕ} (x q : List ℕ) → r ≡ x ++ q → Left b at w m e r → at + length w ≤ length b → e + length x ≤ length m
@@ -124,10 +131,12 @@ module _ (prefix t : List ℕ) (size left n end low : ℕ) (z : left ≡ 0) wher
   leaf : splitsInto (suc n) true t ≡ true → written (take (size - left) prefix) n left end low t ≡ take size prefix
   leaf e = let q : size - left ≡ size = omega arith in written-leaf (take (size - left) prefix) n left end low t z e ∙ ap (λ (i : ℕ). take i prefix) q
 
-  pub leaf-room : (at room : ℕ) → splitsInto (suc n) true t ≡ true → size ≤ length prefix → at + length (written (take (size - left) prefix) n left end low t) ≤ room → at + size ≤ room
+  pub leaf-room : (at room : ℕ) → splitsInto (suc n) true t ≡ true → size ≤ length prefix
+      → at + length (written (take (size - left) prefix) n left end low t) ≤ room → at + size ≤ room
   leaf-room at room e l h = omega (arith, ap length (leaf e), length-take-le size prefix l)
 
-  pub put-leaf : {b m : List ℕ} {at r : ℕ} → splitsInto (suc n) true t ≡ true → Put b at (take size prefix) m r → Put b at (written (take (size - left) prefix) n left end low t) m r
+  pub put-leaf : {b m : List ℕ} {at r : ℕ} → splitsInto (suc n) true t ≡ true → Put b at (take size prefix) m r
+      → Put b at (written (take (size - left) prefix) n left end low t) m r
   put-leaf e p = rw (leaf e) p
 
   pub put-over : (b : List ℕ) (at : ℕ) → splitsInto (suc n) true t ≡ false → Put b at (written (take (size - left) prefix) n left end low t) b at

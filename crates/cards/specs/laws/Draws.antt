@@ -138,7 +138,8 @@ module _ (n end : ℕ) where
         let s′ : Ends n end a t (suc m) (a ∷ l) = subst (λ (y : ℕ). Ends n end a t (suc m) (y ∷ l)) (sym q) s in
         let b = head-room a t m l f h s′ in
         rw (← q)
-        (Memᴰ·append-left _ (mem-when (ltb (getD t a 0) 4) _ b (Memᴰ·map _ (rest (suc j) a (more t a 1) l e (fine-more a t f h b) (tail-ends a t m l f h s′))))))
+        (Memᴰ·append-left _ (mem-when (ltb (getD t a 0) 4) _ b
+        (Memᴰ·map _ (rest (suc j) a (more t a 1) l e (fine-more a t f h b) (tail-ends a t m l f h s′))))))
         (λ h.
         let o : Rising (a + 1) (x ∷ l) = (omega arith, s .order .1) in
         Memᴰ·append-right (when (ltb (getD t a 0) 4) (λ _. map (λ (l : List ℕ). a ∷ l) (draws n m (suc j) a (more t a 1))))
@@ -148,7 +149,8 @@ module _ (n end : ℕ) where
   pub draws-complete : (m j a : ℕ) (t l : List ℕ) → a + j ≡ end → Fine end t → Ends n end a t m l → List·Memᴰ l (draws n m j a t)
   unfolding draws ofKind
   draws-complete zero j a t [] e f s =
-      mem-when (splitsInto (suc n) true t) _ (splits-exactly n t (f .long) .1 (splits-cong (λ k. sym (add-zero (getD t k 0))) (s .splits))) (List·Memᴰ·head refl)
+      mem-when (splitsInto (suc n) true t) _ (splits-exactly n t (f .long) .1 (splits-cong (λ k. sym (add-zero (getD t k 0))) (s .splits)))
+      (List·Memᴰ·head refl)
   draws-complete zero j a t (x ∷ l) e f s = absurd (omega (arith, s .size))
   draws-complete (suc m) j a t l e f s = complete-step m (draws-complete m) j a t l e f s
 
@@ -163,7 +165,8 @@ module _ (n end : ℕ) where
     ordered-step zero a t e f = ended
     ordered-step (suc j) a t e f =
         pairwise-append
-        (pairwise-when (ltb (getD t a 0) 4) _ (λ b. pairwise-map (λ (l : List ℕ). a ∷ l) (λ x y h. inr (refl, h)) (rest (suc j) a (more t a 1) e (fine-more a t f (omega arith) b))))
+        (pairwise-when (ltb (getD t a 0) 4) _ (λ b. pairwise-map (λ (l : List ℕ). a ∷ l) (λ x y h. inr (refl, h))
+        (rest (suc j) a (more t a 1) e (fine-more a t f (omega arith) b))))
         (ordered-step j (a + 1) t (omega arith) f)
         (each-when (ltb (getD t a 0) 4) _ (λ b.
         each-map (λ (l : List ℕ). a ∷ l)

@@ -88,7 +88,8 @@ Within x y = (l : List ℕ) → Member l x → Member l y
 
 same-first : (a b : List ℕ) (x y : List (List ℕ)) → Each (Lex a) x → Each (Lex b) y → Member a (b ∷ y) → Member b (a ∷ x) → a ≡ b
 same-first a b x y p q m n =
-    ⊎-elim (λ e. e) (λ i. ⊎-elim (λ e. sym e) (λ j. absurd (lex-one-way a b (each-member p j) (each-member q i))) (List·Memᴰ·cases-cons n)) (List·Memᴰ·cases-cons m)
+    ⊎-elim (λ e. e) (λ i. ⊎-elim (λ e. sym e) (λ j. absurd (lex-one-way a b (each-member p j) (each-member q i))) (List·Memᴰ·cases-cons n))
+    (List·Memᴰ·cases-cons m)
 
 past-first : (a b : List ℕ) (x y : List (List ℕ)) → Each (Lex a) x → a ≡ b → Within (a ∷ x) (b ∷ y) → Within x y
 past-first a b x y p e h l m =

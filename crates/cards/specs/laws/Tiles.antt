@@ -85,7 +85,8 @@ suit-in s k e =
 pub each-uses : (gs : List ℕ) → Each (λ c. (k : ℕ) → uses c k ≤ usedBy gs k) gs
 unfolding usedBy
 each-uses [] = none
-each-uses (c ∷ gs) = let u : (k : ℕ) → uses c k ≤ uses c k + usedBy gs k = λ k. omega arith in each {x = c} u (each-imp (λ g u k. omega (arith, u k)) (each-uses gs))
+each-uses (c ∷ gs) =
+    let u : (k : ℕ) → uses c k ≤ uses c k + usedBy gs k = λ k. omega arith in each {x = c} u (each-imp (λ g u k. omega (arith, u k)) (each-uses gs))
 
 no-sum : (n : ℕ) → sum n (λ k. 0) ≡ 0
 no-sum zero = refl

@@ -29,7 +29,8 @@ use Rattle.claim.proofs.verdict.Tie as tie
 
 -- the first reading that is judged is kept where it has a yaku
 weighed-first : (worth : Reading → Value) (r : Reading) (gain most : ℕ) (y : Bool) → hasYaku (worth r .yaku) ≡ y
-    → weighedAs (keepBetter worth noneOf r .valued) (keepBetter worth noneOf r .value .gain .0) gain most ≡ weighedAs (hasYaku (worth r .yaku)) (worth r .gain .0) gain most
+    → weighedAs (keepBetter worth noneOf r .valued) (keepBetter worth noneOf r .value .gain .0) gain most
+    ≡ weighedAs (hasYaku (worth r .yaku)) (worth r .gain .0) gain most
 unfolding keepBetterBy noneOf weighedAs
 weighed-first worth r gain most true e = rw e
 weighed-first worth r gain most false e = rw e

@@ -13,7 +13,8 @@ use Rattle.bits.specs.laws.Pack.{unpack-append, sum-append, sum-replicate}
 use Rattle.reading.specs.declared.Reading.{Reading}
 use Rattle.reading.specs.Reading.{Ascends, ofShape}
 use Rattle.tiles.specs.laws.Below.{or-both}
-use Rattle.claim.specs.search.Claimed.{field, shapeIn, pairIn, placeIn, codesIn, gainOf, paddingIn, lengthOf, padOf, ascends, readingIn, faultyRegular, faultyIn, nothing, claimedIn}
+use Rattle.claim.specs.search.Claimed.{field, shapeIn, pairIn, placeIn, codesIn, gainOf, paddingIn, lengthOf, padOf, ascends, readingIn, faultyRegular}
+use Rattle.claim.specs.search.Claimed.{faultyIn, nothing, claimedIn}
 use Rattle.claim.specs.laws.Bits.{length-codes, ascends-true, ascends-of}
 
 -- a claim's fields take its bytes; none has under 3 bytes or over 7
@@ -203,7 +204,8 @@ pub of-whole : (m n : ℕ) (b : List ℕ) → IsWhole m n b → faultyIn m n b �
 unfolding faultyIn faultyRegular
 of-whole m n b y = go (eqb (shapeIn b) 0) refl
   where
-    go : (z : Bool) → eqb (shapeIn b) 0 ≡ z → not (eqb n (lengthOf (shapeIn b) m)) || eqb (shapeIn b) 3 || (eqb (shapeIn b) 0 && (ltb 33 (pairIn b) || not (ascends 0 (codesIn m b)) || ltb (4 - m) (placeIn m b))) || ltb 0 (paddingIn m b) ≡ false
+    go : (z : Bool) → eqb (shapeIn b) 0 ≡ z → not (eqb n (lengthOf (shapeIn b) m)) || eqb (shapeIn b) 3 ||
+        (eqb (shapeIn b) 0 && (ltb 33 (pairIn b) || not (ascends 0 (codesIn m b)) || ltb (4 - m) (placeIn m b))) || ltb 0 (paddingIn m b) ≡ false
     go false e = rw (eq-eqb n (lengthOf (shapeIn b) m) (y .size), ne-eqb (shapeIn b) 3 (y .shape), e, y .padding)
     go true e =
         let r = y .regular (eqb-true (shapeIn b) 0 e) in

@@ -9,7 +9,8 @@ use borrow.Author.Tests.{ne-eqb}
 use lib.ListN.{length, getD, take, drop, replicate, length-append, length-replicate, length-drop}
 use lib.Seq.{length-take-le, take-all}
 use Rattle.bits.specs.Bits.{val, unpack, widthOf, eights, bitsOf, bytesOf, EachBelow}
-use Rattle.bits.specs.laws.Pack.{FitIn, fit-cons, fit-append, fit-run, fit-all, fields-bytes, length-unpack, length-bitsOf, sum-append, unpack-append, app-inj, below-cons, below-nil, below-pack, below-take, val-lt}
+use Rattle.bits.specs.laws.Pack.{FitIn, fit-cons, fit-append, fit-run, fit-all, fields-bytes, length-unpack, length-bitsOf, sum-append, unpack-append}
+use Rattle.bits.specs.laws.Pack.{app-inj, below-cons, below-nil, below-pack, below-take, val-lt}
 use Rattle.reading.specs.declared.Reading.{Reading}
 use Rattle.reading.specs.Reading.{Ascends, ofShape, IsReading}
 use Rattle.reading.specs.Reading as Readings

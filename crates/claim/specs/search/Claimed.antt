@@ -63,7 +63,8 @@ faultyIn m n b = not (eqb n (lengthOf (shapeIn b) m)) || eqb (shapeIn b) 3 || (e
 -- ---- what it names
 
 unfoldable pub readingIn : ℕ → List ℕ → Reading
-readingIn m b = cond (eqb (shapeIn b) 0) (record { shape = 0; pair = pairIn b; groups = codesIn m b ++ replicate m 68; place = placeIn m b }) (ofShape (shapeIn b))
+readingIn m b =
+    cond (eqb (shapeIn b) 0) (record { shape = 0; pair = pairIn b; groups = codesIn m b ++ replicate m 68; place = placeIn m b }) (ofShape (shapeIn b))
 
 abbrev pub nothing : Claimed
 nothing = record { sound = false; reading = ofShape 1; gain = 0 }

@@ -19,11 +19,14 @@ use Rattle.game.specs.laws.Standing.{game-standing}
 
 module _ {xs : List Entry} {ns : List ℕ} {k : Game} (r : Runs freshGame xs ns k) where
   -- what holds of each win holds of those of a list
-  of-wins : (P : Position → List ℕ → ℕ → Type 0) → ((l : Position) (s : List ℕ) (n : ℕ) → n ≡ refusalFor l (result (win s)) → P l s n) → Every (OfWin P) freshGame xs ns
+  of-wins : (P : Position → List ℕ → ℕ → Type 0) → ((l : Position) (s : List ℕ) (n : ℕ) → n ≡ refusalFor l (result (win s)) → P l s n)
+      → Every (OfWin P) freshGame xs ns
   of-wins P each = every-of (OfWin P) (λ l b n e s q. each l s n (e ∙ ap (refusalFor l) q)) r fresh-both
 
   -- and what holds of a multiple ron
-  of-multi-rons : (P : Position → ℕ → List ℕ → ℕ → Type 0) → ((l : Position) (number : ℕ) (s : List ℕ) (n : ℕ) → n ≡ refusalFor l (result (multiRon number s)) → P l number s n) → Every (OfMultiRon P) freshGame xs ns
+  of-multi-rons : (P : Position → ℕ → List ℕ → ℕ → Type 0)
+      → ((l : Position) (number : ℕ) (s : List ℕ) (n : ℕ) → n ≡ refusalFor l (result (multiRon number s)) → P l number s n)
+      → Every (OfMultiRon P) freshGame xs ns
   of-multi-rons P each = every-of (OfMultiRon P) (λ l b n e number s q. each l number s n (e ∙ ap (refusalFor l) q)) r fresh-both
 
   runs-standing : k .now ≡ ledger (standing xs)
@@ -33,7 +36,9 @@ pub demand-3 : (xs : List Entry) (ns : List ℕ) (k : Game) → Runs freshGame x
 unfolding ledger
 demand-3 xs ns k r = record {
   sum = ap totalOf (runs-standing r) ∙ ledger-kept (standing xs) fresh fresh-kept .total;
-  seats = λ i h. ap (λ (g : Position). scoreAt g i) (runs-standing r) ∙ scores-given (standing xs) fresh i h ∙ ap (λ (z : ℤ). z +ℤ givenFrom fresh (standing xs) i) (fresh-score i h);
+  seats =
+      λ i h. ap (λ (g : Position). scoreAt g i) (runs-standing r) ∙ scores-given (standing xs) fresh i h
+      ∙ ap (λ (z : ℤ). z +ℤ givenFrom fresh (standing xs) i) (fresh-score i h);
   ledger = runs-standing r;
   game = runs-game r;
   named = (runs-named r, every-of (λ l b n. n ≡ refusalFor l b) (λ l b n e. e) r fresh-both);

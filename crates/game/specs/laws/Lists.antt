@@ -70,7 +70,12 @@ plain-game k p b = rw (plain-refusal k p b) (go (ltb 0 (refusalFor (k .now) b)) 
     new = applied (k .now) (effectOf (k .now) b)
 
     go : (t : Bool) → ltb 0 (refusalFor (k .now) b) ≡ t
-        → cond t k (record { now = cond (ltb 0 (refusalFor (k .now) b)) (k .now) new; earlier = k .now; correctable = mark (effectOf (k .now) b .finishes) }) .now ≡ cond t (k .now) new
+        → cond t k (record {
+          now = cond (ltb 0 (refusalFor (k .now) b)) (k .now) new;
+          earlier = k .now;
+          correctable = mark
+              (effectOf (k .now) b .finishes);
+        }) .now ≡ cond t (k .now) new
     go true e = refl
     go false e = rw e
 
@@ -105,7 +110,13 @@ runs-exist (x ∷ xs) k = next (refl, refl) (runs-exist xs (gameAfter k x))
 module _ (P : Position → Booking → ℕ → Type 0) (each : (l : Position) (b : Booking) (n : ℕ) → n ≡ refusalFor l b → P l b n) where
   pub every-of : {k j : Game} {xs : List Entry} {ns : List ℕ} → Runs k xs ns j → Both k → Every P k xs ns
   every-of done p = tt
-  every-of {k} (next {e = booking b} {n = n} {es = xs} {ns = ns} q r) p =
-      (each (k .now) b n (q .0 ∙ plain-refusal k p b), subst (λ (h : Game). Every P h xs ns) (q .1) (every-of r (subst Both (sym (q .1)) (after-both k (booking b) p))))
-  every-of {k} (next {e = correction r} {n = n} {es = xs} {ns = ns} q rest) p =
-      (λ h. each (k .earlier) (result r) n (q .0 ∙ correction-refusal k p r ∙ rw h), subst (λ (h : Game). Every P h xs ns) (q .1) (every-of rest (subst Both (sym (q .1)) (after-both k (correction r) p))))
+  every-of {k} (next {e = booking b} {n = n} {es = xs} {ns = ns} q r) p = (
+    each (k .now) b n (q .0 ∙ plain-refusal k p b),
+    subst (λ (h : Game). Every P h xs ns) (q .1)
+        (every-of r (subst Both (sym (q .1)) (after-both k (booking b) p))),
+  )
+  every-of {k} (next {e = correction r} {n = n} {es = xs} {ns = ns} q rest) p = (
+    λ h. each (k .earlier) (result r) n (q .0 ∙ correction-refusal k p r ∙ rw h),
+    subst (λ (h : Game). Every P h xs ns) (q .1)
+        (every-of rest (subst Both (sym (q .1)) (after-both k (correction r) p))),
+  )

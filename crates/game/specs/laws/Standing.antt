@@ -88,7 +88,8 @@ module _ (xs : List Entry) (rest : Rest xs) where
     refusal-is = plain-refusal k p b ∙ ap (λ (g : Position). refusalFor g b) (s .0)
 
     by-plain : (t : Bool) → ltb 0 (refusalFor l b) ≡ t → (f : Bool) → effectOf l b .finishes ≡ f
-        → Ends (cond t (standingFrom bs last xs) (cond f (standingFrom (bs ++ last) (b ∷ []) xs) (standingFrom ((bs ++ last) ++ (b ∷ [])) [] xs))) (gameFrom (gameAfter k (booking b)) xs)
+        → Ends (cond t (standingFrom bs last xs) (cond f (standingFrom (bs ++ last) (b ∷ []) xs) (standingFrom ((bs ++ last) ++ (b ∷ [])) [] xs)))
+        (gameFrom (gameAfter k (booking b)) xs)
     unfolding withEntry
     by-plain true e f z = same (booking b) k p bs last (rw refusal-is (ltb-true 0 (refusalFor l b) e)) s
     by-plain false e true z =
@@ -115,7 +116,8 @@ module _ (xs : List Entry) (rest : Rest xs) where
       go true e = same (correction r) k p bs (last ∷ none) (rw q (ltb-true 0 (refusalFor (ledger bs) (result r)) e)) s
       go false e =
           let n : refusalFor (ledger bs) (result r) ≡ 0 = omega (arith, ltb-false 0 (refusalFor (ledger bs) (result r)) e) in
-          moved (correction r) k p bs (result r ∷ []) (q ∙ n) (finished bs (result r) (k .earlier) (s .1 .1) (all-before bs (last ∷ none) fresh (s .2)) n (r, refl))
+          moved (correction r) k p bs (result r ∷ []) (q ∙ n)
+          (finished bs (result r) (k .earlier) (s .1 .1) (all-before bs (last ∷ none) fresh (s .2)) n (r, refl))
 
 left-standing : (xs : List Entry) → Rest xs
 unfolding gameFrom standingFrom

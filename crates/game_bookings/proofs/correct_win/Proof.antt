@@ -11,4 +11,5 @@ correct-win-spec =
     (tie.spec
     (λ c κs. search needs)
     (λ c κs. search needs)
-    (λ c. let a = c .before .before .before .before .args in rw (c .correct .ensures) (correction-books (a .g) _ _ (win (a .s .now)) (c .before .win .ensures))))
+    (λ c. let a = c .before .before .before .before .args in
+    rw (c .correct .ensures) (correction-books (a .g) _ _ (win (a .s .now)) (c .before .win .ensures))))

@@ -17,4 +17,5 @@ draw-spec =
     (λ c.
     let b = c .before .before in
     let a = c .before .before .before .before .args in
-    rw (c .book .ensures) (booking-books (a .g) _ _ (result (draw (a .bits))) (rw (b .before .checked .ensures) at (b .draw .ensures)) 1 (result-finishes (a .g .now) (draw (a .bits))) refl)))
+    rw (c .book .ensures) (booking-books (a .g) _ _ (result (draw (a .bits))) (rw (b .before .checked .ensures) at (b .draw .ensures)) 1
+    (result-finishes (a .g .now) (draw (a .bits))) refl)))

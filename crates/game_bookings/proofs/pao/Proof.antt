@@ -17,4 +17,5 @@ pao-spec =
     (λ c.
     let b = c .before .before in
     let a = c .before .before .before .before .args in
-    rw (c .book .ensures) (booking-books (a .g) _ _ (pao (a .holder) (a .feeder) (a .yaku)) (rw (b .before .checked .ensures) at (b .pao .ensures)) 0 (pao-goes-on (a .g .now) (a .holder) (a .feeder) (a .yaku)) refl)))
+    rw (c .book .ensures) (booking-books (a .g) _ _ (pao (a .holder) (a .feeder) (a .yaku)) (rw (b .before .checked .ensures) at (b .pao .ensures)) 0
+    (pao-goes-on (a .g .now) (a .holder) (a .feeder) (a .yaku)) refl)))

@@ -17,4 +17,5 @@ riichi-spec =
     (λ c.
     let b = c .before .before in
     let a = c .before .before .before .before .args in
-    rw (c .book .ensures) (booking-books (a .g) _ _ (riichi (a .seat)) (rw (b .before .checked .ensures) at (b .riichi .ensures)) 0 (riichi-goes-on (a .g .now) (a .seat)) refl)))
+    rw (c .book .ensures) (booking-books (a .g) _ _ (riichi (a .seat)) (rw (b .before .checked .ensures) at (b .riichi .ensures)) 0
+    (riichi-goes-on (a .g .now) (a .seat)) refl)))

@@ -40,7 +40,8 @@ checked-accepted g b e = go (isSet (g .correctable)) (outOfForm (g .earlier)) re
 
 module _ (g : Game) (n : ℕ) (p : Position) where
   -- n and p are what it gives there
-  pub booking-books : (b : Booking) → Moves (checkedIn g) b n p → (correctable : ℕ) → effectOf (g .now) b .finishes ≡ isSet correctable → mark (isSet correctable) ≡ correctable
+  pub booking-books : (b : Booking) → Moves (checkedIn g) b n p → (correctable : ℕ) → effectOf (g .now) b .finishes ≡ isSet correctable
+      → mark (isSet correctable) ≡ correctable
       → Books g (booking b) n (cond (ltb 0 n) g (record { now = p; earlier = g .now; correctable = correctable }))
   unfolding gameAfter withEntry
   booking-books b m correctable f e = (same, go (ltb 0 n) refl ∙ ap (λ (j : ℕ). cond (ltb 0 j) g new) same)

@@ -35,7 +35,8 @@ add-meld-spec =
     omega (
       arith,
       room (c .before .add .result) (c .add2 .result) (a .args .b % 64 + 1) 241 (search needs) (search needs) (c .add2 .ensures)
-          (room (a .args .t) (c .before .add .result) (a .args .b % 64) 240 (search needs) (search needs) (c .before .add .ensures) (a .pre)) (a .args .b % 64 + 2),
+          (room (a .args .t) (c .before .add .result) (a .args .b % 64) 240 (search needs) (search needs) (c .before .add .ensures) (a .pre))
+          (a .args .b % 64 + 2),
     ))
     (λ c κs. omega (arith, c .before .before .pre (c .before .before .args .b % 64)))
     (λ c κs. omega (arith, c .before .before .pre (c .before .before .args .b % 64)))
@@ -43,9 +44,14 @@ add-meld-spec =
     let a = c .before .before .before .before .args in
     let x = a .b % 64 in
     let u = one (a .t) (c .before .before .add .result) (λ j. getD (a .t) j 0) x 1 (search needs) (c .before .before .add .ensures) (λ j _. refl) in
-    let v = one (c .before .before .add .result) (c .before .add2 .result) (λ j. getD (a .t) j 0 + atKind x 1 j) (x + 1) 1 (search needs) (c .before .add2 .ensures) u in
+    let v = one (c .before .before .add .result) (c .before .add2 .result) (λ j. getD (a .t) j 0 + atKind x 1 j) (x + 1) 1 (search needs)
+    (c .before .add2 .ensures) u in
     rw (eq-eqb _ _ (c .before .before .before .if1 .taken))
-    (omega (arith, one (c .before .add2 .result) (c .add3 .result) (λ j. getD (a .t) j 0 + atKind x 1 j + atKind (x + 1) 1 j) (x + 2) 1 (search needs) (c .add3 .ensures) v k g)))
+    (omega (
+      arith,
+      one (c .before .add2 .result) (c .add3 .result) (λ j. getD (a .t) j 0 + atKind x 1 j + atKind (x + 1) 1 j) (x + 2) 1 (search needs)
+          (c .add3 .ensures) v k g,
+    )))
     (λ c k g.
     let a = c .before .before .before .args in
     rw (ne-eqb _ _ (c .before .before .if1 .left), eq-eqb _ _ (c .before .if2 .taken))

@@ -30,17 +30,20 @@ le0 c =
 le1 : (c : tie.After-add-meld-if) → (k : ℕ) → getD (c .add-meld-if .result) k 0 ≤ 17
 le1 c =
     let x = c .before .before .before .args .x in
-    room (c .before .others-tally .result) (c .add-meld-if .result) (ltb 0 (x .m)) (getD (x .melds) 0 0) 13 (search needs) (c .add-meld-if .ensures) (le0 (c .before))
+    room (c .before .others-tally .result) (c .add-meld-if .result) (ltb 0 (x .m)) (getD (x .melds) 0 0) 13 (search needs) (c .add-meld-if .ensures)
+    (le0 (c .before))
 
 le2 : (c : tie.After-add-meld-if2) → (k : ℕ) → getD (c .add-meld-if2 .result) k 0 ≤ 21
 le2 c =
     let x = c .before .before .before .before .args .x in
-    room (c .before .add-meld-if .result) (c .add-meld-if2 .result) (ltb 1 (x .m)) (getD (x .melds) 1 0) 17 (search needs) (c .add-meld-if2 .ensures) (le1 (c .before))
+    room (c .before .add-meld-if .result) (c .add-meld-if2 .result) (ltb 1 (x .m)) (getD (x .melds) 1 0) 17 (search needs) (c .add-meld-if2 .ensures)
+    (le1 (c .before))
 
 le3 : (c : tie.After-add-meld-if3) → (k : ℕ) → getD (c .add-meld-if3 .result) k 0 ≤ 25
 le3 c =
     let x = c .before .before .before .before .before .args .x in
-    room (c .before .add-meld-if2 .result) (c .add-meld-if3 .result) (ltb 2 (x .m)) (getD (x .melds) 2 0) 21 (search needs) (c .add-meld-if3 .ensures) (le2 (c .before))
+    room (c .before .add-meld-if2 .result) (c .add-meld-if3 .result) (ltb 2 (x .m)) (getD (x .melds) 2 0) 21 (search needs) (c .add-meld-if3 .ensures)
+    (le2 (c .before))
 
 pub held-tally-spec : {M : Type 1} → statement M
 unfolding inHeld inMelds

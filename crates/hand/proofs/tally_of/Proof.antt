@@ -79,7 +79,11 @@ tally-of-spec =
     (λ c. c .if1 .taken)
     (λ c.
     let l = c .before .before .loop in
-    omega (arith, room (c .before .before .before .args .t1) (l .t) (l .i) (l .inv .1) (search needs) (l .inv .2) (getD (c .before .before .before .args .t1) (l .i) 0)))
+    omega (
+      arith,
+      room (c .before .before .before .args .t1) (l .t) (l .i) (l .inv .1) (search needs) (l .inv .2)
+          (getD (c .before .before .before .args .t1) (l .i) 0),
+    ))
     (λ c. c .if1 .taken)
     (λ c. search needs) (λ c. search needs)
     (λ c. (search needs, ap length (added c) ∙ more-long _ _ (c .before .before .loop .inv .1), one-more c))

@@ -13,7 +13,8 @@ use Rattle.hand.specs.declared.Hand.{Hand}
 use Rattle.hand.specs.Refusals.{refusalOf, unwritable}
 use Rattle.hand_record.specs.declared.HandRead.{HandRead}
 use Rattle.hand_record.specs.declared.Written.{Written}
-use Rattle.hand_record.specs.Record.{lengthOf, padOf, widths, wrongLength, countIn, handIn, handOfRecord, paddingOfRecord, IsSound, refusedWith, soundAs, refusalIn, handOf, answerBy, answerIn, readOf, recordOf, writeRefusal, writtenOf, bufferOf}
+use Rattle.hand_record.specs.Record.{lengthOf, padOf, widths, wrongLength, countIn, handIn, handOfRecord, paddingOfRecord, IsSound, refusedWith}
+use Rattle.hand_record.specs.Record.{soundAs, refusalIn, handOf, answerBy, answerIn, readOf, recordOf, writeRefusal, writtenOf, bufferOf}
 use Rattle.hand_record.specs.laws.Read.{whole, length-of}
 use Rattle.hand_record.specs.laws.Write.{sum-widths, refusal-none, wrote-by}
 use Rattle.hand_record.specs.laws.Clean.{clean-of, of-clean}
@@ -83,7 +84,8 @@ module _ (s buf : List ℕ) (b : EachBelow 256 s) (e : refusalIn (readOf s .answ
   unrefused = refusal-none h buf (accepted-back s h (is-read s e)) (omega (arith, same-length))
 
   pub read-write-answer : _≡_ {A = Written} (writtenOf (handOf (readOf s)) buf) (record { refusal = 0; len = length s })
-  read-write-answer = ap (λ (z : Hand). writtenOf z buf) same-read ∙ sym (wrote-by h buf unrefused .0) ∙ ap (λ (k : ℕ). record { refusal = 0; len = k }) same-length
+  read-write-answer =
+      ap (λ (z : Hand). writtenOf z buf) same-read ∙ sym (wrote-by h buf unrefused .0) ∙ ap (λ (k : ℕ). record { refusal = 0; len = k }) same-length
 
   pub read-write-buffer : bufferOf (handOf (readOf s)) buf ≡ s ++ drop (length s) buf
   read-write-buffer =
@@ -97,7 +99,8 @@ wrote : (h : Hand) (buf : List ℕ) → writtenOf h buf .refusal ≡ 0 → (writ
 unfolding writtenOf
 wrote h buf e = go (writeRefusal h buf) (ltb 0 (writeRefusal h buf)) refl e
   where
-    go : (n : ℕ) (b : Bool) → ltb 0 n ≡ b → cond {A = Written} b (record { refusal = n; len = 0 }) (record { refusal = 0; len = lengthOf (h .held .m) }) .refusal ≡ 0 → n ≡ 0
+    go : (n : ℕ) (b : Bool) → ltb 0 n ≡ b → cond {A = Written} b (record { refusal = n; len = 0 })
+        (record { refusal = 0; len = lengthOf (h .held .m) }) .refusal ≡ 0 → n ≡ 0
     go n true q e = e
     go n false q e = omega (arith, ltb-false 0 n q)
 
@@ -109,7 +112,8 @@ writable h buf e = go (unwritable h) (ltb 0 (unwritable h)) refl _ e
     go n true q k e = e
     go n false q k e = omega (arith, ltb-false 0 n q)
 
-pub write-read : (h : Hand) (buf : List ℕ) → length (h .held .melds) ≡ 4 → length (h .held .concealed) ≡ 13 → EachBelow 256 (h .held .melds) → writtenOf h buf .refusal ≡ 0
+pub write-read : (h : Hand) (buf : List ℕ) → length (h .held .melds) ≡ 4 → length (h .held .concealed) ≡ 13 → EachBelow 256 (h .held .melds)
+    → writtenOf h buf .refusal ≡ 0
     → readOf (take (writtenOf h buf .len) (bufferOf h buf)) ≡ soundAs h
 write-read h buf lm lc bm e =
     let z = wrote h buf e in

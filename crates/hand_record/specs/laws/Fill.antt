@@ -53,7 +53,8 @@ used-or-zero l m i h = go (ltb i m) refl
 zero-past : (l : List ℕ) (m i : ℕ) → ltb i m || eqb (getD l i 0) 0 ≡ true → m ≤ i → getD l i 0 ≡ 0
 zero-past l m i e h = eqb-true (getD l i 0) 0 (rw (le-ltb i m h) at e)
 
-pub unused-of : (x : Held) → ((i : ℕ) → x .m ≤ i → getD (x .melds) i 0 ≡ 0) → ((i : ℕ) → 13 - 3 * x .m ≤ i → getD (x .concealed) i 0 ≡ 0) → unusedNotZero x ≡ false
+pub unused-of : (x : Held) → ((i : ℕ) → x .m ≤ i → getD (x .melds) i 0 ≡ 0) → ((i : ℕ) → 13 - 3 * x .m ≤ i → getD (x .concealed) i 0 ≡ 0)
+    → unusedNotZero x ≡ false
 unfolding unusedNotZero every
 unused-of x zm zt =
     let em = every-of (λ i. ltb i (x .m) || eqb (getD (x .melds) i 0) 0) 4 (λ i g. used-or-zero (x .melds) (x .m) i (zm i)) in
@@ -63,10 +64,13 @@ unused-of x zm zt =
     nots : (a b : Bool) → a ≡ true → b ≡ true → not a || not b ≡ false
     nots a b p q = rw (p, q)
 
-pub zeros-of : (x : Held) → unusedNotZero x ≡ false → ((i : ℕ) → i < 4 → x .m ≤ i → getD (x .melds) i 0 ≡ 0) × ((i : ℕ) → i < 13 → 13 - 3 * x .m ≤ i → getD (x .concealed) i 0 ≡ 0)
+pub zeros-of : (x : Held) → unusedNotZero x ≡ false → ((i : ℕ) → i < 4 → x .m ≤ i → getD (x .melds) i 0 ≡ 0)
+    × ((i : ℕ) → i < 13 → 13 - 3 * x .m ≤ i → getD (x .concealed) i 0 ≡ 0)
 unfolding unusedNotZero every
 zeros-of x e =
-    let p = or-both (not (all 4 (λ i. ltb i (x .m) || eqb (getD (x .melds) i 0) 0))) (not (all 13 (λ i. ltb i (13 - 3 * x .m) || eqb (getD (x .concealed) i 0) 0))) e in (
+    let p = or-both (not (all 4 (λ i. ltb i (x .m) || eqb (getD (x .melds) i 0) 0)))
+    (not (all 13 (λ i. ltb i (13 - 3 * x .m) || eqb (getD (x .concealed) i 0) 0))) e in (
       λ i g l. zero-past (x .melds) (x .m) i (every-at (λ j. ltb j (x .m) || eqb (getD (x .melds) j 0) 0) 4 i (not-false _ (p .0)) g) l,
-      λ i g l. zero-past (x .concealed) (13 - 3 * x .m) i (every-at (λ j. ltb j (13 - 3 * x .m) || eqb (getD (x .concealed) j 0) 0) 13 i (not-false _ (p .1)) g) l,
+      λ i g l. zero-past (x .concealed) (13 - 3 * x .m) i
+          (every-at (λ j. ltb j (13 - 3 * x .m) || eqb (getD (x .concealed) j 0) 0) 13 i (not-false _ (p .1)) g) l,
     )

@@ -54,7 +54,8 @@ module _ (s : List ℕ) where
   pub record-inside : (recordLength s ≤ 13) × (recordLength s ≤ length s)
   record-inside = go broken-or-whole
     where
-      go : ((isBroken s ≡ true) × (recordLength s ≡ 0)) ⊎ ((isBroken s ≡ false) × (recordLength s ≡ lengthOf (countIn s))) → (recordLength s ≤ 13) × (recordLength s ≤ length s)
+      go : ((isBroken s ≡ true) × (recordLength s ≡ 0)) ⊎ ((isBroken s ≡ false) × (recordLength s ≡ lengthOf (countIn s)))
+          → (recordLength s ≤ 13) × (recordLength s ≤ length s)
       go (inl b) = (omega (arith, b .1), omega (arith, b .1))
       go (inr u) = (omega (arith, u .1, unbroken (u .0)), omega (arith, u .1, unbroken (u .0)))
 
@@ -68,7 +69,8 @@ module _ (s : List ℕ) where
   pub length-some : (recordLength s ≡ 0 → ⊥) → (isBroken s ≡ false) × (recordLength s ≡ lengthOf (countIn s))
   length-some l = go broken-or-whole
     where
-      go : ((isBroken s ≡ true) × (recordLength s ≡ 0)) ⊎ ((isBroken s ≡ false) × (recordLength s ≡ lengthOf (countIn s))) → (isBroken s ≡ false) × (recordLength s ≡ lengthOf (countIn s))
+      go : ((isBroken s ≡ true) × (recordLength s ≡ 0)) ⊎ ((isBroken s ≡ false) × (recordLength s ≡ lengthOf (countIn s)))
+          → (isBroken s ≡ false) × (recordLength s ≡ lengthOf (countIn s))
       go (inl b) = absurd (l (b .1))
       go (inr u) = u
 
@@ -93,7 +95,8 @@ pub record-length : (s : List ℕ) → isBroken s ≡ false → wrongLength (len
 record-length s e =
     let u = unbroken s e in
     let l = length-take-le (lengthOf (countIn s)) s (u .3) in
-    rw (count-take s (lengthOf (countIn s)) (u .1) (omega arith), l) (length-right (lengthOf (countIn s)) (countIn s) (record { four = u .1; few = u .0; right = refl }))
+    rw (count-take s (lengthOf (countIn s)) (u .1) (omega arith), l)
+    (length-right (lengthOf (countIn s)) (countIn s) (record { four = u .1; few = u .0; right = refl }))
 
 -- ---- of records end to end the first
 
@@ -115,4 +118,6 @@ broken-unreadable s z = ap (λ (r : HandRead). refusalIn (r .answer)) (broken-re
 
 -- and of the last one, "all that is left"
 pub broken-left : (s : List ℕ) → recordLength s ≡ 0 → refusalIn (readOf s .answer) ≡ 1
-broken-left s z = ap (λ (l : List ℕ). refusalIn (readOf l .answer)) (sym (take-all (length s) s (omega arith))) ∙ ap (λ (r : HandRead). refusalIn (r .answer)) (broken-read s (length s) z)
+broken-left s z =
+    ap (λ (l : List ℕ). refusalIn (readOf l .answer)) (sym (take-all (length s) s (omega arith)))
+    ∙ ap (λ (r : HandRead). refusalIn (r .answer)) (broken-read s (length s) z)

@@ -15,7 +15,8 @@ use Rattle.hand.specs.declared.Fields.{Fields}
 use Rattle.hand.specs.declared.Held.{Held}
 use Rattle.hand.specs.Refusals.{refusalOf}
 use Rattle.hand_record.specs.declared.Head.{Head}
-use Rattle.hand_record.specs.Record.{head, headBy, sixes, lengthOf, padOf, headOf, meldsOf, tilesOf, heldIn, paddingAfter, paddingOf, handIn, refusedWith, wrongLength, countIn, answerBy, answerIn, readOf}
+use Rattle.hand_record.specs.Record.{head, headBy, sixes, lengthOf, padOf, headOf, meldsOf, tilesOf, heldIn, paddingAfter, paddingOf, handIn}
+use Rattle.hand_record.specs.Record.{refusedWith, wrongLength, countIn, answerBy, answerIn, readOf}
 
 pub bool-true : (b : Bool) → (b ≡ false → ⊥) → b ≡ true
 bool-true true h = refl

@@ -11,7 +11,8 @@ use lib.Seq.{length-take-le, drop-drop, getD-take}
 use lib.Pow.{pow-pos}
 use Rattle.tiles.specs.laws.Below.{or-both}
 use Rattle.bits.specs.Bits.{pack, unpack, widthOf, eights, bitsOf, fill, EachBelow}
-use Rattle.bits.specs.laws.Pack.{FitIn, fieldsOf, unpack-fit, unpack-append, below-pack, below-take, length-unpack, sum-replicate, bytes-fields, fields-bytes, length-bitsOf, fit-cons, fit-nil, fit-all, fit-run, fit-append, app-inj}
+use Rattle.bits.specs.laws.Pack.{FitIn, fieldsOf, unpack-fit, unpack-append, below-pack, below-take, length-unpack, sum-replicate, bytes-fields, fields-bytes}
+use Rattle.bits.specs.laws.Pack.{length-bitsOf, fit-cons, fit-nil, fit-all, fit-run, fit-append, app-inj}
 use Rattle.hand.specs.declared.Fields.{Fields}
 use Rattle.hand.specs.declared.Held.{Held}
 use Rattle.hand.specs.declared.Hand.{Hand}
@@ -20,7 +21,8 @@ use Rattle.hand.specs.Refusals.{tooLarge, refusalOf, unwritable}
 use Rattle.hand_record.specs.declared.Head.{Head}
 use Rattle.hand_record.specs.declared.HandRead.{HandRead}
 use Rattle.hand_record.specs.declared.Answer.the-variants.{Sound, Refused}
-use Rattle.hand_record.specs.Record.{head, headBy, headList, headFor, sixes, lengthOf, padOf, headOf, meldsOf, tilesOf, heldIn, paddingAfter, paddingOf, handIn, refusedWith, soundAs, wrongLength, countIn, answerBy, answerIn, readOf, widths, valuesOf, recordOf}
+use Rattle.hand_record.specs.Record.{head, headBy, headList, headFor, sixes, lengthOf, padOf, headOf, meldsOf, tilesOf, heldIn, paddingAfter, paddingOf}
+use Rattle.hand_record.specs.Record.{handIn, refusedWith, soundAs, wrongLength, countIn, answerBy, answerIn, readOf, widths, valuesOf, recordOf}
 use Rattle.hand_record.specs.laws.Clean.{clean-of, of-clean, kinds-of, Accepted, accepted-of}
 use Rattle.hand_record.specs.laws.Fill.{take-fill, fill-past, fill-take, unused-of, zeros-of}
 use Rattle.hand_record.specs.laws.Read.{whole, RightLength, length-of, length-right}
@@ -138,7 +140,8 @@ module _ (s : List ℕ) (h : Hand) (y : ReadAs s h) where
       let m : ℕ = h .held .m in
       let b : List ℕ = bitsOf s in
       let em : take m (h .held .melds) ≡ meldsOf 25 m b = ap (take m) melds-are ∙ take-fill 4 m (meldsOf 25 m b) (melds-length m b) in
-      let et : take (13 - 3 * m) (h .held .concealed) ≡ tilesOf 25 m b = ap (take (13 - 3 * m)) tiles-are ∙ take-fill 13 (13 - 3 * m) (tilesOf 25 m b) (tiles-length m b) in
+      let et : take (13 - 3 * m) (h .held .concealed) ≡ tilesOf 25 m b =
+      ap (take (13 - 3 * m)) tiles-are ∙ take-fill 13 (13 - 3 * m) (tilesOf 25 m b) (tiles-length m b) in
       ap (λ (l : List ℕ). l ++ (take m (h .held .melds) ++ (take (13 - 3 * m) (h .held .concealed) ++ (0 ∷ [])))) fields-are
       ∙ ap (λ (l : List ℕ). unpack head b ++ (l ++ (take (13 - 3 * m) (h .held .concealed) ++ (0 ∷ [])))) em
       ∙ ap (λ (l : List ℕ). unpack head b ++ (meldsOf 25 m b ++ (l ++ (0 ∷ [])))) et
@@ -164,7 +167,8 @@ module _ (s : List ℕ) (h : Hand) (y : ReadAs s h) where
           let b : List ℕ = bitsOf s in
           let l = length-bitsOf s in
           let f = length-is in
-          let g : FitIn head (headList (headFor h)) = subst (λ (x : List ℕ). FitIn head x) (sym fields-are) (unpack-fit head b (below-pack (eights (length s)) s) (omega (arith, f .four))) in
+          let g : FitIn head (headList (headFor h)) =
+          subst (λ (x : List ℕ). FitIn head x) (sym fields-are) (unpack-fit head b (below-pack (eights (length s)) s) (omega (arith, f .four))) in
           rw (
             le-ltb 4 (h .held .m) (f .few),
             le-ltb 1 (h .fields .how) (omega (arith, g 0)),
@@ -234,8 +238,10 @@ module _ (h : Hand) (e : unwritable h ≡ 0) (lm : length (h .held .melds) ≡ 4
       let w3 : List ℕ = sixes k ++ (padOf m ∷ []) in
       let v3 : List ℕ = take k (h .held .concealed) ++ (0 ∷ []) in
       fit-append head (headList (headFor h)) (eights m ++ w3) (take m (h .held .melds) ++ v3) refl (fit-head h y)
-      (fit-append (eights m) (take m (h .held .melds)) w3 v3 (length-replicate m 8 ∙ sym em) (fit-run m 8 (take m (h .held .melds)) (omega arith) (below-take 256 m (h .held .melds) bm))
-      (fit-append (sixes k) (take k (h .held .concealed)) (padOf m ∷ []) (0 ∷ []) (length-replicate k 6 ∙ sym et) (fit-run k 6 (take k (h .held .concealed)) (omega arith) t)
+      (fit-append (eights m) (take m (h .held .melds)) w3 v3 (length-replicate m 8 ∙ sym em)
+      (fit-run m 8 (take m (h .held .melds)) (omega arith) (below-take 256 m (h .held .melds) bm))
+      (fit-append (sixes k) (take k (h .held .concealed)) (padOf m ∷ []) (0 ∷ []) (length-replicate k 6 ∙ sym et)
+      (fit-run k 6 (take k (h .held .concealed)) (omega arith) t)
       (fit-cons (padOf m) 0 [] [] (pow-pos (padOf m)) fit-nil)))
 
   same-fields : fieldsOf (widths (h .held .m)) (recordOf h) ≡ valuesOf h
@@ -256,11 +262,14 @@ module _ (h : Hand) (e : unwritable h ≡ 0) (lm : length (h .held .melds) ≡ 4
   parts-back b eb =
       let m : ℕ = h .held .m in
       let k : ℕ = 13 - 3 * m in
-      let q : unpack head b ++ (meldsOf 25 m b ++ (tilesOf 25 m b ++ (paddingOf m b ∷ []))) ≡ headList (headFor h) ++ (take m (h .held .melds) ++ (take k (h .held .concealed) ++ (0 ∷ []))) =
+      let q : unpack head b ++ (meldsOf 25 m b ++ (tilesOf 25 m b ++ (paddingOf m b ∷ [])))
+      ≡ headList (headFor h) ++ (take m (h .held .melds) ++ (take k (h .held .concealed) ++ (0 ∷ []))) =
       sym (unpack-widths m b) ∙ ap (unpack (widths m)) eb ∙ same-fields in
       let q1 = app-inj (unpack head b) (headList (headFor h)) _ _ refl q in
-      let q2 = app-inj (meldsOf 25 m b) (take m (h .held .melds)) _ _ (melds-length m b ∙ sym (length-take-le m (h .held .melds) (omega (arith, few)))) (q1 .1) in
-      let q3 = app-inj (tilesOf 25 m b) (take k (h .held .concealed)) _ _ (tiles-length m b ∙ sym (length-take-le k (h .held .concealed) (omega arith))) (q2 .1) in
+      let q2 = app-inj (meldsOf 25 m b) (take m (h .held .melds)) _ _ (melds-length m b ∙ sym (length-take-le m (h .held .melds) (omega (arith, few))))
+      (q1 .1) in
+      let q3 = app-inj (tilesOf 25 m b) (take k (h .held .concealed)) _ _ (tiles-length m b ∙ sym (length-take-le k (h .held .concealed) (omega arith)))
+      (q2 .1) in
       (q1 .0, q2 .0, q3 .0, ap (λ (l : List ℕ). getD l 0 0) (q3 .1))
 
   hand-back : h ≡ handIn (h .held .m) (bitsOf (recordOf h))
@@ -273,7 +282,8 @@ module _ (h : Hand) (e : unwritable h ≡ 0) (lm : length (h .held .melds) ≡ 4
       let em : fill 4 (meldsOf 25 m b) ≡ h .held .melds = ap (fill 4) (p .1) ∙ fill-take 4 m (h .held .melds) lm few (z .0) in
       let et : fill 13 (tilesOf 25 m b) ≡ h .held .concealed = ap (fill 13) (p .2) ∙ fill-take 13 (13 - 3 * m) (h .held .concealed) lc (omega arith) (z .1) in
       sym (hand-eq (handIn m b) h (ap (λ (x : Head). x .fields) (head-back (headFor h) b (p .0)))
-      (ap (λ (l : List ℕ). record { m = m; melds = l; concealed = fill 13 (tilesOf 25 m b) }) em ∙ ap (λ (l : List ℕ). record { m = m; melds = h .held .melds; concealed = l }) et))
+      (ap (λ (l : List ℕ). record { m = m; melds = l; concealed = fill 13 (tilesOf 25 m b) }) em
+      ∙ ap (λ (l : List ℕ). record { m = m; melds = h .held .melds; concealed = l }) et))
 
   pub same-hand : readOf (recordOf h) ≡ soundAs h
   same-hand =

@@ -42,7 +42,8 @@ module _ (x : Hand) (h : x .held .m ≤ 4) (hm : 4 ≤ length (x .held .melds)) 
   length-tiles = length-replicate (13 - 3 * (x .held .m)) 6 ∙ sym (length-take-le (13 - 3 * (x .held .m)) (x .held .concealed) (omega arith))
 
   parts : pack (widths (x .held .m)) (valuesOf x)
-      ≡ pack head (headList (headFor x)) ++ (pack (eights (x .held .m)) (take (x .held .m) (x .held .melds)) ++ (pack (sixes (13 - 3 * (x .held .m))) (take (13 - 3 * (x .held .m)) (x .held .concealed)) ++ digits (padOf (x .held .m)) 0))
+      ≡ pack head (headList (headFor x)) ++ (pack (eights (x .held .m)) (take (x .held .m) (x .held .melds))
+      ++ (pack (sixes (13 - 3 * (x .held .m))) (take (13 - 3 * (x .held .m)) (x .held .concealed)) ++ digits (padOf (x .held .m)) 0))
   unfolding widths valuesOf
   parts =
       let k : ℕ = 13 - 3 * (x .held .m) in
@@ -53,7 +54,8 @@ module _ (x : Hand) (h : x .held .m ≤ 4) (hm : 4 ≤ length (x .held .melds)) 
       let p3 : pack w3 v3 ≡ pack (sixes k) (take k (x .held .concealed)) ++ digits (padOf (x .held .m)) 0 =
       pack-append (sixes k) (padOf (x .held .m) ∷ []) (take k (x .held .concealed)) (0 ∷ []) length-tiles
       ∙ ap (λ (l : List ℕ). pack (sixes k) (take k (x .held .concealed)) ++ l) (append-nil (digits (padOf (x .held .m)) 0)) in
-      (p1 ∙ ap (λ (l : List ℕ). pack head (headList (headFor x)) ++ l) (p2 ∙ ap (λ (l : List ℕ). pack (eights (x .held .m)) (take (x .held .m) (x .held .melds)) ++ l) p3))
+      (p1 ∙ ap (λ (l : List ℕ). pack head (headList (headFor x)) ++ l)
+      (p2 ∙ ap (λ (l : List ℕ). pack (eights (x .held .m)) (take (x .held .m) (x .held .melds)) ++ l) p3))
 
   pub length-widths : length (widths (x .held .m)) ≡ length (valuesOf x)
   unfolding widths valuesOf
@@ -77,7 +79,8 @@ module _ (x : Hand) (h : x .held .m ≤ 4) (hm : 4 ≤ length (x .held .melds)) 
       let d : List ℕ = digits (padOf (x .held .m)) 0 in
       let f2 : b2 ≡ sets b1 25 b = rw (take-replicate (x .held .m) 4 8 h) at e2 in
       let f3 : b3 ≡ sets b2 (25 + 8 * (x .held .m)) c = rw (take-replicate k 13 6 (omega arith)) at e3 in
-      let lb : length b ≡ 8 * (x .held .m) = length-pack (eights (x .held .m)) (take (x .held .m) (x .held .melds)) length-melds ∙ sum-replicate (x .held .m) 8 in
+      let lb : length b ≡ 8 * (x .held .m) = length-pack (eights (x .held .m)) (take (x .held .m) (x .held .melds)) length-melds
+      ∙ sum-replicate (x .held .m) 8 in
       let lc : length c ≡ 6 * k = length-pack (sixes k) (take k (x .held .concealed)) length-tiles ∙ sum-replicate k 6 in
       e4
       ∙ ap (λ (y : List ℕ). sets y (25 + 8 * (x .held .m) + 6 * k) d)
@@ -96,10 +99,12 @@ unfolding unwritable
 few-melds h e =
     let f = h .fields in
     let p = or-both (tooLarge h) (unusedNotZero (h .held)) (cond-two (tooLarge h || unusedNotZero (h .held)) (refusalOf h 0) e) .0 in
-    ltb-false 4 (h .held .m) (first (ltb 4 (h .held .m)) (ltb 1 (f .how)) (ltb 3 (f .winner)) (ltb 3 (f .discarder)) (ltb 3 (f .riichi)) (ltb 7 (f .situation)) p)
+    ltb-false 4 (h .held .m) (first (ltb 4 (h .held .m)) (ltb 1 (f .how)) (ltb 3 (f .winner)) (ltb 3 (f .discarder)) (ltb 3 (f .riichi))
+    (ltb 7 (f .situation)) p)
   where
     first : (a b c d u v : Bool) → a || b || c || d || u || v ≡ false → a ≡ false
-    first a b c d u v q = or-both a b (or-both (a || b) c (or-both (a || b || c) d (or-both (a || b || c || d) u (or-both (a || b || c || d || u) v q .0) .0) .0) .0) .0
+    first a b c d u v q =
+        or-both a b (or-both (a || b) c (or-both (a || b || c) d (or-both (a || b || c || d) u (or-both (a || b || c || d || u) v q .0) .0) .0) .0) .0
 
 -- what a writer answers, and what it leaves
 module _ (h : Hand) (buf : List ℕ) where
@@ -120,7 +125,8 @@ module _ (h : Hand) (buf : List ℕ) where
   kept-by r e g = (rw (e, lt-ltb 0 r g), rw (e, lt-ltb 0 r g))
 
   pub wrote-by : writeRefusal h buf ≡ 0
-      → (_≡_ {A = Written} (record { refusal = 0; len = lengthOf (h .held .m) }) (writtenOf h buf)) × (recordOf h ++ drop (lengthOf (h .held .m)) buf ≡ bufferOf h buf)
+      → (_≡_ {A = Written} (record { refusal = 0; len = lengthOf (h .held .m) }) (writtenOf h buf))
+      × (recordOf h ++ drop (lengthOf (h .held .m)) buf ≡ bufferOf h buf)
   unfolding writtenOf bufferOf
   wrote-by e = (rw e, rw e)
 

@@ -8,4 +8,5 @@ chi-without-run-spec =
     tie.close
     (tie.spec
     (λ c. search needs) (λ c κs. search needs) (λ c. search needs) (λ c κs. search needs) (λ c. search needs)
-    (λ c κs. search needs) (λ c. search needs) (λ c κs. search needs) (λ c. rw (c .bad-chi4 .ensures, c .before .bad-chi3 .ensures, c .before .before .bad-chi2 .ensures, c .before .before .before .bad-chi .ensures)))
+    (λ c κs. search needs) (λ c. search needs) (λ c κs. search needs)
+    (λ c. rw (c .bad-chi4 .ensures, c .before .bad-chi3 .ensures, c .before .before .bad-chi2 .ensures, c .before .before .before .bad-chi .ensures)))

@@ -87,7 +87,8 @@ not-four c = sym (is-four (c .before)) ∙ c .if3 .left
 is-situated : (c : tie.After-wrong-situation) → c .wrong-situation .result ≡ wrongSituation (start (first (second (c .before .before))) .args .h)
 is-situated c =
     let r = c .before .before .before .before .record-tally in
-    situated _ (r .result) (c .wrong-situation .result) (r .ensures) (winning-kind _ _ (not-two (first (second (c .before .before))))) (c .wrong-situation .ensures)
+    situated _ (r .result) (c .wrong-situation .result) (r .ensures) (winning-kind _ _ (not-two (first (second (c .before .before)))))
+    (c .wrong-situation .ensures)
 
 pub refusal-spec : {M : Type 1} → statement M
 refusal-spec =

@@ -37,11 +37,13 @@ unfolding isWinner
 winner-other [] r e seat w = absurd (false≢true w)
 winner-other (s ∷ ss) r e seat w = go (winner-other ss (r .1) (rons-first s ss e .2) seat) (eqb (winnerOf s) seat) refl w
   where
-    later : (ts : List (List ℕ)) → conflicts (handFor s .fields) ts ≡ false → (isWinner ts seat ≡ true → Other (discarderOf ts) seat) → isWinner ts seat ≡ true → Other (handFor s .fields .discarder) seat
+    later : (ts : List (List ℕ)) → conflicts (handFor s .fields) ts ≡ false → (isWinner ts seat ≡ true → Other (discarderOf ts) seat)
+        → isWinner ts seat ≡ true → Other (handFor s .fields .discarder) seat
     later [] c f u = absurd (false≢true u)
     later (t ∷ ts) c f u = rw (next-discarder (handFor s .fields) t ts c) (f u)
 
-    go : (isWinner ss seat ≡ true → Other (discarderOf ss) seat) → (b : Bool) → eqb (winnerOf s) seat ≡ b → b || isWinner ss seat ≡ true → Other (handFor s .fields .discarder) seat
+    go : (isWinner ss seat ≡ true → Other (discarderOf ss) seat) → (b : Bool) → eqb (winnerOf s) seat ≡ b → b || isWinner ss seat ≡ true
+        → Other (handFor s .fields .discarder) seat
     go f true q u =
         let b = read-bounds s (r .0) in
         let z = eqb-true (winnerOf s) seat q in
@@ -74,7 +76,8 @@ module _ (d : ℕ) (h : d ≤ 3) where
     first-least : (seat : ℕ) → wins seat ≡ true → turnsAfter d (firstAfter d wins) ≤ turnsAfter d seat
     first-least seat w = go (wins ((d + 1) % 4)) (wins ((d + 2) % 4)) refl refl
       where
-        go : (p q : Bool) → wins ((d + 1) % 4) ≡ p → wins ((d + 2) % 4) ≡ q → turnsAfter d (cond p ((d + 1) % 4) (cond q ((d + 2) % 4) ((d + 3) % 4))) ≤ turnsAfter d seat
+        go : (p q : Bool) → wins ((d + 1) % 4) ≡ p → wins ((d + 2) % 4) ≡ q
+            → turnsAfter d (cond p ((d + 1) % 4) (cond q ((d + 2) % 4) ((d + 3) % 4))) ≤ turnsAfter d seat
         go true q x y = omega (arith, turns-1, from-1 seat (each seat w))
         go false true x y =
             let n : seat ≡ (d + 1) % 4 → ⊥ = λ z. false≢true (sym x ∙ ap wins (sym z) ∙ w) in

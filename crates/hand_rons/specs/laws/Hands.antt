@@ -177,7 +177,8 @@ not-on-one-tile at (r ∷ s ∷ t ∷ []) l m h =
     let f = handFor r .fields in
     let g = handFor s .fields in
     let k = handFor t .fields in
-    rw (h 0 (omega arith), h 1 (omega arith), h 2 (omega arith)) (rons-3 (not (isRon f)) (conflict f g) (conflict f k) (not (isRon g)) (conflict g k) (not (isRon k)))
+    rw (h 0 (omega arith), h 1 (omega arith), h 2 (omega arith))
+    (rons-3 (not (isRon f)) (conflict f g) (conflict f k) (not (isRon g)) (conflict g k) (not (isRon k)))
 not-on-one-tile at (r ∷ s ∷ t ∷ u ∷ rs) l m h = absurd (omega arith)
 
 -- of n records, by the first three places

@@ -14,7 +14,8 @@ use Rattle.hand_record.specs.declared.Answer.the-variants.{Refused}
 use Rattle.hand_record.specs.declared.HandRead.{HandRead}
 use Rattle.hand_record.specs.Record.{lengthOf, countIn, refusalIn, readOf}
 use Rattle.hand_record.specs.laws.Bounds.{answer-is, other-seat, read-bounds, refused-number}
-use Rattle.hand_rons.specs.Records.{handFor, recordsOf, firstUnreadable, conflict, conflicts, notOnOneTile, isWinner, discarderOf, firstAfter, firstWinner}
+use Rattle.hand_rons.specs.Records.{handFor, recordsOf, firstUnreadable, conflict, conflicts, notOnOneTile, isWinner, discarderOf, firstAfter}
+use Rattle.hand_rons.specs.Records.{firstWinner}
 
 -- ---- records that read
 
@@ -57,7 +58,8 @@ abbrev pub winnerOf : List ℕ → ℕ
 winnerOf s = handFor s .fields .winner
 
 -- the first of them: by ron, and with no winner, discarder or tile of the others against it
-pub rons-first : (s : List ℕ) (ss : List (List ℕ)) → notOnOneTile (s ∷ ss) ≡ false → (isRon (handFor s .fields) ≡ true) × (conflicts (handFor s .fields) ss ≡ false) × (notOnOneTile ss ≡ false)
+pub rons-first : (s : List ℕ) (ss : List (List ℕ)) → notOnOneTile (s ∷ ss) ≡ false
+    → (isRon (handFor s .fields) ≡ true) × (conflicts (handFor s .fields) ss ≡ false) × (notOnOneTile ss ≡ false)
 unfolding notOnOneTile
 rons-first s ss e =
     let p = or-both (not (isRon (handFor s .fields)) || conflicts (handFor s .fields) ss) (notOnOneTile ss) e in

@@ -42,8 +42,12 @@ pack-hand-spec =
     let a = c .before .before .before .before .before .before .before .before .before .before .before .before .before in
     let m = a .args .h .held .m in
     let l = length-take-le m (a .args .h .held .melds) (omega (arith, melds-4 a, a .pre)) in
-    rw (take-replicate m 4 8 (a .pre))
-    (length-replicate m 8 ∙ sym l, below-replicate 9 m 8 (omega arith), omega (arith, sum-replicate m 8, c .before .before .before .before .pack-into .kept, a .pre)))
+    rw (take-replicate m 4 8 (a .pre)) (
+      length-replicate m 8 ∙ sym l,
+      below-replicate 9 m 8 (omega arith),
+      omega
+          (arith, sum-replicate m 8, c .before .before .before .before .pack-into .kept, a .pre),
+    ))
     (λ c. search needs)
     (λ c.
     let a = c .before .before .before .before .before .before .before .before .before .before .before .before .before .before .before .before in
@@ -59,12 +63,28 @@ pack-hand-spec =
     let a = c .before .before .before .before .before .before .before .before .before .before .before .before .before .before .before .before .before .before in
     let k = 13 - 3 * a .args .h .held .m in
     let l = length-take-le k (a .args .h .held .concealed) (omega (arith, tiles-13 a)) in
-    rw (take-replicate k 13 6 (omega arith))
-    (length-replicate k 6 ∙ sym l, below-replicate 9 k 6 (omega arith), omega (arith, sum-replicate k 6, c .before .before .before .before .pack-into2 .kept, c .before .before .before .before .before .before .before .before .before .pack-into .kept)))
+    rw (take-replicate k 13 6 (omega arith)) (
+      length-replicate k 6 ∙ sym l,
+      below-replicate 9 k 6 (omega arith),
+      omega (
+        arith,
+        sum-replicate k 6,
+        c .before .before .before .before .pack-into2 .kept,
+        c .before .before .before .before .before .before .before .before .before .pack-into .kept,
+      ),
+    ))
     (λ c. search needs) (λ c. search needs) (λ c. search needs) (λ c. search needs) (λ c. search needs)
     (λ c κs.
-    let w = whole (c .before .before .before .before .before .before .before .before .before .before .before .before .before .before .before .before .before .before .before .before .before .args .h .held .m) (c .before .before .before .before .before .before .before .before .before .before .before .before .before .before .before .before .before .before .before .before .before .pre) in
-    (w .1, omega (arith, w, c .before .before .pack-into3 .kept, c .before .before .before .before .before .before .before .pack-into2 .kept, c .before .before .before .before .before .before .before .before .before .before .before .before .pack-into .kept)))
+    let w = whole (c .before .before .before .before .before .before .before .before .before .before .before .before .before .before .before .before .before .before .before .before .before .args .h .held .m) (c .before .before .before .before .before .before .before .before .before .before .before .before .before .before .before .before .before .before .before .before .before .pre) in (
+      w .1,
+      omega (
+        arith,
+        w,
+        c .before .before .pack-into3 .kept,
+        c .before .before .before .before .before .before .before .pack-into2 .kept,
+        c .before .before .before .before .before .before .before .before .before .before .before .before .pack-into .kept,
+      ),
+    ))
     (λ c.
     let a = c .before .before .before .before .before .before .before .before .before .before .before .before .before .before .before .before .before .before .before .before .before .before .before in
     let p1 = c .before .before .before .before .before .before .before .before .before .before .before .before .before .before .pack-into in

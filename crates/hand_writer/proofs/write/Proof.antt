@@ -55,13 +55,23 @@ write-spec =
     let p = pack (widths (h .held .m)) (valuesOf h) in
     let s = e .before .before .before in
     let lp = length-packed h (few e) (omega (arith, melds-4 s)) (omega (arith, tiles-13 s)) in
-    rw (c .before .before .before .pack-hand .ensures, take-replicate n 13 8 (w .2))
-    (omega (arith, length-replicate {A = ℕ} n 8), below-replicate 9 n 8 (omega arith), omega (arith, sum-replicate n 8, length-fill 104 p (omega (arith, lp, w))), below-fill 2 104 p (below-pack (widths (h .held .m)) (valuesOf h))))
+    rw (c .before .before .before .pack-hand .ensures, take-replicate n 13 8 (w .2)) (
+      omega (arith, length-replicate {A = ℕ} n 8),
+      below-replicate 9 n 8 (omega arith),
+      omega
+          (arith, sum-replicate n 8, length-fill 104 p (omega (arith, lp, w))),
+      below-fill 2 104 p (below-pack (widths (h .held .m)) (valuesOf h)),
+    ))
     (λ c. search needs)
     (λ c.
     let e = c .before .before .before .before .before .before .before .before .before in
     let s = e .before .before .before in
     let a = s .args in
-    let w = wrote-by (a .h) (a .buf .now) (refusal-none (a .h) (a .buf .now) (accepted e) (c .before .before .before .before .before .before .before .if2 .left)) in
-    let u = c .before .before .unpack-into in
-    (w .0, stored (a .h) (a .buf .now) (c .before .before .before .before .before .before .pack-hand .result) (u .last .1 .1 .1 .0) (few e) (omega (arith, melds-4 s)) (omega (arith, tiles-13 s)) (c .before .before .before .before .before .before .before .if2 .left) (c .before .before .before .before .before .before .pack-hand .ensures) (u .ensures) ∙ w .1)))
+    let w = wrote-by (a .h) (a .buf .now) (refusal-none (a .h) (a .buf .now) (accepted e)
+    (c .before .before .before .before .before .before .before .if2 .left)) in
+    let u = c .before .before .unpack-into in (
+      w .0,
+      stored (a .h) (a .buf .now) (c .before .before .before .before .before .before .pack-hand .result) (u .last .1 .1 .1 .0) (few e)
+          (omega (arith, melds-4 s)) (omega (arith, tiles-13 s)) (c .before .before .before .before .before .before .before .if2 .left)
+          (c .before .before .before .before .before .before .pack-hand .ensures) (u .ensures) ∙ w .1,
+    )))

@@ -1,4 +1,5 @@
--- `handset::hb_correct_multi_ron` meets its contract: it is the function of `proofs/Lent.antt` with a number and bytes, over `game_bookings::correct_multi_ron`.
+-- `handset::hb_correct_multi_ron` meets its contract: it is the function of `proofs/Lent.antt` with a number and bytes, over
+-- `game_bookings::correct_multi_ron`.
 use mathlib.Core.List.{[], _∷_}
 use Rattle.position.specs.Booking.{result, multiRon}
 use Rattle.game.specs.Game.{correction}

@@ -13,4 +13,5 @@ use Rattle.handset.proofs.hb_pao.Code.{env, routine, unfolded}
 
 pub hb-pao-spec : {M : Type 1} → statement M
 unfolding routine
-hb-pao-spec = lent-meets game (number ∷ number ∷ number ∷ []) #callee (λ g holder feeder yaku. Books g (booking (pao holder feeder yaku))) #self env unfolded met
+hb-pao-spec =
+    lent-meets game (number ∷ number ∷ number ∷ []) #callee (λ g holder feeder yaku. Books g (booking (pao holder feeder yaku))) #self env unfolded met

@@ -12,7 +12,8 @@ returns-2 c =
     let t = a .before in
     let k = t .before in
     let e = k .before .before in
-    correction-by-header (e .before .before .args .s .now) (omega (arith, e .if1 .left)) _ _ _ (k .kind .ensures) (a .argument .ensures) (t .if2 .taken) (c .correction-length .ensures)
+    correction-by-header (e .before .before .args .s .now) (omega (arith, e .if1 .left)) _ _ _ (k .kind .ensures) (a .argument .ensures) (t .if2 .taken)
+    (c .correction-length .ensures)
 
 returns-3 : tie.Need-returns-3
 returns-3 c =
@@ -20,7 +21,8 @@ returns-3 c =
     let t = a .before in
     let k = t .before in
     let e = k .before .before in
-    length-by-header (e .before .before .args .s .now) (omega (arith, e .if1 .left)) _ _ _ (k .kind .ensures) (a .argument2 .ensures) (t .if2 .left) (c .length-by .ensures)
+    length-by-header (e .before .before .args .s .now) (omega (arith, e .if1 .left)) _ _ _ (k .kind .ensures) (a .argument2 .ensures) (t .if2 .left)
+    (c .length-by .ensures)
 
 pub entry-length-spec : {M : Type 1} → statement M
 entry-length-spec =

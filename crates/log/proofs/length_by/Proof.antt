@@ -7,7 +7,9 @@ use Rattle.log.proofs.length_by.Statement.{statement}
 use Rattle.log.proofs.length_by.Tie as tie
 
 returns-2 : tie.Need-returns-2
-returns-2 c = let a = c .before .before .before .before .args in c .multi-ron-length .ensures ∙ sym (length-multi-ron (a .argument) (a .rest .now) (a .kind) (c .before .if2 .taken))
+returns-2 c =
+    let a = c .before .before .before .before .args in c .multi-ron-length .ensures
+    ∙ sym (length-multi-ron (a .argument) (a .rest .now) (a .kind) (c .before .if2 .taken))
 
 returns-3 : tie.Need-returns-3
 returns-3 c =

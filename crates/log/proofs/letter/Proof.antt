@@ -10,7 +10,13 @@ letter-spec =
     (λ c. rw (eq-eqb _ 0 (c .if1 .taken)))
     (λ c. rw (ne-eqb _ 0 (c .before .if1 .left), eq-eqb _ 1 (c .if2 .taken)))
     (λ c. rw (ne-eqb _ 0 (c .before .before .if1 .left), ne-eqb _ 1 (c .before .if2 .left), eq-eqb _ 2 (c .if3 .taken)))
-    (λ c. let b = c .before .before in rw (ne-eqb _ 0 (b .before .if1 .left), ne-eqb _ 1 (b .if2 .left), ne-eqb _ 2 (c .before .if3 .left), eq-eqb _ 4 (c .if4 .taken)))
+    (λ c. let b = c .before .before in rw (
+      ne-eqb _ 0 (b .before .if1 .left),
+      ne-eqb _ 1 (b .if2 .left),
+      ne-eqb _ 2 (c .before .if3 .left),
+      eq-eqb _ 4
+          (c .if4 .taken),
+    ))
     (λ c.
     let d = c .before in
     let b = d .before .before in
@@ -18,8 +24,24 @@ letter-spec =
     (λ c.
     let d = c .before .before in
     let b = d .before .before in
-    rw (ne-eqb _ 0 (b .before .if1 .left), ne-eqb _ 1 (b .if2 .left), ne-eqb _ 2 (d .before .if3 .left), ne-eqb _ 4 (d .if4 .left), ne-eqb _ 5 (c .before .if5 .left), eq-eqb _ 6 (c .if6 .taken)))
+    rw (
+      ne-eqb _ 0 (b .before .if1 .left),
+      ne-eqb _ 1 (b .if2 .left),
+      ne-eqb _ 2 (d .before .if3 .left),
+      ne-eqb _ 4 (d .if4 .left),
+      ne-eqb _ 5
+          (c .before .if5 .left),
+      eq-eqb _ 6 (c .if6 .taken),
+    ))
     (λ c.
     let d = c .before .before in
     let b = d .before .before in
-    rw (ne-eqb _ 0 (b .before .if1 .left), ne-eqb _ 1 (b .if2 .left), ne-eqb _ 2 (d .before .if3 .left), ne-eqb _ 4 (d .if4 .left), ne-eqb _ 5 (c .before .if5 .left), ne-eqb _ 6 (c .if6 .left))))
+    rw (
+      ne-eqb _ 0 (b .before .if1 .left),
+      ne-eqb _ 1 (b .if2 .left),
+      ne-eqb _ 2 (d .before .if3 .left),
+      ne-eqb _ 4 (d .if4 .left),
+      ne-eqb _ 5
+          (c .before .if5 .left),
+      ne-eqb _ 6 (c .if6 .left),
+    )))

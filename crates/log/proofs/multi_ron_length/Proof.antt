@@ -13,7 +13,8 @@ returns-3 c =
     let r = c .before in
     let e = r .before in
     let a = e .before .before .before .args in
-    c .with-header .ensures ∙ ap withHeader (r .records-length .ensures) ∙ sym (multi-ron-records (a .argument) (a .rest .now) (e .before .if1 .left) (e .if2 .left))
+    c .with-header .ensures ∙ ap withHeader (r .records-length .ensures)
+    ∙ sym (multi-ron-records (a .argument) (a .rest .now) (e .before .if1 .left) (e .if2 .left))
 
 pub multi-ron-length-spec : {M : Type 1} → statement M
 multi-ron-length-spec =
@@ -22,5 +23,6 @@ multi-ron-length-spec =
     (λ c. let a = c .before .before .args in sym (multi-ron-none (a .argument) (a .rest .now) (c .if1 .taken)))
     (λ c. let a = c .before .before .before .args in sym (multi-ron-over (a .argument) (a .rest .now) (c .if2 .taken)))
     (λ c κs. search needs)
-    (λ c. let a = c .before .before .before .before .args in omega (arith, c .records-length .ensures, c .before .if2 .left, records-inside (a .argument) (a .rest .now)))
+    (λ c. let a = c .before .before .before .before .args in
+    omega (arith, c .records-length .ensures, c .before .if2 .left, records-inside (a .argument) (a .rest .now)))
     returns-3)

@@ -15,7 +15,8 @@ abbrev left : tie.After-entry-length → List ℕ
 left k = drop (k .before .before .before .before .args .at) (k .before .before .before .before .args .log .now)
 
 length-is : (k : tie.After-entry-length) → k .entry-length .result ≡ entryLength (left k)
-length-is k = k .entry-length .ensures ∙ ap entryLength (from-on (k .before .before .before .before .args .at) (k .before .before .before .before .args .log .now))
+length-is k =
+    k .entry-length .ensures ∙ ap entryLength (from-on (k .before .before .before .before .args .at) (k .before .before .before .before .args .log .now))
 
 pub next-entry-spec : {M : Type 1} → statement M
 next-entry-spec =
@@ -27,8 +28,20 @@ next-entry-spec =
     (λ c. search needs)
     (λ c. search needs)
     (λ c κs. search needs)
-    (λ c. omega (arith, length-is c, length-inside (left c), length-drop (c .before .before .before .before .args .at) (c .before .before .before .before .args .log .now)))
+    (λ c. omega (
+      arith,
+      length-is c,
+      length-inside (left c),
+      length-drop (c .before .before .before .before .args .at)
+          (c .before .before .before .before .args .log .now),
+    ))
     (λ c. search needs)
     (λ c. search needs)
-    (λ c. omega (arith, length-is c, length-inside (left c), length-drop (c .before .before .before .before .args .at) (c .before .before .before .before .args .log .now)))
+    (λ c. omega (
+      arith,
+      length-is c,
+      length-inside (left c),
+      length-drop (c .before .before .before .before .args .at)
+          (c .before .before .before .before .args .log .now),
+    ))
     (λ c. part-is (c .before .before .before .before .before .args .log .now) (c .before .before .before .before .before .args .at) _ (length-is (c .before))))

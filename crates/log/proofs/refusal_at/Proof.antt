@@ -8,8 +8,10 @@ use Rattle.log.specs.laws.Next.{from-on}
 use Rattle.log.proofs.refusal_at.Statement.{statement}
 use Rattle.log.proofs.refusal_at.Tie as tie
 
-length-is : (k : tie.After-entry-length) → k .entry-length .result ≡ entryLength (drop (k .before .before .before .before .args .at) (k .before .before .before .before .args .log .now))
-length-is k = k .entry-length .ensures ∙ ap entryLength (from-on (k .before .before .before .before .args .at) (k .before .before .before .before .args .log .now))
+length-is : (k : tie.After-entry-length) → k .entry-length .result
+    ≡ entryLength (drop (k .before .before .before .before .args .at) (k .before .before .before .before .args .log .now))
+length-is k =
+    k .entry-length .ensures ∙ ap entryLength (from-on (k .before .before .before .before .args .at) (k .before .before .before .before .args .log .now))
 
 pub refusal-at-spec : {M : Type 1} → statement M
 refusal-at-spec =
@@ -20,5 +22,7 @@ refusal-at-spec =
     (λ c. search needs)
     (λ c. search needs)
     (λ c κs. search needs)
-    (λ c. sym (refusal-bad (c .before .before .before .before .before .args .log .now) (c .before .before .before .before .before .args .at) (c .before .before .before .if1 .left) (sym (length-is (c .before)) ∙ c .if2 .taken)))
-    (λ c. sym (refusal-entry (c .before .before .before .before .before .args .log .now) (c .before .before .before .before .before .args .at) (c .before .before .before .if1 .left) (λ z. c .if2 .left (length-is (c .before) ∙ z)))))
+    (λ c. sym (refusal-bad (c .before .before .before .before .before .args .log .now) (c .before .before .before .before .before .args .at)
+    (c .before .before .before .if1 .left) (sym (length-is (c .before)) ∙ c .if2 .taken)))
+    (λ c. sym (refusal-entry (c .before .before .before .before .before .args .log .now) (c .before .before .before .before .before .args .at)
+    (c .before .before .before .if1 .left) (λ z. c .if2 .left (length-is (c .before) ∙ z)))))

@@ -18,7 +18,8 @@ pub win-whole : entryLength (16 ∷ line1 .bytes) ≡ 14
 unfolding headOf recordLength lengthBy entryLength
 win-whole = refl
 
-pub refusals : (refusalAt (16 ∷ take 12 (line1 .bytes)) 0 ≡ 14) × (refusalAt (17 ∷ line1 .bytes) 0 ≡ 14) × (refusalAt (16 ∷ 0 ∷ 0 ∷ 2 ∷ 128 ∷ drop 4 (line1 .bytes)) 0 ≡ 14) × (refusalAt (112 ∷ []) 0 ≡ 14)
+pub refusals : (refusalAt (16 ∷ take 12 (line1 .bytes)) 0 ≡ 14) × (refusalAt (17 ∷ line1 .bytes) 0 ≡ 14)
+    × (refusalAt (16 ∷ 0 ∷ 0 ∷ 2 ∷ 128 ∷ drop 4 (line1 .bytes)) 0 ≡ 14) × (refusalAt (112 ∷ []) 0 ≡ 14)
 unfolding headOf recordLength lengthBy entryLength refusalAt
 refusals = (refl, refl, refl, refl)
 
@@ -27,7 +28,8 @@ pub multi-ron-whole : entryLength (66 ∷ line6 .bytes ++ line1 .bytes ++ 1 ∷ 
 unfolding headOf recordLength hasBroken spanOf recordsLength lengthBy entryLength
 multi-ron-whole = refl
 
-pub multi-ron-refusals : (refusalAt (64 ∷ line6 .bytes) 0 ≡ 14) × (refusalAt (68 ∷ line6 .bytes ++ line6 .bytes ++ line6 .bytes ++ line6 .bytes) 0 ≡ 14) × (refusalAt (66 ∷ line6 .bytes ++ take 12 (line1 .bytes)) 0 ≡ 14) × (refusalAt (66 ∷ line6 .bytes ++ 0 ∷ 0 ∷ 2 ∷ 128 ∷ drop 4 (line1 .bytes)) 0 ≡ 14)
+pub multi-ron-refusals : (refusalAt (64 ∷ line6 .bytes) 0 ≡ 14) × (refusalAt (68 ∷ line6 .bytes ++ line6 .bytes ++ line6 .bytes ++ line6 .bytes) 0 ≡ 14)
+    × (refusalAt (66 ∷ line6 .bytes ++ take 12 (line1 .bytes)) 0 ≡ 14) × (refusalAt (66 ∷ line6 .bytes ++ 0 ∷ 0 ∷ 2 ∷ 128 ∷ drop 4 (line1 .bytes)) 0 ≡ 14)
 unfolding headOf recordLength hasBroken spanOf recordsLength lengthBy entryLength refusalAt
 multi-ron-refusals = (refl, refl, refl, refl)
 
@@ -39,7 +41,8 @@ example-pao = refl
 pub example-fields : (holderIn (152 ∷ []) ≡ 2) × (feederIn (152 ∷ []) ≡ 1) × (yakuIn (152 ∷ []) ≡ 29)
 example-fields = (refl, refl, refl)
 
-pub pao-refusals : (refusalAt (80 ∷ []) 0 ≡ 14) × (refusalAt (81 ∷ 152 ∷ []) 0 ≡ 14) × (refusalAt (80 ∷ 153 ∷ []) 0 ≡ 14) × (refusalAt (80 ∷ 154 ∷ []) 0 ≡ 14) × (refusalAt (80 ∷ 156 ∷ []) 0 ≡ 14)
+pub pao-refusals : (refusalAt (80 ∷ []) 0 ≡ 14) × (refusalAt (81 ∷ 152 ∷ []) 0 ≡ 14) × (refusalAt (80 ∷ 153 ∷ []) 0 ≡ 14) × (refusalAt (80 ∷ 154 ∷ []) 0 ≡ 14)
+    × (refusalAt (80 ∷ 156 ∷ []) 0 ≡ 14)
 unfolding recordLength lengthBy entryLength refusalAt
 pao-refusals = (refl, refl, refl, refl, refl)
 
@@ -48,6 +51,7 @@ pub example-corrections : (entryLength (96 ∷ 50 ∷ 1 ∷ []) ≡ 2) × (entry
 unfolding headOf recordLength lengthBy entryLength
 example-corrections = (refl, refl)
 
-pub correction-refusals : (refusalAt (96 ∷ []) 0 ≡ 14) × (refusalAt (97 ∷ 48 ∷ []) 0 ≡ 14) × (refusalAt (96 ∷ 2 ∷ []) 0 ≡ 14) × (refusalAt (96 ∷ 80 ∷ 152 ∷ []) 0 ≡ 14) × (refusalAt (96 ∷ 96 ∷ 48 ∷ []) 0 ≡ 14) × (refusalAt (96 ∷ 16 ∷ take 12 (line1 .bytes)) 0 ≡ 14)
+pub correction-refusals : (refusalAt (96 ∷ []) 0 ≡ 14) × (refusalAt (97 ∷ 48 ∷ []) 0 ≡ 14) × (refusalAt (96 ∷ 2 ∷ []) 0 ≡ 14)
+    × (refusalAt (96 ∷ 80 ∷ 152 ∷ []) 0 ≡ 14) × (refusalAt (96 ∷ 96 ∷ 48 ∷ []) 0 ≡ 14) × (refusalAt (96 ∷ 16 ∷ take 12 (line1 .bytes)) 0 ≡ 14)
 unfolding headOf recordLength lengthBy entryLength refusalAt
 correction-refusals = (refl, refl, refl, refl, refl, refl)

@@ -12,7 +12,8 @@ use Rattle.tiles.specs.laws.Below.{or-both, and-true}
 use Rattle.hand_record.specs.Record.{countIn, lengthOf}
 use Rattle.hand_record.specs.Lengths.{isBroken, recordLength}
 use Rattle.hand_record.specs.laws.Lengths.{unbroken, broken-or-whole}
-use Rattle.log.specs.Kinds.{kindIn, argumentIn, hasBroken, spanOf, recordsLength, isOtherForm, withHeader, winLength, multiRonLength, paoLength, lengthBy, correctionLength, entryLength}
+use Rattle.log.specs.Kinds.{kindIn, argumentIn, hasBroken, spanOf, recordsLength, isOtherForm, withHeader, winLength, multiRonLength, paoLength}
+use Rattle.log.specs.Kinds.{lengthBy, correctionLength, entryLength}
 use Rattle.log.specs.Log.{refusalAt}
 use Rattle.log.specs.laws.Records.{all-unbroken, record-again, records-again}
 use Rattle.log.specs.laws.Refusals.{bad-length}
@@ -48,7 +49,8 @@ module _ (a : ℕ) (rest : List ℕ) where
   win-broken e = rw e (no-length (eqb a 0))
 
   pub win-again : a ≡ 0 → isBroken rest ≡ false → let n = lengthOf (countIn rest) in winLength a (take n rest) ≡ n + 1
-  win-again z e = let n = lengthOf (countIn rest) in rw (eq-eqb a 0 z, record-again rest n e (omega arith)) (with-header-some n (λ z. omega (arith, z, unbroken rest e)))
+  win-again z e =
+      let n = lengthOf (countIn rest) in rw (eq-eqb a 0 z, record-again rest n e (omega arith)) (with-header-some n (λ z. omega (arith, z, unbroken rest e)))
 
   -- two or three rons
   pub multi-ron-none : a ≡ 0 → multiRonLength a rest ≡ 0
@@ -102,8 +104,15 @@ module _ (a : ℕ) (rest : List ℕ) where
   pub length-over : (k : ℕ) → 5 < k → lengthBy k a rest ≡ 0
   unfolding lengthBy
   length-over k h =
-      simp
-      (ne-eqb k 0 (λ e. omega arith), ne-eqb k 1 (λ e. omega arith), ne-eqb k 2 (λ e. omega arith), ne-eqb k 3 (λ e. omega arith), ne-eqb k 4 (λ e. omega arith), ne-eqb k 5 (λ e. omega arith))
+      simp (
+        ne-eqb k 0 (λ e. omega arith),
+        ne-eqb k 1 (λ e. omega arith),
+        ne-eqb k 2 (λ e. omega arith),
+        ne-eqb k 3 (λ e. omega arith),
+        ne-eqb k 4
+            (λ e. omega arith),
+        ne-eqb k 5 (λ e. omega arith),
+      )
 
   pub length-plain : (k : ℕ) → (k ≡ 1 → ⊥) → k ≤ 3 → lengthBy k a rest ≡ 1
   unfolding lengthBy
@@ -146,7 +155,8 @@ module _ (a : ℕ) (rest : List ℕ) where
   correction-over h = simp (lt-leb (kindIn rest) 4 h, and-false (leb 1 (kindIn rest)), and-false (eqb a 0))
 
   pub correction-inside : a ≡ 0 → 1 ≤ kindIn rest → kindIn rest ≤ 4 → correctionLength a rest ≡ withHeader (entryLength rest)
-  correction-inside e l h = simp (length-is rest (kind-some rest l) (λ k. omega (arith, h, k)), eq-eqb a 0 e, le-leb 1 (kindIn rest) l, le-leb (kindIn rest) 4 h)
+  correction-inside e l h =
+      simp (length-is rest (kind-some rest l) (λ k. omega (arith, h, k)), eq-eqb a 0 e, le-leb 1 (kindIn rest) l, le-leb (kindIn rest) 4 h)
 
   correction-bad : entryLength rest ≡ 0 → correctionLength a rest ≡ 0
   correction-bad z = go (eqb a 0 && (leb 1 (kindIn rest) && leb (kindIn rest) 4)) refl
@@ -183,9 +193,12 @@ pub data Told (k a : ℕ) (rest : List ℕ) (n : ℕ) : Type 0 where
 told-win : (a : ℕ) (rest : List ℕ) → Told 1 a rest (winLength a rest)
 told-win a rest = go (eqb a 0) refl
   where
-    both : a ≡ 0 → ((isBroken rest ≡ true) × (recordLength rest ≡ 0)) ⊎ ((isBroken rest ≡ false) × (recordLength rest ≡ lengthOf (countIn rest))) → Told 1 a rest (winLength a rest)
+    both : a ≡ 0 → ((isBroken rest ≡ true) × (recordLength rest ≡ 0)) ⊎ ((isBroken rest ≡ false) × (recordLength rest ≡ lengthOf (countIn rest)))
+        → Told 1 a rest (winLength a rest)
     both e (inl b) = bad (inr (inl (refl, inr (b .0)))) (win-record a rest e ∙ with-header-none (recordLength rest) (b .1))
-    both e (inr u) = won refl e (u .0) (win-record a rest e ∙ with-header-some (recordLength rest) (λ z. omega (arith, z, u .1, unbroken rest (u .0))) ∙ ap (λ (n : ℕ). n + 1) (u .1))
+    both e (inr u) =
+        won refl e (u .0) (win-record a rest e ∙ with-header-some (recordLength rest) (λ z. omega (arith, z, u .1, unbroken rest (u .0)))
+        ∙ ap (λ (n : ℕ). n + 1) (u .1))
 
     go : (t : Bool) → eqb a 0 ≡ t → Told 1 a rest (winLength a rest)
     go true e = both (eqb-true a 0 e) (broken-or-whole rest)
@@ -195,7 +208,8 @@ told-multi-ron : (a : ℕ) (rest : List ℕ) → Told 4 a rest (multiRonLength a
 unfolding recordsLength
 told-multi-ron a rest = go (eqb a 0) refl (ltb 3 a) refl (hasBroken a rest) refl
   where
-    go : (z : Bool) → eqb a 0 ≡ z → (o : Bool) → ltb 3 a ≡ o → (b : Bool) → hasBroken a rest ≡ b → Told 4 a rest (cond (z || o) 0 (withHeader (cond b 0 (spanOf a rest))))
+    go : (z : Bool) → eqb a 0 ≡ z → (o : Bool) → ltb 3 a ≡ o → (b : Bool) → hasBroken a rest ≡ b
+        → Told 4 a rest (cond (z || o) 0 (withHeader (cond b 0 (spanOf a rest))))
     go true e o f b g = bad (inr (inr (inl (refl, inl (eqb-true a 0 e))))) refl
     go false e true f b g = bad (inr (inr (inl (refl, inr (inl (ltb-true 3 a f)))))) refl
     go false e false f true g = bad (inr (inr (inl (refl, inr (inr g))))) refl
@@ -215,7 +229,8 @@ told-pao a rest = go (eqb a 0) refl (isOtherForm rest) refl
 told-correction : (a : ℕ) (rest : List ℕ) → Told 6 a rest (correctionLength a rest)
 told-correction a rest = go (eqb a 0) refl (leb 1 (kindIn rest)) refl (leb (kindIn rest) 4) refl (eqb (entryLength rest) 0) refl
   where
-    go : (z : Bool) → eqb a 0 ≡ z → (l : Bool) → leb 1 (kindIn rest) ≡ l → (h : Bool) → leb (kindIn rest) 4 ≡ h → (n : Bool) → eqb (entryLength rest) 0 ≡ n → Told 6 a rest (correctionLength a rest)
+    go : (z : Bool) → eqb a 0 ≡ z → (l : Bool) → leb 1 (kindIn rest) ≡ l → (h : Bool) → leb (kindIn rest) 4 ≡ h → (n : Bool) → eqb (entryLength rest) 0 ≡ n
+        → Told 6 a rest (correctionLength a rest)
     go false e l f h g n i = let z = eqb-false a 0 e in bad (inr (inr (inr (inr (refl, inl z))))) (correction-argument a rest z)
     go true e false f h g n i = let k = leb-false 1 (kindIn rest) f in bad (inr (inr (inr (inr (refl, inr (inl k)))))) (correction-under a rest k)
     go true e true f false g n i = let k = leb-false (kindIn rest) 4 g in bad (inr (inr (inr (inr (refl, inr (inr (inl k))))))) (correction-over a rest k)
@@ -293,8 +308,11 @@ module _ (s : List ℕ) (some : 0 < length s) where
   bad-zero (inl o) = length-is s some (λ k. omega (arith, o, k)) ∙ length-over argument rest kind (omega (arith, o))
   bad-zero (inr (inl (k, b))) = by-kind 1 k (omega arith) (length-win argument rest kind k ∙ ⊎-elim (win-argument argument rest) (win-broken argument rest) b)
   bad-zero (inr (inr (inl (k, b)))) =
-      by-kind 4 k (omega arith) (length-multi-ron argument rest kind k ∙ ⊎-elim (multi-ron-none argument rest) (⊎-elim (multi-ron-over argument rest) (multi-ron-broken argument rest)) b)
-  bad-zero (inr (inr (inr (inl (k, b))))) = by-kind 5 k (omega arith) (length-pao argument rest kind k ∙ ⊎-elim (pao-argument argument rest) (pao-other argument rest) b)
+      by-kind 4 k (omega arith) (length-multi-ron argument rest kind k
+      ∙ ⊎-elim (multi-ron-none argument rest) (⊎-elim (multi-ron-over argument rest) (multi-ron-broken argument rest)) b)
+  bad-zero (inr (inr (inr (inl (k, b))))) =
+      by-kind 5 k (omega arith) (length-pao argument rest kind k ∙ ⊎-elim (pao-argument argument rest) (pao-other argument rest) b)
   bad-zero (inr (inr (inr (inr (k, b))))) =
       length-correction s some k
-      ∙ ⊎-elim (correction-argument argument rest) (⊎-elim (correction-under argument rest) (⊎-elim (correction-over argument rest) (λ r. correction-bad argument rest (bad-length rest 0 .0 r .1)))) b
+      ∙ ⊎-elim (correction-argument argument rest)
+      (⊎-elim (correction-under argument rest) (⊎-elim (correction-over argument rest) (λ r. correction-bad argument rest (bad-length rest 0 .0 r .1)))) b

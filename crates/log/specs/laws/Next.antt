@@ -13,7 +13,8 @@ use Rattle.hand_rons.specs.Records.{recordsOf}
 use Rattle.log.specs.Kinds.{kindIn, argumentIn, spanOf, holderIn, feederIn, yakuIn, lengthBy, correctionLength, entryLength}
 use Rattle.log.specs.Log.{partAt, laid}
 use Rattle.log.specs.laws.Records.{all-unbroken, records-right}
-use Rattle.log.specs.laws.Lengths.{length-is, length-correction, length-win, length-multi-ron, length-plain, win-again, multi-ron-again, Told, bad, won, multiRon, pao, plain, corrected, told, pao-form}
+use Rattle.log.specs.laws.Lengths.{length-is, length-correction, length-win, length-multi-ron, length-plain, win-again, multi-ron-again, Told, bad, won}
+use Rattle.log.specs.laws.Lengths.{multiRon, pao, plain, corrected, told, pao-form}
 
 -- a stretch from a place on to the end
 pub from-on : (n : ℕ) (s : List ℕ) → take (length s - n) (drop n s) ≡ drop n s
@@ -124,10 +125,12 @@ module _ (s : List ℕ) (some : 0 < length (firstPart s)) where
       go (plain k l e) = omega (arith, l)
       go (corrected k a l h p e) = omega (arith, k)
 
-  pub part-win : kindIn (firstPart s) ≡ 1 → (argumentIn (firstPart s) ≡ 0) × (wrongLength (length (drop 1 (firstPart s))) (countIn (drop 1 (firstPart s))) ≡ false)
+  pub part-win : kindIn (firstPart s) ≡ 1 → (argumentIn (firstPart s) ≡ 0)
+      × (wrongLength (length (drop 1 (firstPart s))) (countIn (drop 1 (firstPart s))) ≡ false)
   part-win w = rw same-header (go (told s bytes))
     where
-      go : Told (kindIn s) (argumentIn s) (drop 1 s) (entryLength s) → (argumentIn s ≡ 0) × (wrongLength (length (drop 1 (firstPart s))) (countIn (drop 1 (firstPart s))) ≡ false)
+      go : Told (kindIn s) (argumentIn s) (drop 1 s) (entryLength s)
+          → (argumentIn s ≡ 0) × (wrongLength (length (drop 1 (firstPart s))) (countIn (drop 1 (firstPart s))) ≡ false)
       go (bad b e) = absurd (omega (arith, e, some, part-length s))
       go (won k a u e) = (a, rw (e, after-header s (lengthOf (countIn (drop 1 s))) bytes) (record-length (drop 1 s) u))
       go (multiRon k p o u e) = absurd (omega (arith, k, rw same-header at w))
@@ -135,10 +138,13 @@ module _ (s : List ℕ) (some : 0 < length (firstPart s)) where
       go (plain k l e) = absurd (k (rw same-header at w))
       go (corrected k a l h p e) = absurd (omega (arith, k, rw same-header at w))
 
-  pub part-multi-ron : kindIn (firstPart s) ≡ 4 → let a = argumentIn (firstPart s) in let t = drop 1 (firstPart s) in let rs = recordsOf a t in (0 < a) × (a ≤ 3) × (length rs ≡ a) × (laid rs ≡ t) × ((k : ℕ) → k < a → wrongLength (length (getD rs k [])) (countIn (getD rs k [])) ≡ false)
+  pub part-multi-ron : kindIn (firstPart s) ≡ 4 → let a = argumentIn (firstPart s) in let t = drop 1 (firstPart s) in let rs = recordsOf a t in (0 < a)
+      × (a ≤ 3) × (length rs ≡ a) × (laid rs ≡ t) × ((k : ℕ) → k < a → wrongLength (length (getD rs k [])) (countIn (getD rs k [])) ≡ false)
   part-multi-ron w = rw same-header (go (told s bytes))
     where
-      go : Told (kindIn s) (argumentIn s) (drop 1 s) (entryLength s) → let a = argumentIn s in let t = drop 1 (firstPart s) in let rs = recordsOf a t in (0 < a) × (a ≤ 3) × (length rs ≡ a) × (laid rs ≡ t) × ((k : ℕ) → k < a → wrongLength (length (getD rs k [])) (countIn (getD rs k [])) ≡ false)
+      go : Told (kindIn s) (argumentIn s) (drop 1 s) (entryLength s)
+          → let a = argumentIn s in let t = drop 1 (firstPart s) in let rs = recordsOf a t in (0 < a) × (a ≤ 3) × (length rs ≡ a) × (laid rs ≡ t)
+          × ((k : ℕ) → k < a → wrongLength (length (getD rs k [])) (countIn (getD rs k [])) ≡ false)
       go (bad b e) = absurd (omega (arith, e, some, part-length s))
       go (won k a u e) = absurd (omega (arith, k, rw same-header at w))
       go (multiRon k p o u e) =
@@ -149,10 +155,12 @@ module _ (s : List ℕ) (some : 0 < length (firstPart s)) where
       go (plain k l e) = absurd (omega (arith, l, rw same-header at w))
       go (corrected k a l h p e) = absurd (omega (arith, k, rw same-header at w))
 
-  pub part-pao : kindIn (firstPart s) ≡ 5 → let t = drop 1 (firstPart s) in (argumentIn (firstPart s) ≡ 0) × (length t ≡ 1) × (getD t 0 0 ≡ 64 * holderIn t + 16 * feederIn t + 8 * (yakuIn t - 28))
+  pub part-pao : kindIn (firstPart s) ≡ 5 → let t = drop 1 (firstPart s) in (argumentIn (firstPart s) ≡ 0) × (length t ≡ 1)
+      × (getD t 0 0 ≡ 64 * holderIn t + 16 * feederIn t + 8 * (yakuIn t - 28))
   part-pao w = rw same-header (go (told s bytes))
     where
-      go : Told (kindIn s) (argumentIn s) (drop 1 s) (entryLength s) → let t = drop 1 (firstPart s) in (argumentIn s ≡ 0) × (length t ≡ 1) × (getD t 0 0 ≡ 64 * holderIn t + 16 * feederIn t + 8 * (yakuIn t - 28))
+      go : Told (kindIn s) (argumentIn s) (drop 1 s) (entryLength s)
+          → let t = drop 1 (firstPart s) in (argumentIn s ≡ 0) × (length t ≡ 1) × (getD t 0 0 ≡ 64 * holderIn t + 16 * feederIn t + 8 * (yakuIn t - 28))
       go (bad b e) = absurd (omega (arith, e, some, part-length s))
       go (won k a u e) = absurd (omega (arith, k, rw same-header at w))
       go (multiRon k p o u e) = absurd (omega (arith, k, rw same-header at w))
@@ -179,7 +187,12 @@ module _ (s : List ℕ) (some : 0 < length (firstPart s)) where
           rw (e, after-header s (lengthOf (countIn (drop 1 s))) bytes, length-win (argumentIn s) (take (lengthOf (countIn (drop 1 s))) (drop 1 s)) (kindIn s) k)
           (win-again (argumentIn s) (drop 1 s) a u)
       go (multiRon k p o u e) =
-          rw (e, after-header s (spanOf (argumentIn s) (drop 1 s)) bytes, length-multi-ron (argumentIn s) (take (spanOf (argumentIn s) (drop 1 s)) (drop 1 s)) (kindIn s) k)
+          rw (
+            e,
+            after-header s (spanOf (argumentIn s) (drop 1 s)) bytes,
+            length-multi-ron (argumentIn s) (take (spanOf (argumentIn s) (drop 1 s)) (drop 1 s))
+                (kindIn s) k,
+          )
           (multi-ron-again (argumentIn s) (drop 1 s) p o u)
       go (pao k a u e) = absurd (omega (arith, k, h))
       go (plain k o e) = length-plain (argumentIn s) (drop 1 (firstPart s)) (kindIn s) k o ∙ sym e
@@ -187,10 +200,12 @@ module _ (s : List ℕ) (some : 0 < length (firstPart s)) where
 
 -- of a correction the bytes after its header are the entry that it carries
 module _ (s : List ℕ) (some : 0 < length (firstPart s)) where
-  pub part-correction : kindIn (firstPart s) ≡ 6 → let t = drop 1 (firstPart s) in (argumentIn (firstPart s) ≡ 0) × (1 ≤ kindIn t) × (kindIn t ≤ 4) × (0 < length t) × (firstPart t ≡ t)
+  pub part-correction : kindIn (firstPart s) ≡ 6 → let t = drop 1 (firstPart s) in (argumentIn (firstPart s) ≡ 0) × (1 ≤ kindIn t) × (kindIn t ≤ 4)
+      × (0 < length t) × (firstPart t ≡ t)
   part-correction w = rw (same-header s some) (go (told s (bytes s some)))
     where
-      go : Told (kindIn s) (argumentIn s) (drop 1 s) (entryLength s) → let t = drop 1 (firstPart s) in (argumentIn s ≡ 0) × (1 ≤ kindIn t) × (kindIn t ≤ 4) × (0 < length t) × (firstPart t ≡ t)
+      go : Told (kindIn s) (argumentIn s) (drop 1 s) (entryLength s)
+          → let t = drop 1 (firstPart s) in (argumentIn s ≡ 0) × (1 ≤ kindIn t) × (kindIn t ≤ 4) × (0 < length t) × (firstPart t ≡ t)
       go (bad b e) = absurd (omega (arith, e, some, part-length s))
       go (won k a u e) = absurd (omega (arith, k, rw (same-header s some) at w))
       go (multiRon k p o u e) = absurd (omega (arith, k, rw (same-header s some) at w))

@@ -49,7 +49,8 @@ unfolding lengthFrom hasBroken
 from-broken at zero s h z = absurd (omega arith)
 from-broken at (suc n) s h z = rw (length-zero s z)
 
-pub from-turn : (at n : ℕ) (s : List ℕ) → 0 < n → (recordLength s ≡ 0 → ⊥) → lengthFrom (at + recordLength s) (n - 1) (drop (recordLength s) s) ≡ lengthFrom at n s
+pub from-turn : (at n : ℕ) (s : List ℕ) → 0 < n → (recordLength s ≡ 0 → ⊥)
+    → lengthFrom (at + recordLength s) (n - 1) (drop (recordLength s) s) ≡ lengthFrom at n s
 unfolding lengthFrom hasBroken spanOf
 from-turn at zero s h l = absurd (omega arith)
 from-turn at (suc n) s h l =
@@ -60,7 +61,8 @@ from-turn at (suc n) s h l =
     rw (b, u .1, u .0) (ap (λ (k : ℕ). cond (hasBroken n (drop L s)) 0 k) a)
 
 -- as the code has it, from a place of the bytes on
-pub turn-at : (at n k : ℕ) (s : List ℕ) → 0 < n → k ≡ recordLength (drop at s) → (k ≡ 0 → ⊥) → lengthFrom (at + k) (n - 1) (drop (at + k) s) ≡ lengthFrom at n (drop at s)
+pub turn-at : (at n k : ℕ) (s : List ℕ) → 0 < n → k ≡ recordLength (drop at s) → (k ≡ 0 → ⊥)
+    → lengthFrom (at + k) (n - 1) (drop (at + k) s) ≡ lengthFrom at n (drop at s)
 turn-at at n k s h e l = rw (← drop-drop k at s, e) (from-turn at n (drop at s) h (λ z. l (e ∙ z)))
 
 pub records-inside : (n : ℕ) (s : List ℕ) → recordsLength n s ≤ 13 * n
@@ -110,18 +112,23 @@ pub records-again : (n : ℕ) (s : List ℕ) → hasBroken n s ≡ false → rec
 unfolding recordsLength
 records-again n s e = let k = records-kept n s e in rw (k .0) (k .1)
 
-first-and-rest : (n : ℕ) (s : List ℕ) (e : isBroken s ≡ false) → recordsOf (suc n) (take (L n s e + m n s e) s) ≡ take (L n s e) s ∷ recordsOf n (take (m n s e) (drop (L n s e) s))
+first-and-rest : (n : ℕ) (s : List ℕ) (e : isBroken s ≡ false)
+    → recordsOf (suc n) (take (L n s e + m n s e) s) ≡ take (L n s e) s ∷ recordsOf n (take (m n s e) (drop (L n s e) s))
 unfolding recordsOf spanOf
 first-and-rest zero s e = let z : L 0 s e + 0 ≡ L 0 s e = omega arith in ap (λ (k : ℕ). take k s ∷ []) z
 first-and-rest (suc n) s e = rw (same-count (suc n) s e, take-take (L (suc n) s e) (L (suc n) s e + m (suc n) s e) s (omega arith), the-rest (suc n) s e)
 
 -- of a first one and n more each has the length that Read wants
-at-each : (n : ℕ) (r : List ℕ) (rs : List (List ℕ)) → wrongLength (length r) (countIn r) ≡ false → ((k : ℕ) → k < n → wrongLength (length (getD rs k [])) (countIn (getD rs k [])) ≡ false) → (k : ℕ) → k < suc n → wrongLength (length (getD (r ∷ rs) k [])) (countIn (getD (r ∷ rs) k [])) ≡ false
+at-each : (n : ℕ) (r : List ℕ) (rs : List (List ℕ)) → wrongLength (length r) (countIn r) ≡ false
+    → ((k : ℕ) → k < n → wrongLength (length (getD rs k [])) (countIn (getD rs k [])) ≡ false) → (k : ℕ) → k < suc n
+    → wrongLength (length (getD (r ∷ rs) k [])) (countIn (getD (r ∷ rs) k [])) ≡ false
 at-each n r rs e h zero l = e
 at-each n r rs e h (suc k) l = h k (omega arith)
 
 -- they are the bytes, n of them, each of the length that Read wants
-pub records-right : (n : ℕ) (s : List ℕ) → hasBroken n s ≡ false → let rs = recordsOf n (take (spanOf n s) s) in (length rs ≡ n) × (laid rs ≡ take (spanOf n s) s) × ((k : ℕ) → k < n → wrongLength (length (getD rs k [])) (countIn (getD rs k [])) ≡ false)
+pub records-right : (n : ℕ) (s : List ℕ) → hasBroken n s ≡ false
+    → let rs = recordsOf n (take (spanOf n s) s) in (length rs ≡ n) × (laid rs ≡ take (spanOf n s) s)
+    × ((k : ℕ) → k < n → wrongLength (length (getD rs k [])) (countIn (getD rs k [])) ≡ false)
 unfolding hasBroken spanOf recordsOf
 records-right zero s e = (refl, refl, λ k h. absurd (omega arith))
 records-right (suc n) s e =
@@ -132,5 +139,6 @@ records-right (suc n) s e =
     let f = first-and-rest n s (p .0) in (
       ap length f ∙ ap suc (r .0),
       ap laid f ∙ ap (λ (l : List ℕ). take L s ++ l) (r .1) ∙ sym (take-add L m s),
-      λ k h. subst (λ (rs : List (List ℕ)). wrongLength (length (getD rs k [])) (countIn (getD rs k [])) ≡ false) (sym f) (at-each n (take L s) (recordsOf n (take m (drop L s))) (record-length s (p .0)) (r .2) k h),
+      λ k h. subst (λ (rs : List (List ℕ)). wrongLength (length (getD rs k [])) (countIn (getD rs k [])) ≡ false) (sym f)
+          (at-each n (take L s) (recordsOf n (take m (drop L s))) (record-length s (p .0)) (r .2) k h),
     )

@@ -47,9 +47,12 @@ few-some fuel s h = by-some (entryLength s) s (λ rest. partsFew fuel rest) h
 -- more fuel changes nothing
 few-enough : (s : List ℕ) (fuel more : ℕ) → length s ≤ fuel → length s ≤ more → partsFew fuel s ≡ partsFew more s
 few-enough =
-    along (λ s. (fuel more : ℕ) → length s ≤ fuel → length s ≤ more → partsFew fuel s ≡ partsFew more s) (λ s e f m h g. few-none f s e ∙ sym (few-none m s e)) both
+    along (λ s. (fuel more : ℕ) → length s ≤ fuel → length s ≤ more → partsFew fuel s ≡ partsFew more s)
+    (λ s e f m h g. few-none f s e ∙ sym (few-none m s e)) both
   where
-    both : (s : List ℕ) → 0 < entryLength s → ((fuel more : ℕ) → length (drop (entryLength s) s) ≤ fuel → length (drop (entryLength s) s) ≤ more → partsFew fuel (drop (entryLength s) s) ≡ partsFew more (drop (entryLength s) s)) → (fuel more : ℕ) → length s ≤ fuel → length s ≤ more → partsFew fuel s ≡ partsFew more s
+    both : (s : List ℕ) → 0 < entryLength s → ((fuel more : ℕ) → length (drop (entryLength s) s) ≤ fuel → length (drop (entryLength s) s) ≤ more
+        → partsFew fuel (drop (entryLength s) s) ≡ partsFew more (drop (entryLength s) s)) → (fuel more : ℕ) → length s ≤ fuel → length s ≤ more
+        → partsFew fuel s ≡ partsFew more s
     both s p r zero m h g = absurd (omega (arith, length-inside s))
     both s p r (suc f) zero h g = absurd (omega (arith, length-inside s))
     both s p r (suc f) (suc m) h g =
@@ -66,7 +69,8 @@ module _ (s : List ℕ) where
   parts-some h =
       let l = length-drop (entryLength s) s in
       few-enough s (length s) (suc (length s)) (omega arith) (omega arith) ∙ few-some (length s) s h
-      ∙ ap (λ (rest : List (List ℕ)). firstPart s ∷ rest) (few-enough (drop (entryLength s) s) (length s) (length (drop (entryLength s) s)) (omega arith) (omega arith))
+      ∙ ap (λ (rest : List (List ℕ)). firstPart s ∷ rest)
+      (few-enough (drop (entryLength s) s) (length s) (length (drop (entryLength s) s)) (omega arith) (omega arith))
 
 -- ---- from an offset of a log
 
@@ -97,10 +101,12 @@ module _ (s : List ℕ) (p : 0 < entryLength s) where
 pub laid-start : (s : List ℕ) → laid (partsOf s) ++ drop (stopOf s) s ≡ s
 laid-start = along (λ s. laid (partsOf s) ++ drop (stopOf s) s ≡ s) (λ s e. rw (parts-none s e)) turn
   where
-    turn : (s : List ℕ) (p : 0 < entryLength s) → laid (partsOf (after s p)) ++ drop (stopOf (after s p)) (after s p) ≡ after s p → laid (partsOf s) ++ drop (stopOf s) s ≡ s
+    turn : (s : List ℕ) (p : 0 < entryLength s) → laid (partsOf (after s p)) ++ drop (stopOf (after s p)) (after s p) ≡ after s p
+        → laid (partsOf s) ++ drop (stopOf s) s ≡ s
     turn s p r =
         ap (λ (l : List ℕ). laid (partsOf s) ++ l) (left-turn s p)
-        ∙ rw (parts-some s p, append-assoc (firstPart s) (laid (partsOf (after s p))) (drop (stopOf (after s p)) (after s p)), r) (take-append-drop (entryLength s) s)
+        ∙ rw (parts-some s p, append-assoc (firstPart s) (laid (partsOf (after s p))) (drop (stopOf (after s p)) (after s p)), r)
+        (take-append-drop (entryLength s) s)
 
 pub laid-prefix : (log : List ℕ) → laid (partsOf log) ≡ take (stopOf log) log
 laid-prefix log = sym (take-append-seam (laid (partsOf log)) (drop (stopOf log) log)) ∙ ap (take (stopOf log)) (laid-start log)
@@ -140,7 +146,8 @@ module _ (log : List ℕ) (at : ℕ) where
 -- where the walk ends
 pub ends-at : (log : List ℕ) → (length log ≡ stopOf log) ⊎ (refusalAt log (stopOf log) ≡ 14)
 ends-at log =
-    by-place log (stopOf log) (λ g. inl (omega (arith, g, stop-within log))) (λ l e. inr (refusal-bad log (stopOf log) l e)) (λ l e. absurd (e (no-entry-left log)))
+    by-place log (stopOf log) (λ g. inl (omega (arith, g, stop-within log))) (λ l e. inr (refusal-bad log (stopOf log) l e))
+    (λ l e. absurd (e (no-entry-left log)))
 
 pub laid-all : (log : List ℕ) → (refusalAt log (stopOf log) ≡ 14 → ⊥) → laid (partsOf log) ≡ log
 laid-all log h = ⊎-elim (λ e. laid-prefix log ∙ take-all (stopOf log) log (omega (arith, e))) (λ e. absurd (h e)) (ends-at log)

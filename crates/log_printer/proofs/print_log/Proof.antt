@@ -24,18 +24,23 @@ inside c =
     let size : length (l .lines .last .1 .1 .0) ≡ 65536 = search needs in
     omega (arith, size, fits _ (l .before .before .before .before .before .pre) (k .page) (k .w) (k .printed) (k .inv) _ (l .lines .ensures .0))
 
-again : (c : tie.After-write-all Inv-loop μ-loop) → let l = c .before .before .before .before in let s = l .before .before .before .before .before .args .s .now in let k = l .before .before .loop in Kept s (l .lines .last .1 .1 .0) (l .lines .result .walk) (k .printed + l .lines .result .written) × (length (textLeft (l .lines .result .walk) s) < length (textLeft (k .w) s))
+again : (c : tie.After-write-all Inv-loop μ-loop) → let l = c .before .before .before .before in
+    let s = l .before .before .before .before .before .args .s .now in let k = l .before .before .loop in
+    Kept s (l .lines .last .1 .1 .0) (l .lines .result .walk) (k .printed + l .lines .result .written)
+    × (length (textLeft (l .lines .result .walk) s) < length (textLeft (k .w) s))
 again c =
     let l = c .before .before .before .before in
     let k = l .before .before .loop in
     let size : length (l .lines .last .1 .1 .0) ≡ 65536 = search needs in
-    turns _ (l .before .before .before .before .before .pre) (k .page) (k .w) (k .printed) (k .inv) _ (l .lines .ensures .0) (l .lines .last .1 .1 .0) size (c .before .before .if1 .left)
+    turns _ (l .before .before .before .before .before .pre) (k .page) (k .w) (k .printed) (k .inv) _ (l .lines .ensures .0) (l .lines .last .1 .1 .0) size
+    (c .before .before .if1 .left)
 
 returns : tie.Need-returns Inv-loop μ-loop
 returns c =
     let l = c .before .before in
     let k = l .before .before .loop in
-    ends _ (l .before .before .before .before .before .pre) (k .page) (k .w) (k .printed) (k .inv) _ (l .lines .ensures .0) (c .if1 .taken) (l .lines .ensures .1 .1)
+    ends _ (l .before .before .before .before .before .pre) (k .page) (k .w) (k .printed) (k .inv) _ (l .lines .ensures .0) (c .if1 .taken)
+    (l .lines .ensures .1 .1)
 
 pub print-log-spec : {M : Type 1} → statement M
 print-log-spec =

@@ -32,7 +32,8 @@ returns-3 c =
     let i = e .before .before .before in
     let k = i .before .before .before .before .before .loop in
     let a = i .before .before .before .before .before .before .before .before .args in
-    lent-short (a .s .now) (a .w) (a .buf .now) (k .buf) (k .v) (k .n) (k .inv) _ (i .before .book-at .ensures) (i .if2 .left) _ _ (e .entry-line .ensures .0) (e .entry-line .ensures .1 .0) (c .if4 .taken) (e .entry-line .ensures .1 .1)
+    lent-short (a .s .now) (a .w) (a .buf .now) (k .buf) (k .v) (k .n) (k .inv) _ (i .before .book-at .ensures) (i .if2 .left) _ _ (e .entry-line .ensures .0)
+    (e .entry-line .ensures .1 .0) (c .if4 .taken) (e .entry-line .ensures .1 .1)
 
 again : tie.Need-loop-again Inv-loop μ-loop
 again c =
@@ -40,7 +41,8 @@ again c =
     let i = e .before .before .before in
     let k = i .before .before .before .before .before .loop in
     let a = i .before .before .before .before .before .before .before .before .args in
-    lent-kept (a .s .now) (a .w) (a .buf .now) (k .buf) (k .v) (k .n) (k .inv) _ (i .before .book-at .ensures) (i .if2 .left) _ _ (e .entry-line .ensures .0) (e .entry-line .ensures .1 .0) (c .before .if4 .left) (e .before .before .if3 .left)
+    lent-kept (a .s .now) (a .w) (a .buf .now) (k .buf) (k .v) (k .n) (k .inv) _ (i .before .book-at .ensures) (i .if2 .left) _ _ (e .entry-line .ensures .0)
+    (e .entry-line .ensures .1 .0) (c .before .if4 .left) (e .before .before .if3 .left)
 
 size-3 : tie.Need-same-length-3 Inv-loop μ-loop
 size-3 c =
@@ -48,7 +50,8 @@ size-3 c =
     let i = e .before .before .before in
     let k = i .before .before .before .before .before .loop in
     let a = i .before .before .before .before .before .before .before .before .args in
-    ap length (lent-same (a .s .now) (a .w) (a .buf .now) (k .buf) (k .v) (k .n) (k .inv) _ (i .before .book-at .ensures) (i .if2 .left) _ _ (e .entry-line .ensures .0) (e .entry-line .ensures .1 .0) (c .if4 .taken)) ∙ k .inv .size
+    ap length (lent-same (a .s .now) (a .w) (a .buf .now) (k .buf) (k .v) (k .n) (k .inv) _ (i .before .book-at .ensures) (i .if2 .left) _ _
+    (e .entry-line .ensures .0) (e .entry-line .ensures .1 .0) (c .if4 .taken)) ∙ k .inv .size
 
 -- the line ends inside the buffer, the entry inside the log
 room : tie.Need-add-n Inv-loop μ-loop
@@ -57,9 +60,16 @@ room c =
     let i = e .before .before .before in
     let k = i .before .before .before .before .before .loop in
     let a = i .before .before .before .before .before .before .before .before .args in
-    omega (arith, lent-room (a .s .now) (a .w) (a .buf .now) (k .buf) (k .v) (k .n) (k .inv) _ (i .before .book-at .ensures) (i .if2 .left) _ _ (e .entry-line .ensures .0) (e .entry-line .ensures .1 .0), i .before .before .before .before .before .before .before .before .good)
+    omega (
+      arith,
+      lent-room (a .s .now) (a .w) (a .buf .now) (k .buf) (k .v) (k .n) (k .inv) _ (i .before .book-at .ensures) (i .if2 .left) _ _
+          (e .entry-line .ensures .0) (e .entry-line .ensures .1 .0),
+      i .before .before .before .before .before .before .before .before .good,
+    )
 
-ends : (c : tie.After-after Inv-loop μ-loop) → let i = c .before .before .before .before .before .before .before in let k = i .before .before .before .before .before .loop in (0 < i .before .book-at .result .len) × (k .v .at + i .before .book-at .result .len ≤ length (i .before .before .before .before .before .before .before .before .args .s .now))
+ends : (c : tie.After-after Inv-loop μ-loop) → let i = c .before .before .before .before .before .before .before in
+    let k = i .before .before .before .before .before .loop in (0 < i .before .book-at .result .len)
+    × (k .v .at + i .before .book-at .result .len ≤ length (i .before .before .before .before .before .before .before .before .args .s .now))
 ends c =
     let i = c .before .before .before .before .before .before .before in
     let k = i .before .before .before .before .before .loop in

@@ -14,7 +14,8 @@ returns : tie.Need-returns
 returns c =
     let n = c .before .before .before in
     let a = n .before .before .args in
-    c .no-entry .ensures ∙ rw (c .before .refusal-at .ensures) (sym (step-none (a .g) (a .s .now) (a .at) (ap length (sym (n .next-entry .ensures)) ∙ c .before .before .if1 .taken)))
+    c .no-entry .ensures ∙ rw (c .before .refusal-at .ensures)
+    (sym (step-none (a .g) (a .s .now) (a .at) (ap length (sym (n .next-entry .ensures)) ∙ c .before .before .if1 .taken)))
 
 -- the part is not empty, and of a correction it holds the entry inside
 book-part-requires : tie.Need-book-part-requires

@@ -31,7 +31,8 @@ book-part-spec =
     let a = c .before .before in
     let t = a .before .before .before in
     let s = t .before .before .before .before in
-    part-correction (s .args .g) (s .args .part .now) _ _ _ _ (sym (t .before .kind .ensures) ∙ t .if1 .taken) (a .before .kind2 .ensures) (a .argument .ensures) (c .book-correction .ensures))
+    part-correction (s .args .g) (s .args .part .now) _ _ _ _ (sym (t .before .kind .ensures) ∙ t .if1 .taken) (a .before .kind2 .ensures)
+    (a .argument .ensures) (c .book-correction .ensures))
     (λ c κs. search needs)
     (λ c. search needs)
     (λ c. search needs)

@@ -11,6 +11,7 @@ use Rattle.text.specs.Text.{lastDigits, digitsOf, signedOf, spaced, lineOf}
 use Rattle.log_walk.specs.Walk.{resultOf, bookingOf, entryOf, entryLine, textFrom, printedText}
 
 pub corrected : printedText (1 ∷ 36 ∷ 96 ∷ 44 ∷ []) ≡ printedText (1 ∷ 36 ∷ []) ++ bytesOf "3 X 0 31500 30500 28500 28500 1" ++ (10 ∷ [])
-unfolding printedText textFrom entryLine resultOf bookingOf entryOf freshGame gameOutOfForm gameNotOpen gameRefusal withEntry gameAfter recordLength lengthBy entryLength partsFew partsOf
+unfolding printedText textFrom entryLine resultOf bookingOf entryOf freshGame gameOutOfForm gameNotOpen gameRefusal withEntry gameAfter recordLength lengthBy
+    entryLength partsFew partsOf
     lastDigits digitsOf signedOf spaced lineOf fresh refusalFor refusalWhen notOpen outOfForm totalOf after applied effectOf riichiGives drawGives
 corrected = refl

@@ -59,7 +59,8 @@ drop-past (suc n) (x ∷ l) h = drop-past n l (omega arith)
 -- a buffer with the part from n on written anew
 rest-put : (n : ℕ) (buf out : List ℕ) → take n buf ++ (out ++ drop (length buf - n) (drop n buf)) ≡ take n buf ++ out
 rest-put n buf out =
-    ap (λ (x : List ℕ). take n buf ++ (out ++ x)) (drop-past (length buf - n) (drop n buf) (omega (arith, length-drop n buf))) ∙ ap (λ (x : List ℕ). take n buf ++ x) (append-nil out)
+    ap (λ (x : List ℕ). take n buf ++ (out ++ x)) (drop-past (length buf - n) (drop n buf) (omega (arith, length-drop n buf)))
+    ∙ ap (λ (x : List ℕ). take n buf ++ x) (append-nil out)
 
 -- ---- the lines of parts
 
@@ -85,7 +86,8 @@ module _ (room n : ℕ) (w : Walk) (p : List ℕ) (rest : List (List ℕ)) where
   unfolding filled
   filled-last e = go (ltb room (n + length lineNext))
     where
-      go : (b : Bool) → cond (b || eqb (w .entry) 4294967295) (record { written = n; walk = w }) (filled room (n + length lineNext) walkNext rest) ≡ record { written = n; walk = w }
+      go : (b : Bool) → cond (b || eqb (w .entry) 4294967295) (record { written = n; walk = w }) (filled room (n + length lineNext) walkNext rest)
+          ≡ record { written = n; walk = w }
       go true = refl
       go false = rw (eq-eqb (w .entry) 4294967295 e)
 
@@ -102,7 +104,9 @@ text-none : (j : ℕ) (k : Game) → textFrom j k [] ≡ []
 unfolding textFrom
 text-none j k = refl
 
-pub text-some : (j : ℕ) (k : Game) (p : List ℕ) (rest : List (List ℕ)) → textFrom j k (p ∷ rest) ≡ entryLine j (letterOf (kindIn p)) (gameRefusal k (entryOf p)) (gameAfter k (entryOf p) .now) ++ textFrom (j + 1) (gameAfter k (entryOf p)) rest
+pub text-some : (j : ℕ) (k : Game) (p : List ℕ) (rest : List (List ℕ))
+    → textFrom j k (p ∷ rest) ≡ entryLine j (letterOf (kindIn p)) (gameRefusal k (entryOf p)) (gameAfter k (entryOf p) .now)
+    ++ textFrom (j + 1) (gameAfter k (entryOf p)) rest
 unfolding textFrom
 text-some j k p rest = refl
 
@@ -119,7 +123,9 @@ module _ (log : List ℕ) (w : Walk) (old : List ℕ) where
 
   -- what `lines` gives
   abbrev pub Gives : Printed → List ℕ → Type 0
-  Gives r buf = (r ≡ linesOf (length old) w log) × ((buf ≡ take (r .written) (textLeft w log) ++ drop (r .written) old) × (83 + r .written ≤ length old → r .walk .entry < 4294967295 → textLeft (r .walk) log ≡ []))
+  Gives r buf =
+      (r ≡ linesOf (length old) w log) × ((buf ≡ take (r .written) (textLeft w log) ++ drop (r .written) old)
+      × (83 + r .written ≤ length old → r .walk .entry < 4294967295 → textLeft (r .walk) log ≡ []))
 
   pub kept-start : Kept old w 0
   unfolding linesOf
@@ -130,10 +136,12 @@ module _ (log : List ℕ) (w : Walk) (old : List ℕ) where
     bytes : buf ≡ take n (textLeft w log) ++ drop n old
     bytes =
         let l : length (take n buf) ≡ n = length-take-le n buf (omega (arith, k .size, k .room)) in
-        let t : take n (textLeft w log) ≡ take n buf = ap (take n) (sym (k .text)) ∙ ap (λ (m : ℕ). take m (take n buf ++ textLeft v log)) (sym l) ∙ take-append-seam (take n buf) (textLeft v log) in
+        let t : take n (textLeft w log) ≡ take n buf = ap (take n) (sym (k .text)) ∙ ap (λ (m : ℕ). take m (take n buf ++ textLeft v log)) (sym l)
+        ∙ take-append-seam (take n buf) (textLeft v log) in
         sym (take-append-drop n buf) ∙ ap (λ (x : List ℕ). x ++ drop n buf) (sym t) ∙ ap (λ (x : List ℕ). take n (textLeft w log) ++ x) (k .past)
 
-    gives : filled (length old) n v (partsOf (drop (v .at) log)) ≡ record { written = n; walk = v } → (83 + n ≤ length old → v .entry < 4294967295 → textLeft v log ≡ []) → Gives (record { written = n; walk = v }) buf
+    gives : filled (length old) n v (partsOf (drop (v .at) log)) ≡ record { written = n; walk = v }
+        → (83 + n ≤ length old → v .entry < 4294967295 → textLeft v log ≡ []) → Gives (record { written = n; walk = v }) buf
     gives e f = (sym e ∙ k .left, (bytes, f))
 
     -- no entry is left
@@ -190,7 +198,15 @@ module _ (log : List ℕ) (w : Walk) (old : List ℕ) where
           line-room = go (leb (length line) (length (drop n buf))) refl
             where
               go : (t : Bool) → leb (length line) (length (drop n buf)) ≡ t → n + m ≤ length old
-              go true e = omega (arith, em ∙ text-fits (drop n buf) line (leb-true (length line) (length (drop n buf)) e) .0, leb-true (length line) (length (drop n buf)) e, left-length, k .room)
+              go true e =
+                  omega (
+                    arith,
+                    em ∙ text-fits (drop n buf) line (leb-true (length line) (length (drop n buf)) e) .0,
+                    leb-true (length line)
+                        (length (drop n buf)) e,
+                    left-length,
+                    k .room,
+                  )
               go false e = omega (arith, em ∙ text-not (drop n buf) line (leb-false (length line) (length (drop n buf)) e) .0, k .room)
 
           -- it has no room
@@ -217,7 +233,8 @@ module _ (log : List ℕ) (w : Walk) (old : List ℕ) where
 
             out-is : out ≡ (take n buf ++ line) ++ drop m (drop n buf)
             out-is =
-                ap (λ (x : List ℕ). take n buf ++ x) (text-fits (drop n buf) line fits .1) ∙ sym (append-assoc (take n buf) line (drop (length line) (drop n buf)))
+                ap (λ (x : List ℕ). take n buf ++ x) (text-fits (drop n buf) line fits .1)
+                ∙ sym (append-assoc (take n buf) line (drop (length line) (drop n buf)))
                 ∙ ap (λ (j : ℕ). (take n buf ++ line) ++ drop j (drop n buf)) (sym m-is)
 
             front-length : length (take n buf ++ line) ≡ n + m
@@ -226,20 +243,29 @@ module _ (log : List ℕ) (w : Walk) (old : List ℕ) where
             line-kept : Kept out (record { game = b .game; entry = v .entry + 1; at = v .at + b .len }) (n + m)
             line-kept =
                 record {
-                  size = ap length out-is ∙ length-append (take n buf ++ line) (drop m (drop n buf)) ∙ omega (arith, front-length, length-drop m (drop n buf), left-length, m-is, fits, k .room);
+                  size =
+                      ap length out-is ∙ length-append (take n buf ++ line) (drop m (drop n buf))
+                      ∙ omega (arith, front-length, length-drop m (drop n buf), left-length, m-is, fits, k .room);
                   room = line-room;
-                  text = ap (λ (x : List ℕ). x ++ textLeft (record { game = b .game; entry = v .entry + 1; at = v .at + b .len }) log) front ∙ append-assoc (take n buf) line _ ∙ ap (λ (x : List ℕ). take n buf ++ x) (sym text-turn) ∙ k .text;
-                  past = ap (drop (n + m)) out-is ∙ ap (λ (j : ℕ). drop j ((take n buf ++ line) ++ drop m (drop n buf))) (sym front-length) ∙ drop-append-seam (take n buf ++ line) (drop m (drop n buf)) ∙ ap (drop m) (k .past) ∙ drop-drop m n old;
+                  text =
+                      ap (λ (x : List ℕ). x ++ textLeft (record { game = b .game; entry = v .entry + 1; at = v .at + b .len }) log) front
+                      ∙ append-assoc (take n buf) line _ ∙ ap (λ (x : List ℕ). take n buf ++ x) (sym text-turn) ∙ k .text;
+                  past =
+                      ap (drop (n + m)) out-is ∙ ap (λ (j : ℕ). drop j ((take n buf ++ line) ++ drop m (drop n buf))) (sym front-length)
+                      ∙ drop-append-seam (take n buf ++ line) (drop m (drop n buf)) ∙ ap (drop m) (k .past) ∙ drop-drop m n old;
                   left = ap (λ (x : Walk). filled (length old) (n + m) x (partsOf (drop (x .at) log))) walk-is ∙ sym filled-turn ∙ k .left;
                 }
               where
                 front : take (n + m) out ≡ take n buf ++ line
-                front = ap (take (n + m)) out-is ∙ ap (λ (j : ℕ). take j ((take n buf ++ line) ++ drop m (drop n buf))) (sym front-length) ∙ take-append-seam (take n buf ++ line) (drop m (drop n buf))
+                front =
+                    ap (take (n + m)) out-is ∙ ap (λ (j : ℕ). take j ((take n buf ++ line) ++ drop m (drop n buf))) (sym front-length)
+                    ∙ take-append-seam (take n buf ++ line) (drop m (drop n buf))
 
                 text-turn : textLeft v log ≡ line ++ textLeft (record { game = b .game; entry = v .entry + 1; at = v .at + b .len }) log
                 text-turn =
                     ap (textFrom (v .entry) (v .game)) parts ∙ text-some (v .entry) (v .game) p rest
-                    ∙ ap (λ (x : List ℕ). x ++ textLeft (walkNext (length old) n v p rest) log) (sym line-is) ∙ ap (λ (x : Walk). line ++ textLeft x log) (sym walk-is)
+                    ∙ ap (λ (x : List ℕ). x ++ textLeft (walkNext (length old) n v p rest) log) (sym line-is)
+                    ∙ ap (λ (x : Walk). line ++ textLeft x log) (sym walk-is)
 
                 filled-turn : filled (length old) n v (partsOf (drop (v .at) log)) ≡ filled (length old) (n + m) (walkNext (length old) n v p rest) rest
                 filled-turn =
@@ -269,5 +295,6 @@ module _ (log : List ℕ) (w : Walk) (old : List ℕ) where
               (g .0, (lent-same z ∙ g .1 .0, g .1 .1))
 
           -- the line is written
-          pub lent-kept : (m ≡ 0 → ⊥) → (v .entry ≡ 4294967295 → ⊥) → Kept (take n buf ++ (o ++ drop (length buf - n) (drop n buf))) (record { game = b .game; entry = v .entry + 1; at = v .at + b .len }) (n + m)
+          pub lent-kept : (m ≡ 0 → ⊥) → (v .entry ≡ 4294967295 → ⊥)
+              → Kept (take n buf ++ (o ++ drop (length buf - n) (drop n buf))) (record { game = b .game; entry = v .entry + 1; at = v .at + b .len }) (n + m)
           lent-kept some max = rw lent-bytes (line-kept m lent-length some max)

@@ -28,7 +28,8 @@ win-is s = (by-header 16 1 0 s refl refl, inner 16 1 0 s refl refl)
 pub draw-is : (bits : ℕ) → bits < 16 → (entryOf ((32 + bits) ∷ []) ≡ booking (result (draw bits))) × (entryOf (96 ∷ (32 + bits) ∷ []) ≡ correction (draw bits))
 draw-is bits h = (by-header (32 + bits) 2 bits [] (omega (arith, h)) (omega (arith, h)), inner (32 + bits) 2 bits [] (omega (arith, h)) (omega (arith, h)))
 
-pub chombo-is : (seat : ℕ) → seat < 16 → (entryOf ((48 + seat) ∷ []) ≡ booking (result (chombo seat))) × (entryOf (96 ∷ (48 + seat) ∷ []) ≡ correction (chombo seat))
+pub chombo-is : (seat : ℕ) → seat < 16 → (entryOf ((48 + seat) ∷ []) ≡ booking (result (chombo seat)))
+    × (entryOf (96 ∷ (48 + seat) ∷ []) ≡ correction (chombo seat))
 chombo-is seat h = (by-header (48 + seat) 3 seat [] (omega (arith, h)) (omega (arith, h)), inner (48 + seat) 3 seat [] (omega (arith, h)) (omega (arith, h)))
 
 pub multi-ron-is : (n : ℕ) (s : List ℕ) → n < 16

@@ -31,12 +31,26 @@ module _ (log : List ℕ) (room : ℕ) where
 
   stays : (w : Walk) (n : ℕ) (r : Printed) → r ≡ record { written = n; walk = w } → Moved w n r
   stays w n r e =
-      rw e record { front = []; text = refl; size = omega arith; ahead = λ h. absurd (omega arith); inside = λ h. h; after = omega arith; count = omega arith; fits = λ h. h }
+      rw e record {
+        front = [];
+        text = refl;
+        size = omega arith;
+        ahead = λ h. absurd
+            (omega arith);
+        inside = λ h. h;
+        after = omega arith;
+        count = omega arith;
+        fits = λ h. h;
+      }
 
   moved-from : (s : List ℕ) (w : Walk) (n : ℕ) → drop (w .at) log ≡ s → Moved w n (filled room n w (partsOf s))
-  moved-from = along (λ s. (w : Walk) (n : ℕ) → drop (w .at) log ≡ s → Moved w n (filled room n w (partsOf s))) (λ s e w n d. stays w n _ (ap (filled room n w) (parts-none s e) ∙ filled-none room n w)) turn
+  moved-from =
+      along (λ s. (w : Walk) (n : ℕ) → drop (w .at) log ≡ s → Moved w n (filled room n w (partsOf s)))
+      (λ s e w n d. stays w n _ (ap (filled room n w) (parts-none s e) ∙ filled-none room n w)) turn
     where
-      turn : (s : List ℕ) → 0 < entryLength s → ((w : Walk) (n : ℕ) → drop (w .at) log ≡ drop (entryLength s) s → Moved w n (filled room n w (partsOf (drop (entryLength s) s)))) → (w : Walk) (n : ℕ) → drop (w .at) log ≡ s → Moved w n (filled room n w (partsOf s))
+      turn : (s : List ℕ) → 0 < entryLength s → ((w : Walk) (n : ℕ) → drop (w .at) log ≡ drop (entryLength s) s
+          → Moved w n (filled room n w (partsOf (drop (entryLength s) s)))) → (w : Walk) (n : ℕ) → drop (w .at) log ≡ s
+          → Moved w n (filled room n w (partsOf s))
       turn s p r w n d = go (leb (n + length line) room) refl (eqb (w .entry) 4294967295) refl
         where
           rest : List (List ℕ)
@@ -57,11 +71,14 @@ module _ (log : List ℕ) (room : ℕ) where
               there = ap (λ (j : ℕ). drop (w .at + j) log) (part-length s) ∙ sym (drop-drop (entryLength s) (w .at) log) ∙ ap (drop (entryLength s)) d
 
               same : filled room n w (partsOf s) ≡ filled room (n + length line) next rest
-              same = ap (filled room n w) (parts-some s p) ∙ filled-on room n w (firstPart s) rest (leb-true (n + length line) room f) (eqb-false (w .entry) 4294967295 e)
+              same =
+                  ap (filled room n w) (parts-some s p) ∙ filled-on room n w (firstPart s) rest (leb-true (n + length line) room f)
+                  (eqb-false (w .entry) 4294967295 e)
 
               text-turn : textLeft w log ≡ line ++ textLeft next log
               text-turn =
-                  ap (λ (x : List ℕ). textFrom (w .entry) (w .game) (partsOf x)) d ∙ ap (textFrom (w .entry) (w .game)) (parts-some s p) ∙ text-some (w .entry) (w .game) (firstPart s) rest
+                  ap (λ (x : List ℕ). textFrom (w .entry) (w .game) (partsOf x)) d ∙ ap (textFrom (w .entry) (w .game)) (parts-some s p)
+                  ∙ text-some (w .entry) (w .game) (firstPart s) rest
                   ∙ ap (λ (x : List ℕ). line ++ textFrom (next .entry) (next .game) (partsOf x)) (sym there)
 
               step : Moved next (n + length line) (filled room (n + length line) next rest) → Moved w n (filled room (n + length line) next rest)
@@ -87,7 +104,9 @@ module _ (room : ℕ) (w : Walk) (log : List ℕ) where
   by-lines =
       let l : linesOf room w log .written ≡ length (moved .front) = omega (arith, moved .size) in
       let t = sym (moved .text) in
-      ap (λ (x : List ℕ). x ++ textLeft (linesOf room w log .walk) log) (ap (take (linesOf room w log .written)) t ∙ ap (λ (j : ℕ). take j (moved .front ++ textLeft (linesOf room w log .walk) log)) l ∙ take-append-seam (moved .front) _) ∙ moved .text
+      ap (λ (x : List ℕ). x ++ textLeft (linesOf room w log .walk) log)
+      (ap (take (linesOf room w log .written)) t ∙ ap (λ (j : ℕ). take j (moved .front ++ textLeft (linesOf room w log .walk) log)) l
+      ∙ take-append-seam (moved .front) _) ∙ moved .text
 
   pub lengths : linesOf room w log .written + length (textLeft (linesOf room w log .walk) log) ≡ length (textLeft w log)
   lengths = omega (arith, moved .size, length-append (moved .front) (textLeft (linesOf room w log .walk) log), ap length (moved .text))

@@ -21,14 +21,22 @@ by-none : (part : List ℕ) (refusal : ℕ) (k : Game) → length part ≡ 0 →
 by-none [] refusal k e = refl
 by-none (x ∷ part) refusal k e = absurd (omega arith)
 
-by-some : (part : List ℕ) (refusal : ℕ) (k : Game) → 0 < length part → stepBy part refusal k ≡ record { refusal = gameRefusal k (entryOf part); letter = letterOf (kindIn part); len = length part; game = gameAfter k (entryOf part) }
+by-some : (part : List ℕ) (refusal : ℕ) (k : Game) → 0 < length part
+    → stepBy part refusal k ≡ record {
+      refusal = gameRefusal k (entryOf part);
+      letter = letterOf (kindIn part);
+      len = length part;
+      game = gameAfter k
+          (entryOf part);
+    }
 by-some [] refusal k h = absurd (omega arith)
 by-some (x ∷ part) refusal k h = refl
 
 -- ---- the entry of a part, as the code has it: the bytes after a header are a stretch of the part
 
 module _ (b : Game) (s : List ℕ) (k a x : ℕ) (h : Game) where
-  pub part-booking : k ≡ kindIn s → (k ≡ 6 → ⊥) → a ≡ argumentIn s → Books b (booking (bookingBy k a (take (length s - 1) (drop 1 s)))) x h → Books b (entryOf s) x h
+  pub part-booking : k ≡ kindIn s → (k ≡ 6 → ⊥) → a ≡ argumentIn s → Books b (booking (bookingBy k a (take (length s - 1) (drop 1 s)))) x h
+      → Books b (entryOf s) x h
   unfolding entryOf bookingOf
   part-booking ek n ea p = rw (ne-eqb (kindIn s) 6 (λ e. n (ek ∙ e))) (rw (from-on 1 s, ek, ea) at p)
 
@@ -43,7 +51,8 @@ module _ (b : Game) (s : List ℕ) (k a x : ℕ) (h : Game) where
   pub inner-kind : k ≡ getD s 1 0 / 16 → k ≡ kindIn (drop 1 s)
   inner-kind e = e ∙ ap (λ (n : ℕ). n / 16) (sym inner-header)
 
-  pub part-correction : kindIn s ≡ 6 → k ≡ getD s 1 0 / 16 → a ≡ getD s 1 0 % 16 → Books b (correction (resultBy k a (take (length s - 2) (drop 2 s)))) x h → Books b (entryOf s) x h
+  pub part-correction : kindIn s ≡ 6 → k ≡ getD s 1 0 / 16 → a ≡ getD s 1 0 % 16 → Books b (correction (resultBy k a (take (length s - 2) (drop 2 s)))) x h
+      → Books b (entryOf s) x h
   unfolding entryOf resultOf
   part-correction e ek ea p = rw (e, drop-drop 1 1 s, inner-header) (rw (from-on 2 s, ek, ea) at p)
 

@@ -12,8 +12,26 @@ share-spec =
     tie.close
     (tie.spec
     (λ c. (rw (eq-eqb _ _ (c .if1 .taken)), search needs))
-    (λ c. (rw (ne-eqb _ _ (c .before .before .before .if1 .left), c .before .before .if2 .taken, eq-eqb _ _ (c .before .if3 .taken), eq-eqb _ _ (c .if4 .taken)), search needs))
-    (λ c. (rw (ne-eqb _ _ (c .before .before .before .if1 .left), c .before .before .if2 .taken, eq-eqb _ _ (c .before .if3 .taken), ne-eqb _ _ (c .if4 .left)), search needs))
+    (λ c. (
+      rw (
+        ne-eqb _ _ (c .before .before .before .if1 .left),
+        c .before .before .if2 .taken,
+        eq-eqb _ _ (c .before .if3 .taken),
+        eq-eqb _ _
+            (c .if4 .taken),
+      ),
+      search needs,
+    ))
+    (λ c. (
+      rw (
+        ne-eqb _ _ (c .before .before .before .if1 .left),
+        c .before .before .if2 .taken,
+        eq-eqb _ _ (c .before .if3 .taken),
+        ne-eqb _ _
+            (c .if4 .left),
+      ),
+      search needs,
+    ))
     (λ c. (rw (ne-eqb _ _ (c .before .before .if1 .left), c .before .if2 .taken, ne-eqb _ _ (c .if3 .left)), search needs))
     (λ c. (rw (ne-eqb _ _ (c .before .before .if1 .left), c .before .if2 .left, c .if5 .taken), search needs))
     (λ c. (rw (ne-eqb _ _ (c .before .before .if1 .left), c .before .if2 .left, c .if5 .left), search needs)))

@@ -68,7 +68,15 @@ module _ (s : Seats) (a : ℕ) (h : a ≤ 8000) where
       go zero e = omega (arith, pays-le true 0, none 0 1 e (λ q. omega arith), none 0 2 e (λ q. omega arith), none 0 3 e (λ q. omega arith))
       go (suc zero) e = omega (arith, pays-le true 1, none 1 0 e (λ q. omega arith), none 1 2 e (λ q. omega arith), none 1 3 e (λ q. omega arith))
       go (suc (suc zero)) e = omega (arith, pays-le true 2, none 2 0 e (λ q. omega arith), none 2 1 e (λ q. omega arith), none 2 3 e (λ q. omega arith))
-      go (suc (suc (suc n))) e = omega (arith, pays-le true 3, none (suc (suc (suc n))) 0 e (λ q. omega arith), none (suc (suc (suc n))) 1 e (λ q. omega arith), none (suc (suc (suc n))) 2 e (λ q. omega arith))
+      go (suc (suc (suc n))) e =
+          omega (
+            arith,
+            pays-le true 3,
+            none (suc (suc (suc n))) 0 e (λ q. omega arith),
+            none (suc (suc (suc n))) 1 e (λ q. omega arith),
+            none
+                (suc (suc (suc n))) 2 e (λ q. omega arith),
+          )
 
   pub gain-le : (ron : Bool) → s .winner < 4 → gain s ron a ≤ 48000
   gain-le true w = gain-ron-le

@@ -15,7 +15,26 @@ group-fu-spec =
     (λ c. search needs)
     (λ c.
     let c3 = c .before in
-    let t = c3 .before .before .before in
-    (rw (le-leb 34 _ (t .before .if1 .left), lt-ltb _ _ (c3 .before .before .if2 .taken), ← c3 .before .is-yaochu .ensures, c3 .if3 .taken, ← t .triplet-fu .ensures .0), omega arith))
-    (λ c. (rw (le-leb 34 _ (c .before .before .before .before .if1 .left), lt-ltb _ _ (c .before .before .if2 .taken), ← c .before .is-yaochu .ensures, c .if3 .left, ← c .before .before .before .triplet-fu .ensures .0), omega arith))
+    let t = c3 .before .before .before in (
+      rw (
+        le-leb 34 _ (t .before .if1 .left),
+        lt-ltb _ _
+            (c3 .before .before .if2 .taken),
+        ← c3 .before .is-yaochu .ensures,
+        c3 .if3 .taken,
+        ← t .triplet-fu .ensures .0,
+      ),
+      omega arith,
+    ))
+    (λ c. (
+      rw (
+        le-leb 34 _ (c .before .before .before .before .if1 .left),
+        lt-ltb _ _
+            (c .before .before .if2 .taken),
+        ← c .before .is-yaochu .ensures,
+        c .if3 .left,
+        ← c .before .before .before .triplet-fu .ensures .0,
+      ),
+      omega arith,
+    ))
     (λ c. (rw (le-leb 34 _ (c .before .before .if1 .left), le-ltb _ _ (c .if2 .left)), search needs)))

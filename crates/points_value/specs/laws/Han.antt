@@ -24,7 +24,8 @@ test a b e =
     (eqb-true a b (p .0), leb-true b 6 (p .1))
 
 -- no yaku has over 6 han
-pub han-at : (closed : Bool) (i : ℕ) → i < 37 → (cond closed (getD bothHan i 0 / 16) (getD bothHan i 0 % 16) ≡ getD (hanFor closed) i 0) × (getD (hanFor closed) i 0 ≤ 6)
+pub han-at : (closed : Bool) (i : ℕ) → i < 37 → (cond closed (getD bothHan i 0 / 16) (getD bothHan i 0 % 16) ≡ getD (hanFor closed) i 0)
+    × (getD (hanFor closed) i 0 ≤ 6)
 unfolding every
 han-at true i h = test _ _ (every-at (λ k. eqb (getD bothHan k 0 / 16) (getD closedHan k 0) && leb (getD closedHan k 0) 6) 37 i refl h)
 han-at false i h = test _ _ (every-at (λ k. eqb (getD bothHan k 0 % 16) (getD openHan k 0) && leb (getD openHan k 0) 6) 37 i refl h)

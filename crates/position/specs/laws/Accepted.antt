@@ -21,7 +21,8 @@ cond-zero true n m e = absurd (omega arith)
 cond-zero false n m e = (refl, e)
 
 module _ (g : Position) where
-  pub riichi-accepted : (seat : ℕ) → refusalFor g (riichi seat) ≡ 0 → (seat ≤ 3) × (notOpen g ≡ false) × (isDeclared g seat ≡ false) × (lacksStick g seat ≡ false)
+  pub riichi-accepted : (seat : ℕ) → refusalFor g (riichi seat) ≡ 0
+      → (seat ≤ 3) × (notOpen g ≡ false) × (isDeclared g seat ≡ false) × (lacksStick g seat ≡ false)
   unfolding refusalFor refusalWhen
   riichi-accepted seat e =
       let c : ℕ = cond (isDeclared g seat) 10 (cond (lacksStick g seat) 21 0) in
@@ -40,7 +41,8 @@ module _ (g : Position) where
   unfolding refusalFor refusalWhen
   draw-accepted bits e = cond-zero (notOpen g) 8 0 (cond-zero (ltb 15 bits) 7 (cond (notOpen g) 9 0) e .1) .0
 
-  pub pao-accepted : (holder feeder yaku : ℕ) → refusalFor g (pao holder feeder yaku) ≡ 0 → (holder ≤ 3) × (feeder ≤ 3) × (notOpen g ≡ false) × (wrongPao g holder feeder yaku ≡ false)
+  pub pao-accepted : (holder feeder yaku : ℕ) → refusalFor g (pao holder feeder yaku) ≡ 0
+      → (holder ≤ 3) × (feeder ≤ 3) × (notOpen g ≡ false) × (wrongPao g holder feeder yaku ≡ false)
   unfolding refusalFor refusalWhen
   pao-accepted holder feeder yaku e =
       let p = cond-zero (ltb 3 holder || ltb 3 feeder) 7 (cond (notOpen g) 9 (cond (wrongPao g holder feeder yaku) 18 0)) e in
@@ -56,7 +58,8 @@ module _ (g : Position) where
       let z : suc n ≡ 0 = ap (λ (x : Scored). x .refusal) (sym (score-unreadable s (g .dealer) (g .wind) (f .dealer) (f .wind) (suc n) q (omega arith))) ∙ e in
       absurd (omega arith)
 
-  pub win-accepted : (s : List ℕ) → refusalFor g (result (win s)) ≡ 0 → (notOpen g ≡ false) × (refusalIn (readOf s .answer) ≡ 0) × (scoredFor g s .refusal ≡ 0) × (riichiMismatch g (handFor s) ≡ false)
+  pub win-accepted : (s : List ℕ) → refusalFor g (result (win s)) ≡ 0
+      → (notOpen g ≡ false) × (refusalIn (readOf s .answer) ≡ 0) × (scoredFor g s .refusal ≡ 0) × (riichiMismatch g (handFor s) ≡ false)
   unfolding refusalFor refusalWhen
   win-accepted s e =
       let m : ℕ = cond (riichiMismatch g (handFor s)) 11 0 in

@@ -11,7 +11,8 @@ use Rattle.position.specs.Ledger.{startingScore, lastHand, floor}
 abbrev pub depth : ℕ
 depth = dn floor
 
--- the most that a seat pays in the hand that follows h finished ones, its stick left out: "One discarder may now pay 112,000 in a hand" (02, S-6), with h counters
+-- the most that a seat pays in the hand that follows h finished ones, its stick left out: "One discarder may now pay 112,000 in a hand" (02, S-6), with h
+-- counters
 abbrev pub costs : ℕ → ℕ
 costs h = 112000 + 300 * h
 

@@ -21,5 +21,6 @@ module _ (l : Position) (seat : ℕ) where
   unfolding effectOf riichiGives
   never-on-credit e =
       let y = riichi-accepted l seat e in
-      let given : scoreAt (after l (riichi seat)) seat ≡ scoreAt l seat +ℤ negℤ (pos 1000) = rw (e, eq-eqb seat seat refl) at (score-after l (riichi seat) seat (omega (arith, y .0))) in
+      let given : scoreAt (after l (riichi seat)) seat ≡ scoreAt l seat +ℤ negℤ (pos 1000) =
+      rw (e, eq-eqb seat seat refl) at (score-after l (riichi seat) seat (omega (arith, y .0))) in
       rw given (less-1000 (scoreAt l seat) (y .3))

@@ -43,7 +43,8 @@ module _ (g : Position) where
   result-finishes (multiRon number s) = refl
   result-finishes (draw bits) = go (any 4 (isAtFault g bits))
     where
-      go : (t : Bool) → cond t (chomboOf g (isAtFault g bits)) (finishing (drawGives bits) (g .sticks) (not (isReady bits (g .dealer))) (g .counter + 1)) .finishes ≡ true
+      go : (t : Bool) → cond t (chomboOf g (isAtFault g bits))
+          (finishing (drawGives bits) (g .sticks) (not (isReady bits (g .dealer))) (g .counter + 1)) .finishes ≡ true
       go true = refl
       go false = refl
 

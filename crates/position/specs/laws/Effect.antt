@@ -12,7 +12,8 @@ use Rattle.tiles.specs.Below.{count}
 use Rattle.tiles.specs.laws.Tabulate.{getD-tabulate}
 use Rattle.score.specs.laws.Z.{up, dn, add-law, eq-parts}
 use Rattle.position.specs.declared.Position.{Position}
-use Rattle.position.specs.Ledger.{startingScore, pointsInPlay, lastHand, isSet, mark, scoreAt, isDeclared, declarations, feederAt, totalOf, wrongFeeder, Effect, finishing, isLast, dealerAfter, windAfter, handsAfter, applied}
+use Rattle.position.specs.Ledger.{startingScore, pointsInPlay, lastHand, isSet, mark, scoreAt, isDeclared, declarations, feederAt, totalOf, wrongFeeder}
+use Rattle.position.specs.Ledger.{Effect, finishing, isLast, dealerAfter, windAfter, handsAfter, applied}
 use Rattle.position.specs.laws.Bounds.{costs, worst, worst-step}
 use Rattle.position.specs.laws.Form.{sum-law}
 
@@ -29,7 +30,8 @@ is-mark false = refl
 -- ---- what a game keeps from the first booking on
 
 abbrev pub Above : Position → ℕ → Type 0
-Above g i = (g .hands + mark (isDeclared g i) ≤ lastHand) × (dn (scoreAt g i) + up startingScore ≤ up (scoreAt g i) + worst (g .hands) + 1000 * mark (isDeclared g i))
+Above g i =
+    (g .hands + mark (isDeclared g i) ≤ lastHand) × (dn (scoreAt g i) + up startingScore ≤ up (scoreAt g i) + worst (g .hands) + 1000 * mark (isDeclared g i))
 
 pub record Kept (g : Position) : Type 0 where
   pub dealer : g .dealer ≤ 3

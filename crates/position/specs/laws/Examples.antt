@@ -3,7 +3,8 @@ use mathlib.Core.Path.{_≡_, refl}
 use mathlib.Core.List.{List, [], _∷_}
 use lib.IntN.{pos}
 use Rattle.position.specs.Booking.{Booking, result, riichi, draw}
-use Rattle.position.specs.Ledger.{fresh, totalOf, notOpen, outOfForm, refusalFor, refusalWhen, riichiGives, drawGives, effectOf, applied, after, ledgerFrom, ledger}
+use Rattle.position.specs.Ledger.{fresh, totalOf, notOpen, outOfForm, refusalFor, refusalWhen, riichiGives, drawGives, effectOf, applied, after}
+use Rattle.position.specs.Ledger.{ledgerFrom, ledger}
 
 unfoldable pub example : List Booking
 example = riichi 1 ∷ result (draw 4) ∷ []

@@ -17,7 +17,9 @@ use Rattle.score.specs.laws.Z.{up, dn, add-law, parts-eq}
 use Rattle.score.specs.laws.Changes.{score-within, score-child, zero-sum}
 use Rattle.position.specs.declared.Position.{Position}
 use Rattle.position.specs.Booking.{Booking, result, riichi, win, draw, chombo, pao}
-use Rattle.position.specs.Ledger.{lastHand, mark, isDeclared, declarations, notOpen, isReady, handFor, scoredFor, readySeats, shareOf, refusalFor, wrongPao, finishing, riichiGives, paidByOthers, wholeOf, paoPays, isSet, isDealersWin, gainGives, counterGives, paoFor, winGives, drawGives, fineOf, backTo, chomboGives, chomboOf, isAtFault, effectOf}
+use Rattle.position.specs.Ledger.{lastHand, mark, isDeclared, declarations, notOpen, isReady, handFor, scoredFor, readySeats, shareOf, refusalFor}
+use Rattle.position.specs.Ledger.{wrongPao, finishing, riichiGives, paidByOthers, wholeOf, paoPays, isSet, isDealersWin, gainGives, counterGives}
+use Rattle.position.specs.Ledger.{paoFor, winGives, drawGives, fineOf, backTo, chomboGives, chomboOf, isAtFault, effectOf}
 use Rattle.position.specs.laws.Bounds.{costs, worst}
 use Rattle.position.specs.laws.Form.{open-of}
 use Rattle.position.specs.laws.Accepted.{riichi-accepted, chombo-accepted, draw-accepted, win-accepted, pao-accepted}
@@ -65,7 +67,8 @@ module _ (g : Position) where
     where
       go : (e : Bool) → eqb i seat ≡ e
           → (g .hands + mark (e || isDeclared g i) ≤ lastHand)
-          × (dn (cond e (negℤ (pos 1000)) (pos 0)) + worst (g .hands) + 1000 * mark (isDeclared g i) ≤ up (cond e (negℤ (pos 1000)) (pos 0)) + worst (g .hands) + 1000 * mark (e || isDeclared g i))
+          × (dn (cond e (negℤ (pos 1000)) (pos 0)) + worst (g .hands) + 1000 * mark (isDeclared g i) ≤ up (cond e (negℤ (pos 1000)) (pos 0))
+          + worst (g .hands) + 1000 * mark (e || isDeclared g i))
       go true q = let d : isDeclared g i ≡ false = ap (isDeclared g) (eqb-true i seat q) ∙ u in (omega arith, rw d (omega arith))
       go false q = (omega (arith, mark-le (isDeclared g i)), omega arith)
 
@@ -219,7 +222,13 @@ module _ (g : Position) (s : List ℕ) (n k : ℕ) where
   won-dn i = go (paoFor g s) (isSet (paoFor g s))
     where
       go : (m : ℕ) (t : Bool) → dn (cond t (liable m i) (scored i)) ≤ most
-      go m true = let f = handFor s .fields in omega (arith, pao-dn (f .discarder) (m - 1) (isRon f) (wholeOf (isDealersWin g s)) (f .winner) i, whole-is (isDealersWin g s))
+      go m true =
+          let f = handFor s .fields in omega (
+            arith,
+            pao-dn (f .discarder) (m - 1) (isRon f) (wholeOf (isDealersWin g s)) (f .winner) i,
+            whole-is
+                (isDealersWin g s),
+          )
       go m false = scored-dn i
 
   -- who pays the counters alone, and whether

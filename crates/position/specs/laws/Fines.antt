@@ -45,7 +45,8 @@ module _ (at : ℕ → Bool) where
 abbrev pub finedBy : ℕ → Bool → ℤ
 finedBy n pays = cond pays (negℤ (pos (3000 * (4 - n)))) (pos (3000 * n))
 
-by-count : (pays : Bool) (n got paid : ℕ) → n ≤ 4 → got + 3000 * cond pays 1 0 ≡ 3000 * n → paid ≡ 9000 * cond pays 1 0 → finedBy n pays ≡ pos got +ℤ negℤ (pos paid)
+by-count : (pays : Bool) (n got paid : ℕ) → n ≤ 4 → got + 3000 * cond pays 1 0 ≡ 3000 * n → paid ≡ 9000 * cond pays 1 0
+    → finedBy n pays ≡ pos got +ℤ negℤ (pos paid)
 by-count true n got paid h e d = eq-parts _ _ (omega (arith, neg-law (pos (3000 * (4 - n))), add-law (pos got) (negℤ (pos paid)), neg-law (pos paid)))
 by-count false n got paid h e d = eq-parts _ _ (omega (arith, add-law (pos got) (negℤ (pos paid)), neg-law (pos paid)))
 
@@ -72,7 +73,8 @@ pub of-one : (seat : ℕ) → seat < 4 → (i : ℕ) → i < 4 → OfOne seat i
 unfolding fineOf
 of-one =
     below-four (λ seat. (i : ℕ) → i < 4 → OfOne seat i)
-    (below-four (OfOne 0) refl refl refl refl) (below-four (OfOne 1) refl refl refl refl) (below-four (OfOne 2) refl refl refl refl) (below-four (OfOne 3) refl refl refl refl)
+    (below-four (OfOne 0) refl refl refl refl) (below-four (OfOne 1) refl refl refl refl) (below-four (OfOne 2) refl refl refl refl)
+    (below-four (OfOne 3) refl refl refl refl)
 
 pub of-four : (i : ℕ) → i < 4 → fineOf (λ j. true) i ≡ pos 0
 unfolding fineOf

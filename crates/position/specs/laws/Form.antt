@@ -12,7 +12,8 @@ use Rattle.tiles.specs.Below.{any, some}
 use Rattle.tiles.specs.laws.Below.{or-both, some-at, some-of}
 use Rattle.score.specs.laws.Z.{up, dn, add-law, part-law, parts-eq, ltZ-false, le-ltZ, Within}
 use Rattle.position.specs.declared.Position.{Position}
-use Rattle.position.specs.Ledger.{pointsInPlay, lastHand, floor, isSet, scoreAt, declarations, feederAt, totalOf, eqZ, isOver, wrongFeeder, outOfForm, notOpen}
+use Rattle.position.specs.Ledger.{pointsInPlay, lastHand, floor, isSet, scoreAt, declarations, feederAt, totalOf, eqZ, isOver, wrongFeeder, outOfForm}
+use Rattle.position.specs.Ledger.{notOpen}
 use Rattle.position.specs.laws.Bounds.{depth, amount, mostSticks}
 
 -- ---- tests of integers
@@ -77,7 +78,8 @@ eight a b c d e f i k h =
     let h1 = or-both a b (h2 .0) in
     (h1 .0, h1 .1, h2 .1, h3 .1, h4 .1, h5 .1, h6 .1, not-false k (h7 .1))
 
-eight-none : (a b c d e f i k : Bool) → a ≡ false → b ≡ false → c ≡ false → d ≡ false → e ≡ false → f ≡ false → i ≡ false → k ≡ true → a || b || c || d || e || f || i || not k ≡ false
+eight-none : (a b c d e f i k : Bool) → a ≡ false → b ≡ false → c ≡ false → d ≡ false → e ≡ false → f ≡ false → i ≡ false → k ≡ true
+    → a || b || c || d || e || f || i || not k ≡ false
 eight-none a b c d e f i k p q r t u v x w = rw (p, q, r, t, u, v, x, w)
 
 module _ (g : Position) where
@@ -92,7 +94,8 @@ module _ (g : Position) where
   pub form-of : outOfForm g ≡ false → InForm g
   unfolding outOfForm some lows wrongs
   form-of h =
-      let p = eight (ltb 3 (g .dealer)) (ltb 1 (g .wind)) (ltb lastHand (g .hands)) (ltb (g .sticks) (declarations g)) (ltb (g .hands) (g .counter)) wrongs lows (eqZ (totalOf g) pointsInPlay) h in
+      let p = eight (ltb 3 (g .dealer)) (ltb 1 (g .wind)) (ltb lastHand (g .hands)) (ltb (g .sticks) (declarations g))
+      (ltb (g .hands) (g .counter)) wrongs lows (eqZ (totalOf g) pointsInPlay) h in
       record {
         dealer = ltb-false 3 (g .dealer) (p .0);
         wind = ltb-false 1 (g .wind) (p .1);
@@ -107,9 +110,12 @@ module _ (g : Position) where
   pub of-form : InForm g → outOfForm g ≡ false
   unfolding outOfForm some lows wrongs
   of-form f =
-      eight-none (ltb 3 (g .dealer)) (ltb 1 (g .wind)) (ltb lastHand (g .hands)) (ltb (g .sticks) (declarations g)) (ltb (g .hands) (g .counter)) wrongs lows (eqZ (totalOf g) pointsInPlay)
-      (le-ltb 3 (g .dealer) (f .dealer)) (le-ltb 1 (g .wind) (f .wind)) (le-ltb lastHand (g .hands) (f .hands)) (le-ltb (g .sticks) (declarations g) (f .sticks)) (le-ltb (g .hands) (g .counter) (f .counter))
-      (some-of (λ j. wrongFeeder j (feederAt g j)) 8 (f .feeders)) (some-of (λ j. ltZ (scoreAt g j) floor) 4 (λ i l. low-not (scoreAt g i) (f .low i l))) (eq-eqZ (totalOf g) pointsInPlay (f .total))
+      eight-none (ltb 3 (g .dealer)) (ltb 1 (g .wind)) (ltb lastHand (g .hands)) (ltb (g .sticks) (declarations g)) (ltb (g .hands) (g .counter)) wrongs lows
+      (eqZ (totalOf g) pointsInPlay)
+      (le-ltb 3 (g .dealer) (f .dealer)) (le-ltb 1 (g .wind) (f .wind)) (le-ltb lastHand (g .hands) (f .hands))
+      (le-ltb (g .sticks) (declarations g) (f .sticks)) (le-ltb (g .hands) (g .counter) (f .counter))
+      (some-of (λ j. wrongFeeder j (feederAt g j)) 8 (f .feeders)) (some-of (λ j. ltZ (scoreAt g j) floor) 4 (λ i l. low-not (scoreAt g i) (f .low i l)))
+      (eq-eqZ (totalOf g) pointsInPlay (f .total))
 
 -- ---- open
 
@@ -137,7 +143,8 @@ module _ (a b c d : ℤ) (k : ℕ) where
   sum-law = omega (arith, add-law a b, add-law (a +ℤ b) c, add-law (a +ℤ b +ℤ c) d, add-law (a +ℤ b +ℤ c +ℤ d) (pos (1000 * k)))
 
 module _ (g : Position) (f : InForm g) where
-  total-law : up pointsInPlay + dn (scoreAt g 0) + dn (scoreAt g 1) + dn (scoreAt g 2) + dn (scoreAt g 3) ≡ up (scoreAt g 0) + up (scoreAt g 1) + up (scoreAt g 2) + up (scoreAt g 3) + 1000 * g .sticks
+  total-law : up pointsInPlay + dn (scoreAt g 0) + dn (scoreAt g 1) + dn (scoreAt g 2) + dn (scoreAt g 3)
+      ≡ up (scoreAt g 0) + up (scoreAt g 1) + up (scoreAt g 2) + up (scoreAt g 3) + 1000 * g .sticks
   unfolding totalOf
   total-law =
       let l = sum-law (scoreAt g 0) (scoreAt g 1) (scoreAt g 2) (scoreAt g 3) (g .sticks) in

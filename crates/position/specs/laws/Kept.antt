@@ -12,7 +12,8 @@ use lib.Signed.{ltZ}
 use Rattle.score.specs.laws.Z.{up, dn, part-law}
 use Rattle.position.specs.declared.Position.{Position}
 use Rattle.position.specs.Booking.{Booking}
-use Rattle.position.specs.Ledger.{startingScore, lastHand, floor, mark, fresh, scoreAt, isDeclared, totalOf, outOfForm, refusalFor, effectOf, applied, after, ledgerFrom, ledger}
+use Rattle.position.specs.Ledger.{startingScore, lastHand, floor, mark, fresh, scoreAt, isDeclared, totalOf, outOfForm, refusalFor, effectOf, applied}
+use Rattle.position.specs.Ledger.{after, ledgerFrom, ledger}
 use Rattle.position.specs.laws.Bounds.{depth, worst, worst-low}
 use Rattle.position.specs.laws.Form.{InForm, of-form, low-not}
 use Rattle.position.specs.laws.Effect.{mark-le, none-named, Above, Kept, applied-kept}
@@ -28,7 +29,8 @@ above-fresh (suc (suc (suc (suc i)))) l = absurd (omega arith)
 
 pub fresh-kept : Kept fresh
 unfolding fresh totalOf
-fresh-kept = record { dealer = omega arith; wind = omega arith; hands = omega arith; sticks = omega arith; counter = omega arith; feeders = none-named; above = above-fresh; total = refl }
+fresh-kept =
+    record { dealer = omega arith; wind = omega arith; hands = omega arith; sticks = omega arith; counter = omega arith; feeders = none-named; above = above-fresh; total = refl }
 
 above-low : (z : ℤ) (h d : ℕ) → h + d ≤ lastHand → d ≤ 1 → dn z + up startingScore ≤ up z + worst h + 1000 * d → dn z ≤ depth
 above-low z h d a l b = ⊎-elim (λ (e : up z ≡ 0). omega (arith, worst-low h d a l)) (λ (e : dn z ≡ 0). omega arith) (part-law z)

@@ -17,7 +17,8 @@ pub fresh-score : (i : ℕ) → i < 4 → scoreAt fresh i ≡ startingScore
 unfolding fresh
 fresh-score i h = getD-tabulate (pos 0) 4 (λ j. startingScore) i h
 
-pub score-after : (l : Position) (b : Booking) (i : ℕ) → i < 4 → scoreAt (after l b) i ≡ scoreAt l i +ℤ cond (ltb 0 (refusalFor l b)) (pos 0) (effectOf l b .gives i)
+pub score-after : (l : Position) (b : Booking) (i : ℕ) → i < 4
+    → scoreAt (after l b) i ≡ scoreAt l i +ℤ cond (ltb 0 (refusalFor l b)) (pos 0) (effectOf l b .gives i)
 unfolding after
 score-after l b i h = go (ltb 0 (refusalFor l b))
   where

@@ -16,7 +16,8 @@ use Rattle.hand_rons.specs.Records.{recordsOf, firstWinner}
 use Rattle.hand_rons.specs.laws.OneTile.{records-length}
 use Rattle.position.specs.declared.Position.{Position}
 use Rattle.position.specs.Booking.{Booking, result, riichi, win, draw, chombo, pao, multiRon}
-use Rattle.position.specs.Ledger.{lastHand, mark, fresh, scoreAt, isDeclared, notOpen, isReady, refusalFor, Effect, finishing, riichiGives, isDealersWin, drawGives, chomboOf, isAtFault, effectOf, handsAfter, applied, after, ledgerFrom, ledger}
+use Rattle.position.specs.Ledger.{lastHand, mark, fresh, scoreAt, isDeclared, notOpen, isReady, refusalFor, Effect, finishing, riichiGives}
+use Rattle.position.specs.Ledger.{isDealersWin, drawGives, chomboOf, isAtFault, effectOf, handsAfter, applied, after, ledgerFrom, ledger}
 use Rattle.position.specs.laws.Bounds.{costs}
 use Rattle.position.specs.laws.Form.{open-of}
 use Rattle.position.specs.laws.Accepted.{riichi-accepted, win-accepted}
@@ -66,7 +67,8 @@ module _ (g : Position) where
   unfolding effectOf
   draw-cheap bits e i l = go (any 4 (isAtFault g bits))
     where
-      go : (t : Bool) → let x = cond t (chomboOf g (isAtFault g bits)) (finishing (drawGives bits) (g .sticks) (not (isReady bits (g .dealer))) (g .counter + 1)) in
+      go : (t : Bool) → let x = cond t (chomboOf g (isAtFault g bits))
+          (finishing (drawGives bits) (g .sticks) (not (isReady bits (g .dealer))) (g .counter + 1)) in
           dn (x .gives i) ≤ costs (g .hands) + up (x .gives i)
       go true = omega (arith, chombo-bounded g (isAtFault g bits) i l)
       go false = omega (arith, draw-bounded bits i)
@@ -78,7 +80,16 @@ module _ (g : Position) where
       let o = open-of g (a .opened) in
       let rs = recordsOf number s in
       let x : ℕ = firstWinner rs in
-      omega (arith, records-length number s, a .few, o .form .counter, once g number s (g .dealer) 16000 (a .set), once g number s x (300 * g .counter) (a .set), multi-ron-dn g x rs i)
+      omega (
+        arith,
+        records-length number s,
+        a .few,
+        o .form .counter,
+        once g number s (g .dealer) 16000 (a .set),
+        once g number s x (300 * g .counter)
+            (a .set),
+        multi-ron-dn g x rs i,
+      )
 
 -- ---- what a seat keeps from the first booking on
 
@@ -154,8 +165,10 @@ module _ (g : Position) where
   unfolding effectOf
   accepted-lower (riichi seat) e w = when-going g (effectOf g (riichi seat)) refl (riichi-pays seat e) w
   accepted-lower (result (win s)) e w = when-finished g (effectOf g (result (win s))) refl (win-cheap g s e) w
-  accepted-lower (result (draw bits)) e w = when-finished g (effectOf g (result (draw bits))) (either-finishes (any 4 (isAtFault g bits)) _ _ refl refl) (draw-cheap g bits e) w
-  accepted-lower (result (chombo seat)) e w = when-finished g (effectOf g (result (chombo seat))) refl (λ i l. omega (arith, chombo-bounded g (λ j. eqb j seat) i l)) w
+  accepted-lower (result (draw bits)) e w =
+      when-finished g (effectOf g (result (draw bits))) (either-finishes (any 4 (isAtFault g bits)) _ _ refl refl) (draw-cheap g bits e) w
+  accepted-lower (result (chombo seat)) e w =
+      when-finished g (effectOf g (result (chombo seat))) refl (λ i l. omega (arith, chombo-bounded g (λ j. eqb j seat) i l)) w
   accepted-lower (pao holder feeder yaku) e w = when-going g (effectOf g (pao holder feeder yaku)) refl (λ i l. pao-pays holder feeder yaku i) w
   accepted-lower (result (multiRon number s)) e w = when-finished g (effectOf g (result (multiRon number s))) refl (multi-ron-cheap g number s e) w
 
@@ -169,7 +182,8 @@ module _ (g : Position) where
 
 fresh-lower : Lower fresh
 unfolding fresh spent
-fresh-lower = below-four (Above29 fresh) (λ q. omega arith, omega arith) (λ q. omega arith, omega arith) (λ q. omega arith, omega arith) (λ q. omega arith, omega arith)
+fresh-lower =
+    below-four (Above29 fresh) (λ q. omega arith, omega arith) (λ q. omega arith, omega arith) (λ q. omega arith, omega arith) (λ q. omega arith, omega arith)
 
 ledger-lower : (bs : List Booking) (l : Position) → Lower l → Lower (ledgerFrom l bs)
 unfolding ledgerFrom

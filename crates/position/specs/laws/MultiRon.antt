@@ -30,21 +30,31 @@ module _ (g : Position) (x : ℕ) where
   multi-ron-turns [] r = refl
   multi-ron-turns (s ∷ ss) r =
       let foremost : Bool = eqb (winnerOf s) x in
-      all-turn (winGives g s (cond foremost (g .counter) 0) (cond foremost (g .sticks) 0)) (multiRonGives g x ss) (cond foremost (g .sticks) 0) (taken x (g .sticks) ss)
+      all-turn (winGives g s (cond foremost (g .counter) 0) (cond foremost (g .sticks) 0)) (multiRonGives g x ss) (cond foremost (g .sticks) 0)
+      (taken x (g .sticks) ss)
       (win-turns g s (cond foremost (g .counter) 0) (cond foremost (g .sticks) 0) (read-bounds s (r .0) .winner)) (multi-ron-turns ss (r .1))
 
   times : (k : ℕ) (t : Bool) (n : ℕ) → k * cond t n 0 ≡ cond t (k * n) 0
   times k true n = refl
   times k false n = omega arith
 
-  pub multi-ron-dn : (ss : List (List ℕ)) (i : ℕ) → dn (multiRonGives g x ss i) ≤ 32000 * length ss + taken (g .dealer) 16000 ss + taken x (300 * g .counter) ss + up (multiRonGives g x ss i)
+  pub multi-ron-dn : (ss : List (List ℕ)) (i : ℕ)
+      → dn (multiRonGives g x ss i) ≤ 32000 * length ss + taken (g .dealer) 16000 ss + taken x (300 * g .counter) ss + up (multiRonGives g x ss i)
   unfolding multiRonGives taken
   multi-ron-dn [] i = omega arith
   multi-ron-dn (s ∷ ss) i =
       let foremost : Bool = eqb (winnerOf s) x in
       let n : ℕ = cond foremost (g .counter) 0 in
       let k : ℕ = cond foremost (g .sticks) 0 in
-      omega (arith, win-dn g s n k i, multi-ron-dn ss i, times 300 foremost (g .counter), times 16000 (isDealersWin g s) 1, add-law (winGives g s n k i) (multiRonGives g x ss i))
+      omega (
+        arith,
+        win-dn g s n k i,
+        multi-ron-dn ss i,
+        times 300 foremost (g .counter),
+        times 16000 (isDealersWin g s) 1,
+        add-law (winGives g s n k i)
+            (multiRonGives g x ss i),
+      )
 
 -- ---- an accepted set
 
@@ -95,7 +105,8 @@ module _ (g : Position) (number : ℕ) (s : List ℕ) where
       (λ i h. omega (arith, l, a .few, o .form .counter, once (g .dealer) 16000 (a .set), once x (300 * g .counter) (a .set), multi-ron-dn g x rs i))
 
   pub first-winner : refusalFor g (result (multiRon number s)) ≡ 0
-      → (isWinner rs (firstWinner rs) ≡ true) × ((seat : ℕ) → isWinner rs seat ≡ true → turnsAfter (discarderOf rs) (firstWinner rs) ≤ turnsAfter (discarderOf rs) seat)
+      → (isWinner rs (firstWinner rs) ≡ true) × ((seat : ℕ) → isWinner rs seat ≡ true
+      → turnsAfter (discarderOf rs) (firstWinner rs) ≤ turnsAfter (discarderOf rs) seat)
   first-winner e =
       let a = multi-ron-accepted e in
       let some : 0 < length rs = omega (arith, records-length number s, a .some) in

@@ -22,7 +22,8 @@ use Rattle.score.specs.laws.Z.{add-law, eq-parts}
 use Rattle.position.specs.declared.Position.{Position}
 use Rattle.position.specs.Booking.{Booking, result, riichi, win, draw, chombo, pao, multiRon}
 use Rattle.hand_rons.specs.Records.{recordsOf, firstUnreadable, notOnOneTile}
-use Rattle.position.specs.Ledger.{scoreAt, isDeclared, declarations, notOpen, handFor, scoredFor, riichiMismatch, winRefusal, firstRefused, lacksStick, wrongPao, refusalFor, refusalWhen, fineOf, backTo, chomboGives, chomboOf, isAtFault, effectOf, applied, after}
+use Rattle.position.specs.Ledger.{scoreAt, isDeclared, declarations, notOpen, handFor, scoredFor, riichiMismatch, winRefusal, firstRefused, lacksStick}
+use Rattle.position.specs.Ledger.{wrongPao, refusalFor, refusalWhen, fineOf, backTo, chomboGives, chomboOf, isAtFault, effectOf, applied, after}
 use Rattle.position.specs.NotReady.{BookedAsChombo}
 use Rattle.position.specs.laws.Effect.{score-applied}
 use Rattle.position.specs.laws.Fair.{chombo-balanced}
@@ -58,7 +59,15 @@ module _ (l : Position) (at : ℕ → Bool) where
       let x2 = chomboGives l at 2 in
       let x3 = chomboGives l at 3 in
       let k : ℕ = 1000 * (l .sticks - declarations l) in
-      eq-parts _ _ (omega (arith, chombo-balanced l at h, add-law x0 x1, add-law (x0 +ℤ x1) x2, add-law (x0 +ℤ x1 +ℤ x2) x3, add-law (x0 +ℤ x1 +ℤ x2 +ℤ x3) (pos k)))
+      eq-parts _ _ (omega (
+        arith,
+        chombo-balanced l at h,
+        add-law x0 x1,
+        add-law (x0 +ℤ x1) x2,
+        add-law (x0 +ℤ x1 +ℤ x2) x3,
+        add-law (x0 +ℤ x1 +ℤ x2 +ℤ x3)
+            (pos k),
+      ))
 
 -- ---- Read's refusals are 5 at most, Score's 8
 
@@ -66,7 +75,8 @@ refusal-le : (h : Hand) (padding : ℕ) → refusalOf h padding ≤ 5
 unfolding refusalOf
 refusal-le h padding =
     cond-le (wrongFields h padding) 2 _ 5 (omega arith)
-    (cond-le (descends (h .held)) 3 _ 5 (omega arith) (cond-le (overFour (inRecord h)) 4 _ 5 (omega arith) (cond-le (wrongSituation h) 5 0 5 (omega arith) (omega arith))))
+    (cond-le (descends (h .held)) 3 _ 5 (omega arith)
+    (cond-le (overFour (inRecord h)) 4 _ 5 (omega arith) (cond-le (wrongSituation h) 5 0 5 (omega arith) (omega arith))))
 
 answer-le : (h : Hand) (j : ℕ) → j ≤ 5 → refusalIn (answerBy h j .answer) ≤ 5
 unfolding answerBy
@@ -116,7 +126,8 @@ module _ (l : Position) where
   win-12 : (s : List ℕ) → Not12 (winRefusal l s)
   win-12 s =
       let v : ℕ = scoredFor l s .refusal in
-      neither (ltb 0 v) v _ (λ e. omega (arith, score-le s (l .dealer) (l .wind))) (neither (riichiMismatch l (handFor s)) 11 0 (λ e. omega arith) (λ e. omega arith))
+      neither (ltb 0 v) v _ (λ e. omega (arith, score-le s (l .dealer) (l .wind)))
+      (neither (riichiMismatch l (handFor s)) 11 0 (λ e. omega arith) (λ e. omega arith))
 
   refused-12 : (ss : List (List ℕ)) → Not12 (firstRefused l ss)
   unfolding firstRefused
@@ -126,7 +137,9 @@ module _ (l : Position) where
   pub never-12 : (b : Booking) → Not12 (refusalFor l b)
   unfolding refusalFor refusalWhen
   never-12 (riichi seat) =
-      neither (ltb 3 seat) 8 _ (λ e. omega arith) (neither (notOpen l) 9 _ (λ e. omega arith) (neither (isDeclared l seat) 10 _ (λ e. omega arith) (neither (lacksStick l seat) 21 0 (λ e. omega arith) (λ e. omega arith))))
+      neither (ltb 3 seat) 8 _ (λ e. omega arith)
+      (neither (notOpen l) 9 _ (λ e. omega arith)
+      (neither (isDeclared l seat) 10 _ (λ e. omega arith) (neither (lacksStick l seat) 21 0 (λ e. omega arith) (λ e. omega arith))))
   never-12 (result (win s)) = neither (notOpen l) 9 _ (λ e. omega arith) (win-12 s)
   never-12 (result (draw bits)) = neither (ltb 15 bits) 8 _ (λ e. omega arith) (neither (notOpen l) 9 0 (λ e. omega arith) (λ e. omega arith))
   never-12 (result (chombo seat)) = neither (ltb 3 seat) 8 _ (λ e. omega arith) (neither (notOpen l) 9 0 (λ e. omega arith) (λ e. omega arith))
@@ -137,4 +150,5 @@ module _ (l : Position) where
       let rs = recordsOf number s in
       neither (notOpen l) 9 _ (λ e. omega arith)
       (neither (eqb number 0 || ltb 3 number) 17 _ (λ e. omega arith)
-      (neither (ltb 0 (firstUnreadable rs)) (firstUnreadable rs) _ (unreadable-12 rs) (neither (notOnOneTile rs) 17 (firstRefused l rs) (λ e. omega arith) (refused-12 rs))))
+      (neither (ltb 0 (firstUnreadable rs)) (firstUnreadable rs) _ (unreadable-12 rs)
+      (neither (notOnOneTile rs) 17 (firstRefused l rs) (λ e. omega arith) (refused-12 rs))))

@@ -15,7 +15,8 @@ use Rattle.points.specs.laws.Balance.{below-four}
 use Rattle.score.specs.laws.Z.{dn, add-law, neg-law, eq-parts}
 use Rattle.position.specs.declared.Position.{Position}
 use Rattle.position.specs.Booking.{Booking, result, riichi, win, draw, chombo, pao, multiRon}
-use Rattle.position.specs.Ledger.{isSet, feederAt, feederIndex, wrongFeeder, wrongPao, refusalFor, Effect, paidByOthers, repeatGives, wholeOf, paoPays, paoIn, isAtFault, effectOf, applied, after}
+use Rattle.position.specs.Ledger.{isSet, feederAt, feederIndex, wrongFeeder, wrongPao, refusalFor, Effect, paidByOthers, repeatGives, wholeOf, paoPays}
+use Rattle.position.specs.Ledger.{paoIn, isAtFault, effectOf, applied, after}
 use Rattle.position.specs.Article67.{Article67}
 use Rattle.position.specs.laws.Form.{InForm}
 use Rattle.position.specs.laws.Accepted.{pao-accepted}
@@ -78,20 +79,24 @@ module _ (w d f k : ℕ) (ron : Bool) (g : f < 4) (other : w ≡ f → ⊥) (l :
   unfolding paoPays
   all-paid = go ron refl
     where
-      go : (r : Bool) → ron ≡ r → sum 4 (λ i. cond (eqb i w) 0 (cond r (cond (eqb i f) (whole / 2) 0 + cond (eqb i d) (whole / 2) 0) (cond (eqb i f) whole 0))) ≡ whole
+      go : (r : Bool) → ron ≡ r → sum 4 (λ i. cond (eqb i w) 0
+          (cond r (cond (eqb i f) (whole / 2) 0 + cond (eqb i d) (whole / 2) 0) (cond (eqb i f) whole 0))) ≡ whole
       go true e =
           both-pay (λ i. eqb i w) (λ i. cond (eqb i f) (whole / 2) 0) (λ i. cond (eqb i d) (whole / 2) 0)
           ∙ twice k _ _ (one-pays (whole / 2) w f g other) (one-pays (whole / 2) w d (l e) (own e))
       go false e = one-pays whole w f g other
 
   -- what it gives seat i, so that no sum is made
-  pub pao-at : (i : ℕ) → cond (eqb i w) (pos whole) (negℤ (pos (cond ron (cond (eqb i f) (whole / 2) 0 + cond (eqb i d) (whole / 2) 0) (cond (eqb i f) whole 0)))) ≡ paidByOthers w (paoPays w d f ron whole) i
+  pub pao-at : (i : ℕ) → cond (eqb i w) (pos whole)
+      (negℤ (pos (cond ron (cond (eqb i f) (whole / 2) 0 + cond (eqb i d) (whole / 2) 0) (cond (eqb i f) whole 0))))
+      ≡ paidByOthers w (paoPays w d f ron whole) i
   unfolding paidByOthers paoPays
   pao-at i = go (eqb i w)
     where
       go : (b : Bool) →
           cond b (pos whole) (negℤ (pos (cond ron (cond (eqb i f) (whole / 2) 0 + cond (eqb i d) (whole / 2) 0) (cond (eqb i f) whole 0))))
-          ≡ cond b (pos (sum 4 (paoPays w d f ron whole))) (negℤ (pos (cond b 0 (cond ron (cond (eqb i f) (whole / 2) 0 + cond (eqb i d) (whole / 2) 0) (cond (eqb i f) whole 0)))))
+          ≡ cond b (pos (sum 4 (paoPays w d f ron whole)))
+          (negℤ (pos (cond b 0 (cond ron (cond (eqb i f) (whole / 2) 0 + cond (eqb i d) (whole / 2) 0) (cond (eqb i f) whole 0)))))
       go true = ap pos (sym all-paid)
       go false = refl
 
@@ -174,7 +179,8 @@ module _ (holder feeder y : ℕ) (h : holder ≤ 3) (f : feeder ≤ 3) (k : eqb 
       let other = eqb-false holder feeder k in
       rw (le-ltb (1 + 3) (1 + feeder) (omega arith), ne-eqb (1 + feeder) (1 + i % 4) (λ z. other (omega arith)))
 
-  pub multi-ron-right : (l : List ℕ) → ((i : ℕ) → i < 8 → wrongFeeder i (getD l i 0) ≡ false) → (i : ℕ) → i < 8 → wrongFeeder i (getD (set l (4 * y + holder) (1 + feeder)) i 0) ≡ false
+  pub multi-ron-right : (l : List ℕ) → ((i : ℕ) → i < 8 → wrongFeeder i (getD l i 0) ≡ false) → (i : ℕ) → i < 8
+      → wrongFeeder i (getD (set l (4 * y + holder) (1 + feeder)) i 0) ≡ false
   multi-ron-right l r i b = multi-ron-has (λ n. wrongFeeder i n ≡ false) l (4 * y + holder) (1 + feeder) i (named-right i) (r i b)
 
 -- ---- what is not refused with 18
@@ -264,7 +270,8 @@ module _ (l : Position) where
 
   -- ---- a feeder that is named stays till then
 
-  stays : (b : Booking) → refusalFor l b ≡ 0 → effectOf l b .finishes ≡ false → (i : ℕ) → (feederAt l i ≡ 0 → ⊥) → getD (effectOf l b .feeders) i 0 ≡ feederAt l i
+  stays : (b : Booking) → refusalFor l b ≡ 0 → effectOf l b .finishes ≡ false → (i : ℕ) → (feederAt l i ≡ 0 → ⊥)
+      → getD (effectOf l b .feeders) i 0 ≡ feederAt l i
   unfolding effectOf
   stays (riichi seat) e f i k = refl
   stays (result (win s)) e f i k = absurd (false≢true (sym f))
@@ -277,6 +284,7 @@ module _ (l : Position) where
       getD-set-other (l .feeders) place i (1 + feeder) 0 other
   stays (result (multiRon number s)) e f i k = absurd (false≢true (sym f))
 
-  pub feeders-stay : (b : Booking) → refusalFor l b ≡ 0 → effectOf l b .finishes ≡ false → (i : ℕ) → (feederAt l i ≡ 0 → ⊥) → feederAt (after l b) i ≡ feederAt l i
+  pub feeders-stay : (b : Booking) → refusalFor l b ≡ 0 → effectOf l b .finishes ≡ false → (i : ℕ) → (feederAt l i ≡ 0 → ⊥)
+      → feederAt (after l b) i ≡ feederAt l i
   unfolding after applied
   feeders-stay b e f i k = rw e (stays b e f i k)

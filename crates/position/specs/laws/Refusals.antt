@@ -10,7 +10,8 @@ use lib.Dec.{ltb, eqb}
 use Rattle.hand_rons.specs.Records.{recordsOf, firstUnreadable, notOnOneTile}
 use Rattle.position.specs.declared.Position.{Position}
 use Rattle.position.specs.Booking.{Booking, result, riichi, win, draw, chombo, pao, multiRon}
-use Rattle.position.specs.Ledger.{isDeclared, isOver, outOfForm, notOpen, lacksStick, winRefusal, firstRefused, wrongPao, refusalFor, refusalWhen, effectOf, applied, after, Moves}
+use Rattle.position.specs.Ledger.{isDeclared, isOver, outOfForm, notOpen, lacksStick, winRefusal, firstRefused, wrongPao, refusalFor, refusalWhen}
+use Rattle.position.specs.Ledger.{effectOf, applied, after, Moves}
 
 -- ---- any booking, by its refusal
 
@@ -70,7 +71,8 @@ module _ (g : Position) (holder feeder yaku : ℕ) where
   unfolding refusalFor refusalWhen
   pao-shut h o = rw (h, o)
 
-  pub pao-by : ltb 3 holder || ltb 3 feeder ≡ false → notOpen g ≡ false → (b : Bool) → wrongPao g holder feeder yaku ≡ b → refusalFor g (pao holder feeder yaku) ≡ cond b 18 0
+  pub pao-by : ltb 3 holder || ltb 3 feeder ≡ false → notOpen g ≡ false → (b : Bool) → wrongPao g holder feeder yaku ≡ b
+      → refusalFor g (pao holder feeder yaku) ≡ cond b 18 0
   unfolding refusalFor refusalWhen
   pao-by h o b e = rw (h, o, e)
 

@@ -77,14 +77,18 @@ each-within h a b c d p q r s (suc (suc (suc zero))) = s
 each-within h a b c d p q r s (suc (suc (suc (suc i)))) = (omega arith, omega arith)
 
 -- the sums of two times four
-pub paid-within : (a b : List ℤ) (x y : ℕ) → ((i : ℕ) → Within (getD a i (pos 0)) x) → ((i : ℕ) → Within (getD b i (pos 0)) y) → (i : ℕ) → Within (getD (paid a b) i (pos 0)) (x + y)
+pub paid-within : (a b : List ℤ) (x y : ℕ) → ((i : ℕ) → Within (getD a i (pos 0)) x) → ((i : ℕ) → Within (getD b i (pos 0)) y) → (i : ℕ)
+    → Within (getD (paid a b) i (pos 0)) (x + y)
 paid-within a b x y p q =
     let sum : (i : ℕ) → Within (getD a i (pos 0) +ℤ getD b i (pos 0)) (x + y) = λ i. within-add (getD a i (pos 0)) (getD b i (pos 0)) x y (p i) (q i) in
-    each-within (x + y) (getD a 0 (pos 0) +ℤ getD b 0 (pos 0)) (getD a 1 (pos 0) +ℤ getD b 1 (pos 0)) (getD a 2 (pos 0) +ℤ getD b 2 (pos 0)) (getD a 3 (pos 0) +ℤ getD b 3 (pos 0)) (sum 0) (sum 1) (sum 2) (sum 3)
+    each-within (x + y) (getD a 0 (pos 0) +ℤ getD b 0 (pos 0)) (getD a 1 (pos 0) +ℤ getD b 1 (pos 0)) (getD a 2 (pos 0) +ℤ getD b 2 (pos 0))
+    (getD a 3 (pos 0) +ℤ getD b 3 (pos 0)) (sum 0) (sum 1) (sum 2) (sum 3)
 
 -- four times nothing
 pub zeros-gifts : Gifts (pos 0 ∷ pos 0 ∷ pos 0 ∷ pos 0 ∷ [])
-zeros-gifts = each-within mostGift (pos 0) (pos 0) (pos 0) (pos 0) (omega arith, omega arith) (omega arith, omega arith) (omega arith, omega arith) (omega arith, omega arith)
+zeros-gifts =
+    each-within mostGift (pos 0) (pos 0) (pos 0) (pos 0) (omega arith, omega arith) (omega arith, omega arith) (omega arith, omega arith)
+    (omega arith, omega arith)
 
 pub gifts-small : (l : List ℤ) → Gifts l → Small l
 gifts-small l w i h = let x = w i in (omega arith, omega arith)
@@ -93,7 +97,8 @@ pub zeros-small : Small (pos 0 ∷ pos 0 ∷ pos 0 ∷ pos 0 ∷ [])
 zeros-small = gifts-small (pos 0 ∷ pos 0 ∷ pos 0 ∷ pos 0 ∷ []) zeros-gifts
 
 -- an array of four numbers within h, each that of its seat
-pub four-within : (h : ℕ) → h ≤ amount → (a b c d : ℤ) (f : ℕ → ℤ) → (a ≡ f 0) × Within a h → (b ≡ f 1) × Within b h → (c ≡ f 2) × Within c h → (d ≡ f 3) × Within d h
+pub four-within : (h : ℕ) → h ≤ amount → (a b c d : ℤ) (f : ℕ → ℤ) → (a ≡ f 0) × Within a h → (b ≡ f 1) × Within b h → (c ≡ f 2) × Within c h
+    → (d ≡ f 3) × Within d h
     → (B32 a ∷ B32 b ∷ B32 c ∷ B32 d ∷ [] ≡ tabulate 4 0 f) × ((i : ℕ) → Within (getD (B32 a ∷ B32 b ∷ B32 c ∷ B32 d ∷ []) i (pos 0)) h)
 four-within h l a b c d f p q r s =
     let own : (z : ℤ) → Within z h → B32 z ≡ z = λ z w. held z (omega arith, omega arith) in

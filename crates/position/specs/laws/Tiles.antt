@@ -26,8 +26,10 @@ use Rattle.score.specs.laws.Named.{accepted, best, most, refused-6, refused-7, 
 use Rattle.position.specs.declared.Position.{Position}
 use Rattle.position.specs.Booking.{result, win, multiRon}
 use Rattle.hand_rons.specs.Records.{recordsOf, firstUnreadable, firstWinner}
-use Rattle.position.specs.Ledger.{scoreAt, notOpen, handFor, scoredFor, riichiMismatch, winRefusal, firstRefused, refusalFor, isSet, wholeOf, isDealersWin, gainGives, counterGives, paoIn, holdsFourWinds, paoFor, winGives, multiRonGives, effectOf, after}
-use Rattle.position.specs.Wins.{gainBy, changeBy, sticksTo, paoBy, paidIn, PaidBy, IsBest, EachWins, MultiRonAcceptedWhen, EachBest, givenIn, MultiRonPaid, AcceptedWhen, PaidByBest, BestWithCounters, TilesRefused, SixOrSeven}
+use Rattle.position.specs.Ledger.{scoreAt, notOpen, handFor, scoredFor, riichiMismatch, winRefusal, firstRefused, refusalFor, isSet, wholeOf}
+use Rattle.position.specs.Ledger.{isDealersWin, gainGives, counterGives, paoIn, holdsFourWinds, paoFor, winGives, multiRonGives, effectOf, after}
+use Rattle.position.specs.Wins.{gainBy, changeBy, sticksTo, paoBy, paidIn, PaidBy, IsBest, EachWins, MultiRonAcceptedWhen, EachBest, givenIn}
+use Rattle.position.specs.Wins.{MultiRonPaid, AcceptedWhen, PaidByBest, BestWithCounters, TilesRefused, SixOrSeven}
 use Rattle.position.specs.laws.Form.{InForm, le-leZ, open-of}
 use Rattle.position.specs.laws.Accepted.{win-accepted}
 use Rattle.position.specs.laws.Refusals.{win-by, multi-ron-by}
@@ -62,12 +64,14 @@ module _ (l : Position) (s : List ℕ) where
   names o i = let f = open-of l o .form in scored s (l .dealer) (l .wind) (f .dealer) (f .wind) i
 
   -- pao by the tiles is pao in the reading
-  pao-is : (r : Reading) → refusalIn (readOf s .answer) ≡ 0 → IsReadingOf (handFor s) r → scoredFor l s ≡ scoredAs (handFor s) (l .dealer) (l .wind) r → paoFor l s ≡ paoBy l s r
+  pao-is : (r : Reading) → refusalIn (readOf s .answer) ≡ 0 → IsReadingOf (handFor s) r → scoredFor l s ≡ scoredAs (handFor s) (l .dealer) (l .wind) r
+      → paoFor l s ≡ paoBy l s r
   pao-is r n i e =
       let w : ℕ = handFor s .fields .winner in
       let y = scoredAs (handFor s) (l .dealer) (l .wind) r .yaku in
       ap (λ (x : Scored). paoIn l w (getD (x .yaku) 28 false) (getD (x .yaku) 29 false && holdsFourWinds (handFor s))) e
-      ∙ ap (paoIn l w (getD y 28 false)) (behind (getD y 29 false) (holdsFourWinds (handFor s)) (eqb (winds (groupsOf (handFor s) r)) 4) (winds-by-tiles s n (l .dealer) (l .wind) r i))
+      ∙ ap (paoIn l w (getD y 28 false)) (behind (getD y 29 false) (holdsFourWinds (handFor s)) (eqb (winds (groupsOf (handFor s) r)) 4)
+      (winds-by-tiles s n (l .dealer) (l .wind) r i))
 
   -- a record that scores as r gives what r gives or takes, and the sticks
   gives-in : (r : Reading) → refusalIn (readOf s .answer) ≡ 0 → IsReadingOf (handFor s) r → scoredFor l s ≡ scoredAs (handFor s) (l .dealer) (l .wind) r
@@ -78,15 +82,18 @@ module _ (l : Position) (s : List ℕ) where
       ∙ ap (λ (x : Scored). gainGives l s (paoBy l s r) (λ j. getD (x .changes) j (pos 0)) i +ℤ counterGives l s (paoBy l s r) n i +ℤ sticksTo l s k i) e
 
   -- an accepted win that scores as r moves each score by it
-  win-moves : (r : Reading) → refusalFor l (result (win s)) ≡ 0 → IsReadingOf (handFor s) r → scoredFor l s ≡ scoredAs (handFor s) (l .dealer) (l .wind) r → PaidBy l s r
+  win-moves : (r : Reading) → refusalFor l (result (win s)) ≡ 0 → IsReadingOf (handFor s) r → scoredFor l s ≡ scoredAs (handFor s) (l .dealer) (l .wind) r
+      → PaidBy l s r
   unfolding effectOf
   win-moves r z m e i h =
-      let given : scoreAt (after l (result (win s))) i ≡ scoreAt l i +ℤ winGives l s (l .counter) (l .sticks) i = rw z at (score-after l (result (win s)) i h) in
+      let given : scoreAt (after l (result (win s))) i ≡ scoreAt l i +ℤ winGives l s (l .counter) (l .sticks) i =
+      rw z at (score-after l (result (win s)) i h) in
       given ∙ ap (λ (x : ℤ). scoreAt l i +ℤ x) (gives-in r (win-accepted l s z .1) m e (l .counter) (l .sticks) i)
       ∙ sym (+ℤ-assoc (scoreAt l i) (paidIn l s r (l .counter) i) (sticksTo l s (l .sticks) i))
 
   -- of a record that reads and scores: the best reading
-  best-of : notOpen l ≡ false → refusalIn (readOf s .answer) ≡ 0 → scoredFor l s .refusal ≡ 0 → (r : Reading) × IsBest l s r × (scoredFor l s ≡ scoredAs (handFor s) (l .dealer) (l .wind) r)
+  best-of : notOpen l ≡ false → refusalIn (readOf s .answer) ≡ 0 → scoredFor l s .refusal ≡ 0
+      → (r : Reading) × IsBest l s r × (scoredFor l s ≡ scoredAs (handFor s) (l .dealer) (l .wind) r)
   best-of o n z =
       let r = best (handFor s) (l .dealer) (l .wind) (names o (sound s .1 n)) z in
       (r .0, (r .1, λ q w. most (handFor s) (l .dealer) (l .wind) (r .0) q (r .1) w), r .2)
@@ -239,7 +246,8 @@ module _ (l : Position) (number : ℕ) (s : List ℕ) where
         f .0,
         f .1,
         λ i h.
-            let given : scoreAt (after l (result (multiRon number s))) i ≡ scoreAt l i +ℤ multiRonGives l (firstWinner ss) ss i = rw q at (score-after l (result (multiRon number s)) i h) in
+            let given : scoreAt (after l (result (multiRon number s))) i ≡ scoreAt l i +ℤ multiRonGives l (firstWinner ss) ss i =
+            rw q at (score-after l (result (multiRon number s)) i h) in
             given ∙ ap (λ (x : ℤ). scoreAt l i +ℤ x) (f .2 i),
       )
 

@@ -45,4 +45,5 @@ balanced-spec =
     (λ c. search needs)
     (λ c. prod (sc c 0) (sc c 1) (sc c 2) (sc c 3) (at c .args .sticks) (within c 0) (within c 1) (within c 2) (within c 3) (at c .fits .sticks .fits))
     (λ c. sum-5 (sc c 0) (sc c 1) (sc c 2) (sc c 3) (at c .args .sticks) (within c 0) (within c 1) (within c 2) (within c 3) (at c .fits .sticks .fits))
-    (λ c. test (sc c 0) (sc c 1) (sc c 2) (sc c 3) (at c .args .sticks) (within c 0) (within c 1) (within c 2) (within c 3) (at c .fits .sticks .fits) ∙ rw (same c 0, same c 1, same c 2, same c 3)))
+    (λ c. test (sc c 0) (sc c 1) (sc c 2) (sc c 3) (at c .args .sticks) (within c 0) (within c 1) (within c 2) (within c 3) (at c .fits .sticks .fits)
+    ∙ rw (same c 0, same c 1, same c 2, same c 3)))

@@ -17,4 +17,5 @@ name-feeder-spec =
     let payed = marked .before .before in
     let start = payed .before .before in
     let a = start .args in
-    pao-applied (a .p) (a .holder) (a .feeder) (a .yaku) (start .pre .0) (payed .pay .result) (marked .marks .result) (c .named .result) (payed .pay .ensures) (marked .marks .ensures) (c .named .ensures)))
+    pao-applied (a .p) (a .holder) (a .feeder) (a .yaku) (start .pre .0) (payed .pay .result) (marked .marks .result) (c .named .result) (payed .pay .ensures)
+    (marked .marks .ensures) (c .named .ensures)))

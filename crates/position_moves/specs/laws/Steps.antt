@@ -12,7 +12,8 @@ use Rattle.tiles.specs.Below.{any, count, tabulate}
 use Rattle.tiles.specs.laws.Tabulate.{getD-tabulate}
 use Rattle.position.specs.declared.Position.{Position}
 use Rattle.position.specs.Booking.{result, riichi, draw, pao}
-use Rattle.position.specs.Ledger.{lastHand, mark, isDeclared, feederIndex, isReady, shareOf, finishing, riichiGives, drawGives, fineOf, chomboGives, chomboOf, isAtFault, effectOf, applied}
+use Rattle.position.specs.Ledger.{lastHand, mark, isDeclared, feederIndex, isReady, shareOf, finishing, riichiGives, drawGives, fineOf, chomboGives, chomboOf}
+use Rattle.position.specs.Ledger.{isAtFault, effectOf, applied}
 use Rattle.position.specs.laws.Form.{Open}
 use Rattle.position.specs.laws.Sums.{paid}
 
@@ -23,15 +24,29 @@ finished g by sticks passes counter = applied g (finishing (λ i. getD by i (pos
 -- ---- riichi, pao, chombo, draw
 
 module _ (g : Position) (seat : ℕ) where
-  pub riichi-applied : Open g → (s : List ℤ) (d : List ℕ) → s ≡ paid (g .scores) (tabulate 4 0 (riichiGives seat)) → d ≡ tabulate 4 0 (λ i. mark (eqb i seat || isDeclared g i))
-      → record { scores = s; sticks = g .sticks + 1; declared = d; dealer = g .dealer; wind = g .wind; hands = g .hands; over = 0; counter = g .counter; feeders = g .feeders } ≡ applied g (effectOf g (riichi seat))
+  pub riichi-applied : Open g → (s : List ℤ) (d : List ℕ) → s ≡ paid (g .scores) (tabulate 4 0 (riichiGives seat))
+      → d ≡ tabulate 4 0 (λ i. mark (eqb i seat || isDeclared g i))
+      → record {
+        scores = s;
+        sticks = g .sticks
+            + 1;
+        declared = d;
+        dealer = g .dealer;
+        wind = g .wind;
+        hands = g .hands;
+        over = 0;
+        counter = g .counter;
+        feeders = g .feeders;
+      }
+      ≡ applied g (effectOf g (riichi seat))
   unfolding applied effectOf
   riichi-applied o s d p q =
       let n : eqb (g .hands) lastHand ≡ false = ne-eqb (g .hands) lastHand (λ e. omega (arith, o .hands)) in
       rw (p, q, n)
 
 module _ (g : Position) (holder feeder yaku : ℕ) where
-  pub pao-applied : Open g → (s : List ℤ) (d f : List ℕ) → s ≡ paid (g .scores) (pos 0 ∷ pos 0 ∷ pos 0 ∷ pos 0 ∷ []) → d ≡ tabulate 4 0 (λ i. mark (isDeclared g i))
+  pub pao-applied : Open g → (s : List ℤ) (d f : List ℕ) → s ≡ paid (g .scores) (pos 0 ∷ pos 0 ∷ pos 0 ∷ pos 0 ∷ [])
+      → d ≡ tabulate 4 0 (λ i. mark (isDeclared g i))
       → f ≡ set (g .feeders) (feederIndex holder yaku) (1 + feeder)
       → record { scores = s; sticks = g .sticks; declared = d; dealer = g .dealer; wind = g .wind; hands = g .hands; over = 0; counter = g .counter; feeders = f }
       ≡ applied g (effectOf g (pao holder feeder yaku))
@@ -65,7 +80,8 @@ module _ (g : Position) (bits : ℕ) (r f : List Bool) (q : r ≡ tabulate 4 0 (
   unfolding effectOf
   fault-applied a = let t = some-fault true a in rw t (same-chombo g f (isAtFault g bits) faults)
 
-  pub draw-applied : any 4 (λ i. getD f i false) ≡ false → g .dealer ≤ 3 → (by : List ℤ) → by ≡ tabulate 4 0 (λ i. shareOf (count 4 (λ j. getD r j false)) (getD r i false))
+  pub draw-applied : any 4 (λ i. getD f i false) ≡ false → g .dealer ≤ 3 → (by : List ℤ)
+      → by ≡ tabulate 4 0 (λ i. shareOf (count 4 (λ j. getD r j false)) (getD r i false))
       → finished g by (g .sticks) (not (getD r (g .dealer) false)) (g .counter + 1) ≡ applied g (effectOf g (result (draw bits)))
   unfolding finished applied effectOf drawGives
   draw-applied a h by p = let t = some-fault false a in rw (p, q, getD-tabulate false 4 (isReady bits) (g .dealer) (omega (arith, h)), t)

@@ -43,7 +43,8 @@ refused c l rs r e =
     let w = on c .before .loop in
     let given = c .before in
     given-refused (a .p) (a .first) (a .number) (a .t4) (w .by) (w .i) (start c .pre .1) (room (start c)) (w .inv)
-    (on c .loop-test .taken) (given .before .to-foremost .result) (given .to-foremost2 .result) (given .before .to-foremost .ensures .0) (given .to-foremost2 .ensures .0) (c .settle-hand .result) (c .settle-hand .ensures .1) rs r e l
+    (on c .loop-test .taken) (given .before .to-foremost .result) (given .to-foremost2 .result) (given .before .to-foremost .ensures .0)
+    (given .to-foremost2 .ensures .0) (c .settle-hand .result) (c .settle-hand .ensures .1) rs r e l
 
 pub settle-all-spec : {M : Type 1} → statement M
 settle-all-spec =
@@ -81,7 +82,8 @@ settle-all-spec =
     let w = on t .before .loop in
     let given = t .before in
     given-more (a .p) (a .first) (a .number) (a .t4) (w .by) (w .i) (start t .pre .1) (room (start t)) (w .inv)
-    (on t .loop-test .taken) (given .before .to-foremost .result) (given .to-foremost2 .result) (given .before .to-foremost .ensures .0) (given .to-foremost2 .ensures .0)
+    (on t .loop-test .taken) (given .before .to-foremost .result) (given .to-foremost2 .result) (given .before .to-foremost .ensures .0)
+    (given .to-foremost2 .ensures .0)
     (t .settle-hand .result) (t .settle-hand .ensures .1) (omega (arith, c .before .before .if1 .left)) (t .settle-hand .ensures .0)
     (c .pay .result) (c .pay .ensures))
     (λ c.

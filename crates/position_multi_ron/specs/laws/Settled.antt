@@ -191,20 +191,23 @@ module _ (g : Position) (number : ℕ) (s : List ℕ) where
 
   -- x the first winner, dealers whether the dealer is one
   pub rons-applied : (d x : ℕ) (by : List ℤ) (dealers : Bool) (m : ℕ) → d ≡ discarderOf rs → x ≡ firstAfter d (isWinner rs)
-      → by ≡ tabulate 4 0 (multiRonGives g x rs) → dealers ≡ isWinner rs (g .dealer) → m ≡ cond dealers (g .counter + 1) 0 → finished g by 0 (not dealers) m ≡ applied g (effectOf g (result (multiRon number s)))
+      → by ≡ tabulate 4 0 (multiRonGives g x rs) → dealers ≡ isWinner rs (g .dealer) → m ≡ cond dealers (g .counter + 1) 0
+      → finished g by 0 (not dealers) m ≡ applied g (effectOf g (result (multiRon number s)))
   unfolding finished applied effectOf
   rons-applied d x by dealers m p q b w c =
       let z : x ≡ firstWinner rs = q ∙ ap (λ (k : ℕ). firstAfter k (isWinner rs)) p in
       rw (c, b, w, z)
 
   -- rons that are booked are the booking
-  pub rons-booked : (n : ℕ) (k : Position) → refusalFor g (result (multiRon number s)) ≡ firstRefused g rs → RonsBooked n k → Moves g (result (multiRon number s)) n k
+  pub rons-booked : (n : ℕ) (k : Position) → refusalFor g (result (multiRon number s)) ≡ firstRefused g rs → RonsBooked n k
+      → Moves g (result (multiRon number s)) n k
   unfolding after
   rons-booked n k q w = rw q (w .0, w .1)
 
 -- of each list of bytes whose records read as the hands hs
 abbrev pub BooksHands : Position → ℕ → List Hand → ℕ → Position → Type 0
-BooksHands g number hs n k = (s : List ℕ) → firstUnreadable (recordsOf number s) ≡ 0 → map handFor (recordsOf number s) ≡ take number hs → RonsBooked g number s n k
+BooksHands g number hs n k =
+    (s : List ℕ) → firstUnreadable (recordsOf number s) ≡ 0 → map handFor (recordsOf number s) ≡ take number hs → RonsBooked g number s n k
 
 -- one to three
 pub some-few : (n : ℕ) → eqb n 0 || ltb 3 n ≡ false → (1 ≤ n) × (n ≤ 3)

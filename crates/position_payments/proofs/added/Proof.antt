@@ -16,6 +16,11 @@ added-spec =
     let f = start .args .f in
     let liable = start .args .liable in
     let p = start .pre in
-    rw (c .payer-of .ensures, c .before .feeder-of .ensures)
-    (p .0, payer-small (isRon f) (f .discarder) liable (p .1) (p .3), payer-other (isRon f) (f .winner) (f .discarder) liable (other-seat f (p .2)) (p .4), p .5))
+    rw (c .payer-of .ensures, c .before .feeder-of .ensures) (
+      p .0,
+      payer-small (isRon f) (f .discarder) liable (p .1) (p .3),
+      payer-other (isRon f) (f .winner) (f .discarder) liable (other-seat f (p .2))
+          (p .4),
+      p .5,
+    ))
     (λ c. rw (c .before .payer-of .ensures, c .before .before .feeder-of .ensures) at (c .additions .ensures)))

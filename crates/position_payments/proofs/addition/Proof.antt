@@ -17,7 +17,8 @@ addition-spec =
     (λ c.
     let w = c .less .ensures .1 in
     let alone = c .before .before in
-    rw (held (c .less .result) (omega arith, omega arith)) (rw (alone .before .if1 .left, alone .if2 .taken, c .less .ensures .0, c .before .due .ensures .0), w))
+    rw (held (c .less .result) (omega arith, omega arith))
+    (rw (alone .before .if1 .left, alone .if2 .taken, c .less .ensures .0, c .before .due .ensures .0), w))
     (λ c.
     let w = c .less2 .ensures .1 in
     let others = c .before in

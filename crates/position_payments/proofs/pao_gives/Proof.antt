@@ -17,11 +17,13 @@ use Rattle.position_payments.proofs.pao_gives.Tie as tie
 
 -- what a seat owes, and what it is given by that, is its part
 module _ (w d f : ℕ) (ron dealers : Bool) (other : w ≡ f → ⊥) (own : ron ≡ true → w ≡ d → ⊥) (g : f ≤ 3) (l : d ≤ 3) where
-  part : (i : ℕ) → cond (eqb i w) (pos (wholeOf dealers)) (negℤ (pos (cond ron (cond (eqb i f) (wholeOf dealers / 2) 0 + cond (eqb i d) (wholeOf dealers / 2) 0) (cond (eqb i f) (wholeOf dealers) 0))))
+  part : (i : ℕ) → cond (eqb i w) (pos (wholeOf dealers))
+      (negℤ (pos (cond ron (cond (eqb i f) (wholeOf dealers / 2) 0 + cond (eqb i d) (wholeOf dealers / 2) 0) (cond (eqb i f) (wholeOf dealers) 0))))
       ≡ paidByOthers w (paoPays w d f ron (wholeOf dealers)) i
   part i = rw (whole-even dealers) (pao-at w d f (cond dealers 24000 16000) ron (omega arith) other (λ r. omega arith) own i)
 
-  given : (whole : ℕ) → whole ≡ wholeOf dealers → (i owes : ℕ) → owes ≡ cond ron (cond (eqb i f) (whole / 2) 0 + cond (eqb i d) (whole / 2) 0) (cond (eqb i f) whole 0)
+  given : (whole : ℕ) → whole ≡ wholeOf dealers → (i owes : ℕ)
+      → owes ≡ cond ron (cond (eqb i f) (whole / 2) 0 + cond (eqb i d) (whole / 2) 0) (cond (eqb i f) whole 0)
       → (y : ℤ) → y ≡ cond (eqb i w) (pos whole) (negℤ (pos owes)) → y ≡ paidByOthers w (paoPays w d f ron (wholeOf dealers)) i
   given whole e i owes o y q = q ∙ rw (o, e) (part i)
 
@@ -29,7 +31,8 @@ pub pao-gives-spec : {M : Type 1} → statement M
 pao-gives-spec =
     tie.close
     (tie.spec (λ c κs. search needs)
-    (λ c κs. search needs) (λ c κs. search needs) (λ c κs. search needs) (λ c κs. search needs) (λ c κs. search needs) (λ c κs. search needs) (λ c κs. search needs) (λ c κs. search needs)
+    (λ c κs. search needs) (λ c κs. search needs) (λ c κs. search needs) (λ c κs. search needs) (λ c κs. search needs) (λ c κs. search needs)
+    (λ c κs. search needs) (λ c κs. search needs)
     (λ c.
     let third = c .before .before in
     let second = third .before .before in
@@ -38,10 +41,20 @@ pao-gives-spec =
     let start = whole .before .before in
     let f = start .args .f in
     let p = start .pre in
-    let seat = given (f .winner) (f .discarder) (start .args .feeder) (isRon f) (start .args .dealers) (p .4) (other-seat f (p .2)) (p .3) (p .1) (whole .whole-of .result) (whole .whole-of .ensures .0) in
+    let seat = given (f .winner) (f .discarder) (start .args .feeder) (isRon f) (start .args .dealers) (p .4) (other-seat f (p .2)) (p .3) (p .1)
+    (whole .whole-of .result) (whole .whole-of .ensures .0) in
     four-within mostChange (omega arith) (first .pao-given .result) (second .pao-given2 .result) (third .pao-given3 .result) (c .pao-given4 .result)
-    (paidByOthers (f .winner) (paoPays (f .winner) (f .discarder) (start .args .feeder) (isRon f) (wholeOf (start .args .dealers))))
-    (seat 0 (first .before .owed .result) (first .before .owed .ensures .0) (first .pao-given .result) (first .pao-given .ensures .0), first .pao-given .ensures .1)
-    (seat 1 (second .before .owed2 .result) (second .before .owed2 .ensures .0) (second .pao-given2 .result) (second .pao-given2 .ensures .0), second .pao-given2 .ensures .1)
-    (seat 2 (third .before .owed3 .result) (third .before .owed3 .ensures .0) (third .pao-given3 .result) (third .pao-given3 .ensures .0), third .pao-given3 .ensures .1)
+    (paidByOthers (f .winner) (paoPays (f .winner) (f .discarder) (start .args .feeder) (isRon f) (wholeOf (start .args .dealers)))) (
+      seat 0 (first .before .owed .result) (first .before .owed .ensures .0) (first .pao-given .result)
+          (first .pao-given .ensures .0),
+      first .pao-given .ensures .1,
+    ) (
+      seat 1 (second .before .owed2 .result) (second .before .owed2 .ensures .0) (second .pao-given2 .result)
+          (second .pao-given2 .ensures .0),
+      second .pao-given2 .ensures .1,
+    ) (
+      seat 2 (third .before .owed3 .result) (third .before .owed3 .ensures .0) (third .pao-given3 .result)
+          (third .pao-given3 .ensures .0),
+      third .pao-given3 .ensures .1,
+    )
     (seat 3 (c .before .owed4 .result) (c .before .owed4 .ensures .0) (c .pao-given4 .result) (c .pao-given4 .ensures .0), c .pao-given4 .ensures .1)))

@@ -21,4 +21,5 @@ penalty-spec =
     let a = c .before .fine in
     let b = c .back in
     let w = within-add (a .result) (b .result) mostChange mostChange (a .ensures .1) (b .ensures .1) in
-    rw (plus-is (a .result) (b .result) (wide (a .result) (a .ensures .1)) (wide (b .result) (b .ensures .1))) (rw (a .ensures .0, b .ensures .0), (omega arith, omega arith))))
+    rw (plus-is (a .result) (b .result) (wide (a .result) (a .ensures .1)) (wide (b .result) (b .ensures .1)))
+    (rw (a .ensures .0, b .ensures .0), (omega arith, omega arith))))

@@ -34,5 +34,7 @@ share-spec =
     (λ c. omega (arith, between (c .before .before .args .n) (c .before .before .pre) (c .before .if1 .left)))
     (λ c. let h = small (4 - c .before .before .args .n) in record { sfits = omega arith })
     (λ c. let n = c .before .before .args .n in less-fits (3000 / (4 - n)) (small (4 - n)))
-    (λ c. let n = c .before .before .args .n in let h = small n in rw (plain (3000 / n) h) (rw (c .before .if1 .left, c .if2 .taken), (omega arith, omega arith)))
-    (λ c. let n = c .before .before .args .n in let h = small (4 - n) in rw (less-is (3000 / (4 - n)) h) (rw (c .before .if1 .left, c .if2 .left), neg-within (3000 / (4 - n)) amount h)))
+    (λ c. let n = c .before .before .args .n in let h = small n in
+    rw (plain (3000 / n) h) (rw (c .before .if1 .left, c .if2 .taken), (omega arith, omega arith)))
+    (λ c. let n = c .before .before .args .n in let h = small (4 - n) in
+    rw (less-is (3000 / (4 - n)) h) (rw (c .before .if1 .left, c .if2 .left), neg-within (3000 / (4 - n)) amount h)))

@@ -11,5 +11,6 @@ pub stakes-spec : {M : Type 1} → statement M
 stakes-spec =
     tie.close
     (tie.spec (λ c κs. search needs) (λ c κs. search needs) (λ c κs. search needs) (λ c κs. search needs)
-    (λ c. four (c .before .before .before .stake .result) (c .before .before .stake2 .result) (c .before .stake3 .result) (c .stake4 .result) (λ i. cond (eqb i (c .before .before .before .before .args .seat)) (negℤ (pos 1000)) (pos 0))
+    (λ c. four (c .before .before .before .stake .result) (c .before .before .stake2 .result) (c .before .stake3 .result) (c .stake4 .result)
+    (λ i. cond (eqb i (c .before .before .before .before .args .seat)) (negℤ (pos 1000)) (pos 0))
     (c .before .before .before .stake .ensures) (c .before .before .stake2 .ensures) (c .before .stake3 .ensures) (c .stake4 .ensures)))

@@ -47,7 +47,8 @@ winning-spec =
     (λ c. sum-fits (c .args .change) (c .args .added) (c .args .sticks) (c .pre))
     (λ c. search needs) (λ c. search needs)
     (λ c. let a = c .before .args in all-fits (a .change) (a .added) (a .sticks) (c .before .pre))
-    (λ c. let a = c .before .args in rw (all-is (a .change) (a .added) (a .sticks) (c .before .pre)) (rw (c .if1 .taken), within (a .change) (a .added) (a .sticks) (c .before .pre)))
+    (λ c. let a = c .before .args in rw (all-is (a .change) (a .added) (a .sticks) (c .before .pre))
+    (rw (c .if1 .taken), within (a .change) (a .added) (a .sticks) (c .before .pre)))
     (λ c.
     let a = c .before .args in
     let w = sum-within (a .change) (a .added) (a .sticks) (c .before .pre) in

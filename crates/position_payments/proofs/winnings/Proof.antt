@@ -31,13 +31,17 @@ winnings-spec =
     tie.close
     (tie.spec
     (λ c. search needs) (λ c. search needs)
-    (λ c κs. let start = c .before .before in asked (start .args .t1) (start .args .t2) (start .pre .0) (start .pre .1) (start .args .winner) (start .args .sticks) (start .pre .2) 0)
+    (λ c κs. let start = c .before .before in
+    asked (start .args .t1) (start .args .t2) (start .pre .0) (start .pre .1) (start .args .winner) (start .args .sticks) (start .pre .2) 0)
     (λ c. search needs) (λ c. search needs)
-    (λ c κs. let start = c .before .before .before .before .before in asked (start .args .t1) (start .args .t2) (start .pre .0) (start .pre .1) (start .args .winner) (start .args .sticks) (start .pre .2) 1)
+    (λ c κs. let start = c .before .before .before .before .before in
+    asked (start .args .t1) (start .args .t2) (start .pre .0) (start .pre .1) (start .args .winner) (start .args .sticks) (start .pre .2) 1)
     (λ c. search needs) (λ c. search needs)
-    (λ c κs. let start = c .before .before .before .before .before .before .before .before in asked (start .args .t1) (start .args .t2) (start .pre .0) (start .pre .1) (start .args .winner) (start .args .sticks) (start .pre .2) 2)
+    (λ c κs. let start = c .before .before .before .before .before .before .before .before in
+    asked (start .args .t1) (start .args .t2) (start .pre .0) (start .pre .1) (start .args .winner) (start .args .sticks) (start .pre .2) 2)
     (λ c. search needs) (λ c. search needs)
-    (λ c κs. let start = c .before .before .before .before .before .before .before .before .before .before .before in asked (start .args .t1) (start .args .t2) (start .pre .0) (start .pre .1) (start .args .winner) (start .args .sticks) (start .pre .2) 3)
+    (λ c κs. let start = c .before .before .before .before .before .before .before .before .before .before .before in
+    asked (start .args .t1) (start .args .t2) (start .pre .0) (start .pre .1) (start .args .winner) (start .args .sticks) (start .pre .2) 3)
     (λ c.
     let third = c .before .before .before in
     let second = third .before .before .before in
@@ -46,5 +50,7 @@ winnings-spec =
     let seat = given (start .args .t1) (start .args .t2) (start .pre .0) (start .pre .1) (start .args .winner) (start .args .sticks) in
     four-within mostGift (omega arith) (first .winning .result) (second .winning2 .result) (third .winning3 .result) (c .winning4 .result)
     (λ i. getD (start .args .t1) i (pos 0) +ℤ getD (start .args .t2) i (pos 0) +ℤ cond (eqb i (start .args .winner)) (pos (1000 * start .args .sticks)) (pos 0))
-    (seat 0 (first .winning .result) (first .winning .ensures .0), first .winning .ensures .1) (seat 1 (second .winning2 .result) (second .winning2 .ensures .0), second .winning2 .ensures .1)
-    (seat 2 (third .winning3 .result) (third .winning3 .ensures .0), third .winning3 .ensures .1) (seat 3 (c .winning4 .result) (c .winning4 .ensures .0), c .winning4 .ensures .1)))
+    (seat 0 (first .winning .result) (first .winning .ensures .0), first .winning .ensures .1)
+    (seat 1 (second .winning2 .result) (second .winning2 .ensures .0), second .winning2 .ensures .1)
+    (seat 2 (third .winning3 .result) (third .winning3 .ensures .0), third .winning3 .ensures .1)
+    (seat 3 (c .winning4 .result) (c .winning4 .ensures .0), c .winning4 .ensures .1)))

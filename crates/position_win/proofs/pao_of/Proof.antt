@@ -15,7 +15,14 @@ pao-of-spec =
     let told = c .before in
     let second = told .before in
     let first = second .before in
-    rw (first .if1 .left, second .if2 .taken, ← told .holds-four-winds .ensures, c .if3 .taken, place-29 (first .before .before .before .args .h .fields .winner)))
+    rw (
+      first .if1 .left,
+      second .if2 .taken,
+      ← told .holds-four-winds .ensures,
+      c .if3 .taken,
+      place-29
+          (first .before .before .before .args .h .fields .winner),
+    ))
     (λ c.
     let told = c .before in
     let second = told .before in

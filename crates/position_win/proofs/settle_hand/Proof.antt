@@ -37,7 +37,8 @@ liable c s z e =
     let v = c .before .before in
     let g = start v .args .p in
     c .pao-of .ensures
-    ∙ ap (λ (h : Hand). paoIn g (h .fields .winner) (getD (v .score-hand .result .yaku) 28 false) (getD (v .score-hand .result .yaku) 29 false && holdsFourWinds h)) e
+    ∙ ap (λ (h : Hand). paoIn g (h .fields .winner) (getD (v .score-hand .result .yaku) 28 false)
+    (getD (v .score-hand .result .yaku) 29 false && holdsFourWinds h)) e
     ∙ ap (λ (x : Scored). paoIn g (handFor s .fields .winner) (getD (x .yaku) 28 false) (getD (x .yaku) 29 false && holdsFourWinds (handFor s)))
     (scores v s z e)
 

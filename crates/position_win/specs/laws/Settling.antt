@@ -17,7 +17,8 @@ use Rattle.score.specs.declared.Scored.{Scored}
 use Rattle.score.specs.laws.HandScore.{score-unreadable}
 use Rattle.position.specs.declared.Position.{Position}
 use Rattle.position.specs.Booking.{result, win}
-use Rattle.position.specs.Ledger.{isSet, isDeclared, notOpen, handFor, scoredFor, winRefusal, paidByOthers, repeatGives, wholeOf, paoPays, paoFor, winGives, effectOf, applied}
+use Rattle.position.specs.Ledger.{isSet, isDeclared, notOpen, handFor, scoredFor, winRefusal, paidByOthers, repeatGives, wholeOf, paoPays, paoFor, winGives}
+use Rattle.position.specs.Ledger.{effectOf, applied}
 use Rattle.position.specs.laws.Form.{Open}
 use Rattle.position.specs.laws.Sums.{Gifts, zeros-gifts}
 use Rattle.position_moves.specs.laws.Steps.{finished}
@@ -63,7 +64,8 @@ module _ (g : Position) (f : Fields) (v : Scored) (liable n k : ℕ) where
 
   -- what it comes to
   abbrev pub SettledAs : Settled → Type 0
-  SettledAs r = (r .refusal ≡ wonRefusal) × (r .refusal ≡ 0 → (r .winner ≡ f .winner) × (r .gives ≡ winningsOf changesOf additionsOf (f .winner) k)) × Gifts (r .gives)
+  SettledAs r =
+      (r .refusal ≡ wonRefusal) × (r .refusal ≡ 0 → (r .winner ≡ f .winner) × (r .gives ≡ winningsOf changesOf additionsOf (f .winner) k)) × Gifts (r .gives)
 
   pub won-refused : (r : Settled) (m : ℕ) → r ≡ nothing m → wonRefusal ≡ m → 0 < m → SettledAs r
   won-refused r m e q l = rw e (sym q, λ z. absurd (omega arith), zeros-gifts)
@@ -83,7 +85,9 @@ module _ (g : Position) (f : Fields) (v : Scored) (liable n k : ℕ) where
 module _ (g : Position) (s : List ℕ) (n k : ℕ) where
   -- what its settling comes to
   abbrev pub IsSettled : Settled → Type 0
-  IsSettled r = (r .refusal ≡ winRefusal g s) × (r .refusal ≡ 0 → (r .winner ≡ handFor s .fields .winner) × (r .gives ≡ tabulate 4 0 (winGives g s n k))) × Gifts (r .gives)
+  IsSettled r =
+      (r .refusal ≡ winRefusal g s) × (r .refusal ≡ 0 → (r .winner ≡ handFor s .fields .winner) × (r .gives ≡ tabulate 4 0 (winGives g s n k)))
+      × Gifts (r .gives)
 
   winnings-are : let f = handFor s .fields in let v = scoredFor g s in
       winningsOf (changesOf g f v (paoFor g s) n k) (additionsOf g f v (paoFor g s) n k) (f .winner) k ≡ tabulate 4 0 (winGives g s n k)
@@ -93,7 +97,8 @@ module _ (g : Position) (s : List ℕ) (n k : ℕ) where
       let v = scoredFor g s in
       seat-by-seat (pao-gives g f v (paoFor g s) n k) (v .changes) (additionsOf g f v (paoFor g s) n k) (f .winner) k (isSet (paoFor g s))
 
-  pub settled-read : (h : Hand) (v : Scored) (liable : ℕ) (r : Settled) → h ≡ handFor s → v ≡ scoredFor g s → liable ≡ paoFor g s → SettledAs g (h .fields) v liable n k r → IsSettled r
+  pub settled-read : (h : Hand) (v : Scored) (liable : ℕ) (r : Settled) → h ≡ handFor s → v ≡ scoredFor g s → liable ≡ paoFor g s
+      → SettledAs g (h .fields) v liable n k r → IsSettled r
   settled-read h v liable r p q e w =
       let a = w .1 in
       (rw (p, q) at (w .0), (λ z. let y = rw (e, p, q) at (a z) in (y .0, y .1 ∙ winnings-are)), w .2)
@@ -106,7 +111,8 @@ module _ (g : Position) (s : List ℕ) (n k : ℕ) where
 
 -- ---- the game after a win
 
-pub win-applied : (g : Position) (s : List ℕ) (by : List ℤ) (w m : ℕ) → by ≡ tabulate 4 0 (winGives g s (g .counter) (g .sticks)) → w ≡ handFor s .fields .winner
+pub win-applied : (g : Position) (s : List ℕ) (by : List ℤ) (w m : ℕ) → by ≡ tabulate 4 0 (winGives g s (g .counter) (g .sticks))
+    → w ≡ handFor s .fields .winner
     → m ≡ cond (eqb w (g .dealer)) (g .counter + 1) 0 → finished g by 0 (not (eqb w (g .dealer))) m ≡ applied g (effectOf g (result (win s)))
 unfolding finished applied effectOf
 win-applied g s by w m e p q = rw (e, q, p)

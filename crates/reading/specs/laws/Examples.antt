@@ -11,7 +11,8 @@ use Rattle.tiles.specs.laws.Tally.{ofKind}
 use Rattle.reading.specs.declared.Reading.{Reading}
 use Rattle.reading.specs.Reading.{holds, isSevenPairs, isOrphans, ofShape}
 use Rattle.reading.specs.Order.{Before}
-use Rattle.reading.specs.search.Readings.{concatMap, isEmpty, less, fits, without, passes, step, splits, regularOf, placedAt, placed, paired, shaped, readings}
+use Rattle.reading.specs.search.Readings.{concatMap, isEmpty, less, fits, without, passes, step, splits, regularOf, placedAt, placed, paired, shaped}
+use Rattle.reading.specs.search.Readings.{readings}
 
 -- of tiles, m melds and the winning kind
 abbrev readingsOf : List ℕ → ℕ → ℕ → List Reading
@@ -45,7 +46,8 @@ record Worked : Type 0 where
   twelve : readingsOf (0 ∷ 8 ∷ 9 ∷ 17 ∷ 18 ∷ 26 ∷ 27 ∷ 28 ∷ 29 ∷ 31 ∷ 32 ∷ 33 ∷ 33 ∷ []) 0 33 ≡ []
 
 worked : Worked
-unfolding concatMap isEmpty less fits without passes step splits placedAt placed paired shaped readings holds isSevenPairs isOrphans every number isGroup atKind uses ofKind tallyOf
+unfolding concatMap isEmpty less fits without passes step splits placedAt placed paired shaped readings holds isSevenPairs isOrphans every number isGroup
+    atKind uses ofKind tallyOf
 worked =
     record {
       line-4 = refl;

@@ -52,7 +52,8 @@ step-few rest b h (suc n) c t l =
 splits-few : (g n c : ℕ) (t : List ℕ) → n ≤ 68 → length (splits g n c t) ≤ most g
 unfolding splits
 splits-few zero n c t l = when-few (isEmpty t) _ 1 (omega arith)
-splits-few (suc g) n c t l = omega (arith, step-few (splits g) (most g) (splits-few g) n c t l, mul-le-mul {n₁ = n} {m₁ = most g} {n₂ = 68} {m₂ = most g} l (omega arith))
+splits-few (suc g) n c t l =
+    omega (arith, step-few (splits g) (most g) (splits-few g) n c t l, mul-le-mul {n₁ = n} {m₁ = most g} {n₂ = 68} {m₂ = most g} l (omega arith))
 
 most-le : (m : ℕ) → most (4 - m) ≤ 21381376
 most-le zero = omega arith
@@ -65,7 +66,12 @@ most-le (suc (suc (suc (suc m)))) = let e : 4 - suc (suc (suc (suc m))) ≡ 0 = 
 placed-few : (n win pair : ℕ) (gs : List ℕ) → n ≤ 4 → length (placed n win pair gs) ≤ 5
 unfolding placed placedAt
 placed-few n win pair gs h =
-    omega (arith, concat-few (placedAt win pair gs) 1 (λ p. when-few (holds pair gs p win) _ 1 (omega arith)) (tabulate (suc n) 0 (λ p. p)), range-long (suc n) 0)
+    omega (
+      arith,
+      concat-few (placedAt win pair gs) 1 (λ p. when-few (holds pair gs p win) _ 1 (omega arith)) (tabulate (suc n) 0 (λ p. p)),
+      range-long
+          (suc n) 0,
+    )
 
 paired-few : (t : List ℕ) (m win k : ℕ) → length (paired t m win k) ≤ 106906880
 unfolding paired
@@ -73,7 +79,13 @@ paired-few t m win k =
     let f : List ℕ → List Reading = λ gs. placed (4 - m) win k (gs ++ replicate m 68) in
     let xs = splits (4 - m) 68 0 (less t k 2) in
     when-few (leb 2 (getD t k 0)) _ 106906880
-    (omega (arith, concat-few f 5 (λ gs. placed-few (4 - m) win k (gs ++ replicate m 68) (omega arith)) xs, splits-few (4 - m) 68 0 (less t k 2) (omega arith), most-le m))
+    (omega (
+      arith,
+      concat-few f 5 (λ gs. placed-few (4 - m) win k (gs ++ replicate m 68) (omega arith)) xs,
+      splits-few (4 - m) 68 0 (less t k 2)
+          (omega arith),
+      most-le m,
+    ))
 
 shaped-few : (t : List ℕ) (m : ℕ) → length (shaped t m) ≤ 2
 unfolding shaped

@@ -1,4 +1,5 @@
--- The equations of a search that keeps what it wants of the readings as it finds them, for any keeper: the loops over places, over the splittings that are stored, and
+-- The equations of a search that keeps what it wants of the readings as it finds them, for any keeper: the loops over places, over the splittings that are
+-- stored, and
 -- over pairs. In each, what is left to do gives the target.
 use mathlib.Core.Path.{_≡_, refl, sym, ap, _∙_}
 use mathlib.Core.Bool.{Bool, true, false}

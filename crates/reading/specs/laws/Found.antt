@@ -88,7 +88,8 @@ module _ (size : ℕ) where
   unfoldable pub taken : List ℕ → ℕ → ℕ → List ℕ → List (List ℕ)
   taken prefix n c t = when (fits t c) (λ _. behind size (set prefix (size - n) c) (n - 1) c (without t c))
 
-  pub taken-with : (prefix : List ℕ) (n c : ℕ) (t u : List ℕ) → fits t c ≡ true → u ≡ without t c → behind size (set prefix (size - n) c) (n - 1) c u ≡ taken prefix n c t
+  pub taken-with : (prefix : List ℕ) (n c : ℕ) (t u : List ℕ) → fits t c ≡ true → u ≡ without t c
+      → behind size (set prefix (size - n) c) (n - 1) c u ≡ taken prefix n c t
   unfolding taken
   taken-with prefix n c t u f e = rw (f, e)
 
@@ -136,7 +137,8 @@ module _ (size : ℕ) where
       (c ≤ r) × ((j : ℕ) → c ≤ j → j < r → (j < 68) × (fits t j ≡ false) × (passes t j ≡ true)) → behind size prefix n c t ≡ behind size prefix n r t
   behind-skip prefix n t h l c r a = go (r - c) c (omega (arith, a .0)) (a .1)
     where
-      go : (d c : ℕ) → c + d ≡ r → ((j : ℕ) → c ≤ j → j < r → (j < 68) × (fits t j ≡ false) × (passes t j ≡ true)) → behind size prefix n c t ≡ behind size prefix n r t
+      go : (d c : ℕ) → c + d ≡ r → ((j : ℕ) → c ≤ j → j < r → (j < 68) × (fits t j ≡ false) × (passes t j ≡ true))
+          → behind size prefix n c t ≡ behind size prefix n r t
       go zero c e a = let q : c ≡ r = omega arith in ap (λ (k : ℕ). behind size prefix n k t) q
       go (suc d) c e a =
           let (k, f, p) = a c (omega arith) (omega arith) in

@@ -202,7 +202,8 @@ pub holds-pair : (pair : ℕ) (gs : List ℕ) (place win : ℕ) → place ≡ 0 
 unfolding holds
 holds-pair pair gs place win z = rw z
 
-pub holds-group : (pair : ℕ) (gs : List ℕ) (place win : ℕ) → (place ≡ 0 → ⊥) → place ≤ length gs → leb 1 (uses (getD gs (place - 1) 0) win) ≡ holds pair gs place win
+pub holds-group : (pair : ℕ) (gs : List ℕ) (place win : ℕ) → (place ≡ 0 → ⊥) → place ≤ length gs
+    → leb 1 (uses (getD gs (place - 1) 0) win) ≡ holds pair gs place win
 unfolding holds
 holds-group pair gs zero win z l = absurd (z refl)
 holds-group pair gs (suc i) win z l = let e : suc i - 1 ≡ i = omega arith in rw (e, getD-any gs i 0 68 l)

@@ -32,7 +32,8 @@ Within xs ys = (r : Reading) → Member r xs → Member r ys
 same-first : (x y : Reading) (xs ys : List Reading) → Each (Before x) xs → Each (Before y) ys → Within (x ∷ xs) (y ∷ ys) → Within (y ∷ ys) (x ∷ xs) → x ≡ y
 same-first x y xs ys p q f g =
     ⊎-elim (λ e. e)
-    (λ m. ⊎-elim (λ e. sym e) (λ n. absurd (lex-one-way (keyOf x) (keyOf y) (each-member p n) (each-member q m))) (List·Memᴰ·cases-cons (g y (List·Memᴰ·head refl))))
+    (λ m. ⊎-elim (λ e. sym e) (λ n. absurd (lex-one-way (keyOf x) (keyOf y) (each-member p n) (each-member q m)))
+    (List·Memᴰ·cases-cons (g y (List·Memᴰ·head refl))))
     (List·Memᴰ·cases-cons (f x (List·Memᴰ·head refl)))
 
 same-rest : (x y : Reading) (xs ys : List Reading) → Each (Before x) xs → x ≡ y → Within (x ∷ xs) (y ∷ ys) → Within xs ys

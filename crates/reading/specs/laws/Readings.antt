@@ -15,7 +15,8 @@ use Rattle.reading.specs.Reading.{holds, IsRegular, isSevenPairs, isOrph
 use Rattle.reading.specs.Order.{Lex, Before}
 use Rattle.reading.specs.All.{Each, none, also, Pairwise}
 use Rattle.reading.specs.search.Readings.{when, concatMap, less, regularOf, placedAt, placed, paired, shaped, readings}
-use Rattle.reading.specs.laws.Lists.{each-append, each-imp, each-when, each-all, each-concat, pairwise-append, pairwise-when, pairwise-one, pairwise-concat, mem-when, mem-concat, range-in, range-ascends, mem-range}
+use Rattle.reading.specs.laws.Lists.{each-append, each-imp, each-when, each-all, each-concat, pairwise-append, pairwise-when, pairwise-one}
+use Rattle.reading.specs.laws.Lists.{pairwise-concat, mem-when, mem-concat, range-in, range-ascends, mem-range}
 use Rattle.reading.specs.laws.Groups.{at-same, less-at, less-long}
 use Rattle.reading.specs.laws.Splits.{Splits, splits-sound, splits-complete, splits-ordered}
 
@@ -165,7 +166,14 @@ module _ (t : List ℕ) (m win : ℕ) (l : length t ≡ 34) where
       (λ gs. placed-of (4 - m) win k (gs ++ replicate m 68))
       (λ gs. placed-ordered (4 - m) win k (gs ++ replicate m 68))
       (λ x y a b h e f.
-      rw (e .1, f .1) (inr (refl, inr (refl, lex-append (x ++ replicate m 68) (y ++ replicate m 68) (e .0 ∷ []) (f .0 ∷ []) (lex-append x y (replicate m 68) (replicate m 68) h)))))
+      rw (e .1, f .1) (inr (
+        refl,
+        inr (
+          refl,
+          lex-append (x ++ replicate m 68) (y ++ replicate m 68) (e .0 ∷ []) (f .0 ∷ [])
+              (lex-append x y (replicate m 68) (replicate m 68) h),
+        ),
+      )))
       (splits-ordered (4 - m) 68 0 (less t k 2) (less-long t k 2 l)))
 
   regulars-ordered : Pairwise Before (concatMap (paired t m win) (tabulate 34 0 (λ k. k)))
@@ -182,4 +190,5 @@ module _ (t : List ℕ) (m win : ℕ) (l : length t ≡ 34) where
       pairwise-append (pairwise-when (isSevenPairs t) _ (λ e. pairwise-one (ofShape 1))) (pairwise-when (isOrphans t) _ (λ e. pairwise-one (ofShape 2)))
       (later-shape 1 (each-when (isSevenPairs t) _ (λ e. also refl none)) (each-when (isOrphans t) _ (λ e. also (omega arith) none)))))
       (later-shape 0 (each-concat (paired t m win) (each-all (λ k. each-imp (λ r e. e .0) (paired-of k)) (tabulate 34 0 (λ k. k))))
-      (each-when (eqb m 0) _ (λ z. each-append (each-when (isSevenPairs t) _ (λ e. also (omega arith) none)) (each-when (isOrphans t) _ (λ e. also (omega arith) none)))))
+      (each-when (eqb m 0) _ (λ z. each-append (each-when (isSevenPairs t) _ (λ e. also (omega arith) none))
+      (each-when (isOrphans t) _ (λ e. also (omega arith) none)))))

@@ -77,7 +77,8 @@ module _ (n : ℕ) (rest : (m c : ℕ) (t gs : List ℕ) → length t ≡ 34 →
       (λ q.
       let s′ : Splits c t (suc n) (c ∷ gs) = subst (λ (j : ℕ). Splits c t (suc n) (j ∷ gs)) (sym q) s in
       rw (← q)
-      (Memᴰ·append-left _ (mem-when (fits t c) _ (head-fits c t n gs s′) (Memᴰ·map _ (rest (suc m) c (without t c) gs (without-long t c l) e (tail-splits c t n gs s′))))))
+      (Memᴰ·append-left _ (mem-when (fits t c) _ (head-fits c t n gs s′)
+      (Memᴰ·map _ (rest (suc m) c (without t c) gs (without-long t c l) e (tail-splits c t n gs s′))))))
       (λ h.
       let o : Ascends (c + 1) (g ∷ gs) = (omega arith, s .order .1, s .order .2) in
       Memᴰ·append-right (when (fits t c) (λ _. map (λ (xs : List ℕ). c ∷ xs) (splits n (suc m) c (without t c))))

@@ -180,7 +180,8 @@ module _ (n : ℕ) (few : n ≤ 3) (rest : (m c : ℕ) (t : List ℕ) → length
           let b = rw more at w in
           rw k
           (free-both n (below c t) (getD t c 0) (getD u c 0) (getD t (c + 1) 0 % 3) _ _ few (one h e) (passes-run t c h g) r
-          (λ i. let x = some-of (splits n (suc m) c u) (splits-sound n (suc m) c u (without-long t c l)) i in rw (same h e) at (splits-below c n u (x .0) (x .1))) b)
+          (λ i. let x = some-of (splits n (suc m) c u) (splits-sound n (suc m) c u (without-long t c l)) i in
+          rw (same h e) at (splits-below c n u (x .0) (x .1))) b)
       go h true false e g w =
           let k = step-length (splits n) m c t true false e g in
           let r = rw (same h e) at (rest (suc m) c u (without-long t c l)) in

@@ -34,7 +34,8 @@ unfolding usedBy
 put-in lo x [] h g o = record { codes = x ∷ []; size = refl; order = (h, g, tt); tiles = λ k. refl }
 put-in lo x (y ∷ l) h g o = go (λ q. put-in y x l q g (o .2)) (leb x y) refl
   where
-    go : (y ≤ x → Ordered y (suc (length l)) (λ k. uses x k + usedBy l k)) → (b : Bool) → leb x y ≡ b → Ordered lo (suc (suc (length l))) (λ k. uses x k + (uses y k + usedBy l k))
+    go : (y ≤ x → Ordered y (suc (length l)) (λ k. uses x k + usedBy l k)) → (b : Bool) → leb x y ≡ b
+        → Ordered lo (suc (suc (length l))) (λ k. uses x k + (uses y k + usedBy l k))
     go f true e = record { codes = x ∷ y ∷ l; size = refl; order = (h, g, (leb-true x y e, o .1, o .2)); tiles = λ k. refl }
     go f false e =
         let r = f (omega (arith, leb-false x y e)) in

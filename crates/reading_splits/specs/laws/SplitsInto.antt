@@ -15,7 +15,8 @@ use Rattle.tiles.specs.laws.Below.{and-true}
 use Rattle.reading.specs.Reading.{usedBy}
 use Rattle.reading.specs.All.{Each, none, also as each}
 use Rattle.reading.specs.search.Readings.{isEmpty, less, fits, without}
-use Rattle.reading.specs.laws.Groups.{run-or, fits-group, fits-of, without-at, without-long, less-at, less-long, at-same, at-other, getD-pos, empty-at, empty-of}
+use Rattle.reading.specs.laws.Groups.{run-or, fits-group, fits-of, without-at, without-long, less-at, less-long, at-same, at-other, getD-pos, empty-at}
+use Rattle.reading.specs.laws.Groups.{empty-of}
 use Rattle.reading_splits.specs.Splits.{Splits}
 use Rattle.reading_splits.specs.search.SplitsInto.{also, lowest, pieceAt, splitsInto}
 
@@ -95,7 +96,8 @@ module _ (t : List ℕ) where
   lowest-held zero k i h l p = absurd (omega arith)
   lowest-held (suc j) k i h l p =
       none-or (getD t k 0)
-      (λ e. rw (lowest-next t j k e) (⊎-elim (λ (z : k ≡ i). absurd (omega (arith, rw z at e))) (λ (z : k < i). lowest-held j (k + 1) i (omega arith) (omega arith) p) (eq-or-lt-of-le h)))
+      (λ e. rw (lowest-next t j k e) (⊎-elim (λ (z : k ≡ i). absurd (omega (arith, rw z at e)))
+      (λ (z : k < i). lowest-held j (k + 1) i (omega arith) (omega arith) p) (eq-or-lt-of-le h)))
       (λ q. rw (lowest-here t j k q) (h, q))
 
   -- from a kind with none below it on
@@ -239,7 +241,8 @@ some-held n false f s = go (s .groups) (s .number) (s .tiles)
     go (g ∷ gs) e h = let w = some-tile g in (w .0, omega (arith, w .1, h (w .0)))
 
 -- the pair is of the kind k, where one is to come and no group has the kind
-take-pair : (n : ℕ) (two : Bool) (t : List ℕ) (k : ℕ) (s : SplitsInto (suc n) two (λ i. getD t i 0)) → 0 < getD t k 0 → usedBy (s .groups) k ≡ 0 → (two ≡ true) × (s .pair ≡ k)
+take-pair : (n : ℕ) (two : Bool) (t : List ℕ) (k : ℕ) (s : SplitsInto (suc n) two (λ i. getD t i 0)) → 0 < getD t k 0 → usedBy (s .groups) k ≡ 0
+    → (two ≡ true) × (s .pair ≡ k)
 take-pair n false t k s p z = absurd (omega (arith, s .tiles k))
 take-pair n true t k s p z = (refl, go (eqb (s .pair) k) refl)
   where
@@ -247,7 +250,8 @@ take-pair n true t k s p z = (refl, go (eqb (s .pair) k) refl)
     go true e = eqb-true _ _ e
     go false e = absurd (omega (arith, s .tiles k, at-other (s .pair) 2 k (eqb-false _ _ e)))
 
-without-part : (n c : ℕ) (two : Bool) (t : List ℕ) (k : ℕ) (s : SplitsInto (suc n) two (λ i. getD t i 0)) (r : Taken (s .groups) k) → r .code ≡ c → (fits t c ≡ true) × SplitsInto n two (λ i. getD (without t c) i 0)
+without-part : (n c : ℕ) (two : Bool) (t : List ℕ) (k : ℕ) (s : SplitsInto (suc n) two (λ i. getD t i 0)) (r : Taken (s .groups) k) → r .code ≡ c
+    → (fits t c ≡ true) × SplitsInto n two (λ i. getD (without t c) i 0)
 without-part n c two t k s r e =
     let f : fits t c ≡ true = subst (λ (x : ℕ). fits t x ≡ true) e (fits-of t (r .code) (r .group) (λ i. omega (arith, s .tiles i, r .tiles i))) in (
       f,
@@ -276,18 +280,21 @@ without-two n k t s e =
     )
 
 module _ (n : ℕ) (rest : (two : Bool) (t : List ℕ) → length t ≡ 34 → SplitsInto n two (λ k. getD t k 0) → splitsInto n two t ≡ true) where
-  complete-pair : (two : Bool) (t : List ℕ) (k : ℕ) → length t ≡ 34 → (s : SplitsInto (suc n) two (λ i. getD t i 0)) → two ≡ true → s .pair ≡ k → also (two && leb 2 (getD t k 0)) (λ _. splitsInto n false (less t k 2)) ≡ true
+  complete-pair : (two : Bool) (t : List ℕ) (k : ℕ) → length t ≡ 34 → (s : SplitsInto (suc n) two (λ i. getD t i 0)) → two ≡ true → s .pair ≡ k
+      → also (two && leb 2 (getD t k 0)) (λ _. splitsInto n false (less t k 2)) ≡ true
   complete-pair false t k l s q e = absurd (false≢true q)
   complete-pair true t k l s q e =
       let w = without-two n k t s e in
       of-also (leb 2 (getD t k 0)) _ (le-leb 2 _ (w .0)) (rest false (less t k 2) (less-long t k 2 l) (w .1))
 
-  complete-group : (c : ℕ) (two : Bool) (t : List ℕ) (k : ℕ) → length t ≡ 34 → (s : SplitsInto (suc n) two (λ i. getD t i 0)) (r : Taken (s .groups) k) → r .code ≡ c → also (fits t c) (λ _. splitsInto n two (without t c)) ≡ true
+  complete-group : (c : ℕ) (two : Bool) (t : List ℕ) (k : ℕ) → length t ≡ 34 → (s : SplitsInto (suc n) two (λ i. getD t i 0)) (r : Taken (s .groups) k)
+      → r .code ≡ c → also (fits t c) (λ _. splitsInto n two (without t c)) ≡ true
   complete-group c two t k l s r e =
       let w = without-part n c two t k s r e in
       of-also (fits t c) _ (w .0) (rest two (without t c) (without-long t c l) (w .1))
 
-  complete-part : (two : Bool) (t : List ℕ) (k : ℕ) → length t ≡ 34 → SplitsInto (suc n) two (λ i. getD t i 0) → 0 < getD t k 0 → ((i : ℕ) → i < k → getD t i 0 ≡ 0) → pieceAt (splitsInto n) two k t ≡ true
+  complete-part : (two : Bool) (t : List ℕ) (k : ℕ) → length t ≡ 34 → SplitsInto (suc n) two (λ i. getD t i 0) → 0 < getD t k 0
+      → ((i : ℕ) → i < k → getD t i 0 ≡ 0) → pieceAt (splitsInto n) two k t ≡ true
   unfolding pieceAt
   complete-part two t k l s p z =
       let x = also (two && leb 2 (getD t k 0)) (λ _. splitsInto n false (less t k 2)) in
@@ -324,7 +331,14 @@ splits-exactly n t l = (
       let s = splits-into-sound (suc n) true t l e in
       record { pair = s .pair; groups = s .groups; number = omega (arith, s .number); codes = s .codes; tiles = s .tiles },
   λ s.
-      splits-into-complete (suc n) true t l (record { pair = s .pair; groups = s .groups; number = omega (arith, s .number); codes = s .codes; tiles = s .tiles }),
+      splits-into-complete (suc n) true t l (record {
+        pair = s .pair;
+        groups = s .groups;
+        number = omega
+            (arith, s .number);
+        codes = s .codes;
+        tiles = s .tiles;
+      }),
 )
 
 -- what the code gives, where that is the test

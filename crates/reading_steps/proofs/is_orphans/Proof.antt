@@ -1,4 +1,5 @@
--- `reading_steps::is_orphans` meets its contract: the loop has found each yaochu kind below k held once or twice and no other kind, and counted those held twice.
+-- `reading_steps::is_orphans` meets its contract: the loop has found each yaochu kind below k held once or twice and no other kind, and counted those held
+-- twice.
 use mathlib.Core.Logic.{⊎-elim}
 use mathlib.Core.Path.{sym, _∙_}
 use mathlib.Core.Bool.{Bool, _||_, cond}
@@ -48,10 +49,13 @@ is-orphans-spec =
     (λ c. (
       search needs,
       ⊎-elim
-          (λ w. rw (w .2) (counted-one (fine (c .before .before .before .before .args .t1)) _ _ _ (c .before .before .before .loop .inv .1) (rw (sym (c .before .is-yaochu .ensures) ∙ w .0 .taken, w .1 .taken)) (rw (w .1 .taken))))
+          (λ w. rw (w .2) (counted-one (fine (c .before .before .before .before .args .t1)) _ _ _ (c .before .before .before .loop .inv .1)
+          (rw (sym (c .before .is-yaochu .ensures) ∙ w .0 .taken, w .1 .taken)) (rw (w .1 .taken))))
           (⊎-elim
-          (λ w. rw (w .3) (counted-skip (fine (c .before .before .before .before .args .t1)) _ _ _ (c .before .before .before .loop .inv .1) (rw (sym (c .before .is-yaochu .ensures) ∙ w .0 .taken, w .2 .left)) (rw (w .2 .left))))
-          (λ w. rw (w .2) (counted-skip (fine (c .before .before .before .before .args .t1)) _ _ _ (c .before .before .before .loop .inv .1) (rw (sym (c .before .is-yaochu .ensures) ∙ w .0 .left, w .1 .left)) (rw (w .1 .left)))))
+          (λ w. rw (w .3) (counted-skip (fine (c .before .before .before .before .args .t1)) _ _ _ (c .before .before .before .loop .inv .1)
+          (rw (sym (c .before .is-yaochu .ensures) ∙ w .0 .taken, w .2 .left)) (rw (w .2 .left))))
+          (λ w. rw (w .2) (counted-skip (fine (c .before .before .before .before .args .t1)) _ _ _ (c .before .before .before .loop .inv .1)
+          (rw (sym (c .before .is-yaochu .ensures) ∙ w .0 .left, w .1 .left)) (rw (w .1 .left)))))
           (c .if1 .came),
     ))
     (λ c. counted-done _ _ 34 _ _ _ (c .before .loop .inv .0) (c .loop-test .left) (c .before .loop .inv .1)))

@@ -40,6 +40,10 @@ next-kind-spec =
     (λ c. search needs)
     (λ c. search needs)
     (λ c.
-    let l = c .before .before .before .loop in
-    (search needs, search needs, more (c .before .before .before .before .args .t .now) (c .before .before .before .before .args .k) (l .i) (l .inv .2) (c .if1 .left)))
+    let l = c .before .before .before .loop in (
+      search needs,
+      search needs,
+      more (c .before .before .before .before .args .t .now) (c .before .before .before .before .args .k) (l .i) (l .inv .2)
+          (c .if1 .left),
+    ))
     (λ c. c .before .loop .inv))

@@ -23,7 +23,8 @@ module _ (t : List ℕ) (c : ℕ) (f : fits t c ≡ true) (h : c < 34) where
   unfolding less
   third =
       let u = set t c (getD t c 0 - 1) in
-      rw (getD-set-other u (c + 1) (c + 2) (getD u (c + 1) 0 - 1) 0 (omega arith), getD-set-other t c (c + 2) (getD t c 0 - 1) 0 (omega arith)) (fits-run t c f h .2)
+      rw (getD-set-other u (c + 1) (c + 2) (getD u (c + 1) 0 - 1) 0 (omega arith), getD-set-other t c (c + 2) (getD t c 0 - 1) 0 (omega arith))
+      (fits-run t c f h .2)
 
 two-in : (c : tie.Then1) → c .before .args .code + 2 < 34
 two-in c = omega (arith, run-in _ (fits-group _ _ (c .before .pre)) (c .if1 .taken))

@@ -10,4 +10,5 @@ find-spec =
     (tie.spec (λ c κs. search needs)
     (λ c. let u = c .before .before .read in answer-refused _ (u .result) (u .ensures) (c .if1 .taken))
     (λ c κs. let u = c .before .before .read in same-melds-read _ (u .result) (u .ensures) (c .if1 .left))
-    (λ c. let u = c .before .before .before .read in answer-found _ (u .result) (u .ensures) (c .before .if1 .left) _ (c .nearest-to .ensures .0) (c .nearest-to .ensures .1)))
+    (λ c. let u = c .before .before .before .read in
+    answer-found _ (u .result) (u .ensures) (c .before .if1 .left) _ (c .nearest-to .ensures .0) (c .nearest-to .ensures .1)))

@@ -26,15 +26,23 @@ melds-tally-spec =
     (λ c.
     let t = c .before .before .before .others-tally in
     let w = c .before .before .held-tally in
-    omega (arith, melds-left (c .before .before .before .before .args .x) (t .result) (w .result) (t .ensures) (w .ensures) (c .before .loop .k) (c .loop-test .taken)))
+    omega (
+      arith,
+      melds-left (c .before .before .before .before .args .x) (t .result) (w .result) (t .ensures) (w .ensures) (c .before .loop .k)
+          (c .loop-test .taken),
+    ))
     (λ c. search needs)
     (λ c. search needs)
     (λ c. search needs)
     (λ c.
     let t = c .before .before .before .others-tally .result in
     let w = c .before .before .held-tally .result in
-    let l = c .before .loop in
-    (omega arith, search needs, filled-more (λ j. getD w j 0 - getD t j 0) (l .d) (l .k) (getD w (l .k) 0 - getD t (l .k) 0) (omega (arith, l .inv .1, c .loop-test .taken)) refl (l .inv .2)))
+    let l = c .before .loop in (
+      omega arith,
+      search needs,
+      filled-more (λ j. getD w j 0 - getD t j 0) (l .d) (l .k) (getD w (l .k) 0 - getD t (l .k) 0)
+          (omega (arith, l .inv .1, c .loop-test .taken)) refl (l .inv .2),
+    ))
     (λ c.
     let t = c .before .before .before .others-tally in
     let w = c .before .before .held-tally in

@@ -13,5 +13,8 @@ nearest-to-spec =
     (λ c κs. search needs)
     (λ c.
     let n = c .before .before in
-    let start = n .before .before .before in
-    (refl, nearest-found _ (start .pre .0) (start .pre .1) _ _ (n .before .before .others-tally .ensures) (n .before .melds-tally .ensures) _ _ _ _ (n .nearest .ensures) (c .written .ensures))))
+    let start = n .before .before .before in (
+      refl,
+      nearest-found _ (start .pre .0) (start .pre .1) _ _ (n .before .before .others-tally .ensures) (n .before .melds-tally .ensures) _ _ _ _
+          (n .nearest .ensures) (c .written .ensures),
+    )))

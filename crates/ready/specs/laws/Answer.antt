@@ -31,4 +31,5 @@ module _ (s : List ℕ) (u : Unfinished) (e : u ≡ readOf s) where
   answer-found z r q n =
       let h : u .held ≡ heldOf s = held-is s u e z in
       subst (λ (c : ℕ). IsAnswer s (record { refusal = c; swaps = r .swaps; hand = r .hand })) (sym q)
-      (nearest (sym (refusal-is s u e) ∙ z) (r .swaps) (sameMeldsWith (u .held) (r .hand)) (subst (λ (x : Held). IsNearest x (r .swaps) (sameMeldsWith (u .held) (r .hand))) h n))
+      (nearest (sym (refusal-is s u e) ∙ z) (r .swaps) (sameMeldsWith (u .held) (r .hand))
+      (subst (λ (x : Held). IsNearest x (r .swaps) (sameMeldsWith (u .held) (r .hand))) h n))

@@ -29,7 +29,8 @@ pub nearest-hand : (s : List ℕ) → refusalOf s ≡ 0 → (n : ℕ) × (y : He
 nearest-hand s e =
     let x = heldOf s in
     let (few, b) = same-melds-self s e in
-    let (n, u, q) = nearest-exists (tallyOf (inOthers x)) (tallyOf (inMelds x)) (x .m) (hand-tally x few (b .sound)) (length-tally (inMelds x)) (melds-tally x few) in
+    let (n, u, q) = nearest-exists (tallyOf (inOthers x)) (tallyOf (inMelds x)) (x .m) (hand-tally x few (b .sound)) (length-tally (inMelds x))
+    (melds-tally x few) in
     let (i, r, w) = written-exists u (omega (arith, q .ready .hand .tiles)) in
     (n, sameMeldsWith x r, nearest-written x few b u r n i q w)
 
@@ -89,7 +90,8 @@ pub one-number : (s : List ℕ) (a b : Ready) → IsAnswer s a → IsAnswer s b 
 one-number s a b (unreadable p) (unreadable q) = (refl, refl)
 one-number s a b (unreadable p) (nearest e n y q) = absurd (omega arith)
 one-number s a b (nearest e n y q) (unreadable p) = absurd (omega arith)
-one-number s a b (nearest e n y p) (nearest f m z q) = (refl, omega (arith, p .away, q .away, p .fewest z (q .hand) (q .ready), q .fewest y (p .hand) (p .ready)))
+one-number s a b (nearest e n y p) (nearest f m z q) =
+    (refl, omega (arith, p .away, q .away, p .fewest z (q .hand) (q .ready), q .fewest y (p .hand) (p .ready)))
 
 pub zero-when-ready : (s : List ℕ) (r : Ready) → refusalOf s ≡ 0 → IsAnswer s r → (r .swaps ≡ 0) ↔ IsReady (heldOf s)
 zero-when-ready s r e (unreadable p) = absurd (omega arith)

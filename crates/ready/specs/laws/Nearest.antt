@@ -59,7 +59,8 @@ module _ (x : Held) (few : x .m ≤ 4) (b : SameMelds x x) where
     no-descent : descends y ≡ false
     unfolding descends y
     no-descent =
-        some-of (λ i. ltb (getD r (i + 1) 0) (getD r i 0)) (13 - 3 * x .m - 1) (λ i l. le-ltb (getD r (i + 1) 0) (getD r i 0) (w .order i (omega (arith, many))))
+        some-of (λ i. ltb (getD r (i + 1) 0) (getD r i 0)) (13 - 3 * x .m - 1)
+        (λ i l. le-ltb (getD r (i + 1) 0) (getD r i 0) (w .order i (omega (arith, many))))
 
     no-five : overFour (inHeld y) ≡ false
     unfolding overFour inHeld y
@@ -70,7 +71,8 @@ module _ (x : Held) (few : x .m ≤ 4) (b : SameMelds x x) where
     no-unused : unusedNotZero y ≡ false
     unfolding unusedNotZero y
     no-unused =
-        let o = or-both (not (all 4 (λ i. ltb i (x .m) || eqb (getD (x .melds) i 0) 0))) (not (every 13 (λ i. ltb i (others x) || eqb (getD (x .concealed) i 0) 0))) (b .unused) in
+        let o = or-both (not (all 4 (λ i. ltb i (x .m) || eqb (getD (x .melds) i 0) 0)))
+        (not (every 13 (λ i. ltb i (others x) || eqb (getD (x .concealed) i 0) 0))) (b .unused) in
         join (not (all 4 (λ i. ltb i (x .m) || eqb (getD (x .melds) i 0) 0))) (every 13 (λ i. ltb i (others x) || eqb (getD r i 0) 0)) (o .0)
         (every-of (λ i. ltb i (13 - 3 * x .m) || eqb (getD r i 0) 0) 13 (λ i l. used i (ltb i (13 - 3 * x .m)) refl))
       where
@@ -92,11 +94,13 @@ module _ (x : Held) (few : x .m ≤ 4) (b : SameMelds x x) where
     }
 
   -- the nearest tally, written out, is the nearest hand
-  pub nearest-written : (u r : List ℕ) (a n : ℕ) → NearestTally (tallyOf (inOthers x)) (tallyOf (inMelds x)) (x .m) a u → Written u 34 0 n r → IsNearest x a (sameMeldsWith x r)
+  pub nearest-written : (u r : List ℕ) (a n : ℕ) → NearestTally (tallyOf (inOthers x)) (tallyOf (inMelds x)) (x .m) a u → Written u 34 0 n r
+      → IsNearest x a (sameMeldsWith x r)
   nearest-written u r a n q w =
       let h = q .ready .hand in
       let e : u ≡ tallyOf (inOthers (sameMeldsWith x r)) = written-tally u r h n w in
-      let melds : tallyOf (inMelds x) ≡ tallyOf (inMelds (sameMeldsWith x r)) = tally-cong (inMelds x) (inMelds (sameMeldsWith x r)) (λ k l. sym (same-melds x (sameMeldsWith x r) refl refl k)) in
+      let melds : tallyOf (inMelds x) ≡ tallyOf (inMelds (sameMeldsWith x r)) =
+      tally-cong (inMelds x) (inMelds (sameMeldsWith x r)) (λ k l. sym (same-melds x (sameMeldsWith x r) refl refl k)) in
       record {
         hand = same-melds-written u r h n w;
         ready = (q .ready .kind, tally-wait (sameMeldsWith x r) (q .ready .kind) (rw (e, melds) at (q .ready .wait)));

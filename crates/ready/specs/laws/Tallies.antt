@@ -47,7 +47,8 @@ meld-few : (b : ℕ) → total 34 (meldHolds b) ≤ 4
 unfolding meldHolds
 meld-few b = go (eqb (meldKind b) 0) (eqb (meldKind b) 1)
   where
-    go : (p q : Bool) → total 34 (λ k. cond p (atKind (meldTile b) 1 k + atKind (meldTile b + 1) 1 k + atKind (meldTile b + 2) 1 k) (cond q (atKind (meldTile b) 3 k) (atKind (meldTile b) 4 k))) ≤ 4
+    go : (p q : Bool) → total 34 (λ k. cond p (atKind (meldTile b) 1 k + atKind (meldTile b + 1) 1 k + atKind (meldTile b + 2) 1 k)
+        (cond q (atKind (meldTile b) 3 k) (atKind (meldTile b) 4 k))) ≤ 4
     go true q =
         let t = meldTile b in
         omega (
@@ -90,7 +91,8 @@ melds-few x =
     few (suc (suc zero)) a b c d p q r s = omega arith
     few (suc (suc (suc zero))) a b c d p q r s = omega arith
     few (suc (suc (suc (suc m)))) a b c d p q r s =
-        let four : (i : ℕ) → cond (ltb i (suc (suc (suc (suc m))))) 4 0 ≤ 4 = λ i. cond-le (ltb i (suc (suc (suc (suc m))))) 4 0 4 (omega arith) (omega arith) in
+        let four : (i : ℕ) → cond (ltb i (suc (suc (suc (suc m))))) 4 0 ≤ 4 =
+        λ i. cond-le (ltb i (suc (suc (suc (suc m))))) 4 0 4 (omega arith) (omega arith) in
         omega (arith, four 0, four 1, four 2, four 3)
 
 -- ---- tallies of what is equal kind by kind
@@ -154,7 +156,8 @@ swaps-tally x z =
 
 -- ---- a tally filled kind by kind
 
-pub filled-more : (f : ℕ → ℕ) (d : List ℕ) (k v : ℕ) → k < length d → v ≡ f k → ((j : ℕ) → j < k → getD d j 0 ≡ f j) → (j : ℕ) → j < k + 1 → getD (set d k v) j 0 ≡ f j
+pub filled-more : (f : ℕ → ℕ) (d : List ℕ) (k v : ℕ) → k < length d → v ≡ f k → ((j : ℕ) → j < k → getD d j 0 ≡ f j) → (j : ℕ) → j < k + 1
+    → getD (set d k v) j 0 ≡ f j
 filled-more f d k v l e h j g =
     ⊎-elim (λ (q : j ≡ k). rw (q, getD-set-same d k v 0 l) e) (λ i. getD-set-other d k j v 0 (omega arith) ∙ h j i) (eq-or-lt-of-le (omega arith))
 

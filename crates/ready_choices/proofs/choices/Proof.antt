@@ -8,4 +8,7 @@ use Rattle.ready_choices.proofs.choices.Tie as tie
 
 pub choices-spec : {M : Type 1} → statement M
 unfolding choices
-choices-spec = tie.close (tie.spec (λ c. (search (needs, eq-eqb, ne-eqb), omega arith)) (λ c. (search (needs, eq-eqb, ne-eqb), omega arith)) (λ c. (search (needs, eq-eqb, ne-eqb), omega arith)) (λ c. (search (needs, eq-eqb, ne-eqb), omega arith)) (λ c. (search (needs, eq-eqb, ne-eqb), omega arith)))
+choices-spec =
+    tie.close (tie.spec (λ c. (search (needs, eq-eqb, ne-eqb), omega arith)) (λ c. (search (needs, eq-eqb, ne-eqb), omega arith))
+    (λ c. (search (needs, eq-eqb, ne-eqb), omega arith)) (λ c. (search (needs, eq-eqb, ne-eqb), omega arith))
+    (λ c. (search (needs, eq-eqb, ne-eqb), omega arith)))

@@ -9,5 +9,10 @@ unfolding live
 live-spec =
     tie.close
     (tie.spec
-    (λ c. rw (lt-ltb _ _ (c .before .before .if1 .taken), c .before .before .before .pre .runs-a (c .before .before .if1 .taken), c .before .before .before .pre .runs-b (c .before .before .if1 .taken)))
+    (λ c. rw (
+      lt-ltb _ _ (c .before .before .if1 .taken),
+      c .before .before .before .pre .runs-a
+          (c .before .before .if1 .taken),
+      c .before .before .before .pre .runs-b (c .before .before .if1 .taken),
+    ))
     (λ c. rw (le-ltb _ _ (c .if1 .left))))

@@ -6,4 +6,5 @@ use Rattle.ready_choices.proofs.made.Tie as tie
 pub made-spec : {M : Type 1} → statement M
 made-spec =
     tie.close
-    (tie.spec (λ c κs. search needs) (λ c. c .regular .ensures) (λ c κs. search needs) (λ c. c .pairs .ensures) (λ c κs. search needs) (λ c. c .orphans .ensures))
+    (tie.spec (λ c κs. search needs) (λ c. c .regular .ensures) (λ c κs. search needs) (λ c. c .pairs .ensures) (λ c κs. search needs)
+    (λ c. c .orphans .ensures))

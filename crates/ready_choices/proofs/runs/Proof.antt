@@ -8,4 +8,7 @@ use Rattle.ready_choices.proofs.runs.Tie as tie
 
 pub runs-spec : {M : Type 1} → statement M
 unfolding xOf
-runs-spec = tie.close (tie.spec (λ c. (search (needs, lt-ltb, le-ltb, eq-eqb, ne-eqb), omega arith)) (λ c. (search (needs, lt-ltb, le-ltb, eq-eqb, ne-eqb), omega arith)) (λ c. (search (needs, lt-ltb, le-ltb, eq-eqb, ne-eqb), omega arith)) (λ c. (search (needs, lt-ltb, le-ltb, eq-eqb, ne-eqb), omega arith)) (λ c. (search (needs, lt-ltb, le-ltb, eq-eqb, ne-eqb), omega arith)))
+runs-spec =
+    tie.close (tie.spec (λ c. (search (needs, lt-ltb, le-ltb, eq-eqb, ne-eqb), omega arith))
+    (λ c. (search (needs, lt-ltb, le-ltb, eq-eqb, ne-eqb), omega arith)) (λ c. (search (needs, lt-ltb, le-ltb, eq-eqb, ne-eqb), omega arith))
+    (λ c. (search (needs, lt-ltb, le-ltb, eq-eqb, ne-eqb), omega arith)) (λ c. (search (needs, lt-ltb, le-ltb, eq-eqb, ne-eqb), omega arith)))

@@ -11,10 +11,25 @@ pub smaller-spec : {M : Type 1} → statement M
 smaller-spec =
     tie.close
     (tie.spec (λ c κs. search needs)
-    (λ c. let q : c .before .before .args .n - c .before .before .args .y ≡ c .before .before .args .n = omega (arith, c .before .if1 .taken) in (rw q (c .tetra .ensures .0), c .tetra .ensures .1))
+    (λ c. let q : c .before .before .args .n - c .before .before .args .y ≡ c .before .before .args .n = omega (arith, c .before .if1 .taken) in
+    (rw q (c .tetra .ensures .0), c .tetra .ensures .1))
     (λ c κs. search needs)
     (λ c κs. search needs)
-    (λ c. omega (arith, tetra-less (c .before .before .before .args .n) (c .before .before .before .pre .0) (omega arith), c .before .tetra2 .ensures .0, c .triangle .ensures .0))
+    (λ c. omega (
+      arith,
+      tetra-less (c .before .before .before .args .n) (c .before .before .before .pre .0)
+          (omega arith),
+      c .before .tetra2 .ensures .0,
+      c .triangle .ensures .0,
+    ))
     (λ c.
-    let q : c .before .before .before .args .y ≡ 1 = omega arith in
-    (rw q (omega (arith, tetra-less (c .before .before .before .args .n) (c .before .before .before .pre .0) (omega arith), c .before .tetra2 .ensures .0, c .triangle .ensures .0)), omega (arith, c .before .tetra2 .ensures .1))))
+    let q : c .before .before .before .args .y ≡ 1 = omega arith in (
+      rw q (omega (
+        arith,
+        tetra-less (c .before .before .before .args .n) (c .before .before .before .pre .0)
+            (omega arith),
+        c .before .tetra2 .ensures .0,
+        c .triangle .ensures .0,
+      )),
+      omega (arith, c .before .tetra2 .ensures .1),
+    )))

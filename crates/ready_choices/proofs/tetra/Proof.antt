@@ -9,4 +9,6 @@ use Rattle.ready_choices.proofs.tetra.Tie as tie
 
 pub tetra-spec : {M : Type 1} → statement M
 unfolding tetra
-tetra-spec = tie.close (tie.spec (λ c. search needs) (λ c. omega (arith, product-low _ (c .pre))) (λ c. search needs) (λ c. omega (arith, product-low _ (c .pre))) (λ c. (refl, omega (arith, product-low _ (c .pre)))))
+tetra-spec =
+    tie.close (tie.spec (λ c. search needs) (λ c. omega (arith, product-low _ (c .pre))) (λ c. search needs) (λ c. omega (arith, product-low _ (c .pre)))
+    (λ c. (refl, omega (arith, product-low _ (c .pre)))))

@@ -15,9 +15,18 @@ tries-spec =
     (λ c. (rw (le-ltb _ _ (c .if1 .taken)), omega arith))
     (λ c κs. search needs)
     (λ c κs. search needs)
-    (λ c. (rw (lt-ltb _ _ (c .before .before .before .if1 .left), sym (c .before .is-run-start .ensures) ∙ c .if2 .taken) (c .before .before .choices .ensures .0), c .before .before .choices .ensures .1))
+    (λ c. (
+      rw (lt-ltb _ _ (c .before .before .before .if1 .left), sym (c .before .is-run-start .ensures) ∙ c .if2 .taken)
+          (c .before .before .choices .ensures .0),
+      c .before .before .choices .ensures .1,
+    ))
     (λ c κs. search needs)
     (λ c. (
-      rw (lt-ltb _ _ (c .before .before .before .before .if1 .left), sym (c .before .before .is-run-start .ensures) ∙ c .before .if2 .left, ← c .before .before .before .choices .ensures .0) (c .least .ensures),
+      rw (
+        lt-ltb _ _ (c .before .before .before .before .if1 .left),
+        sym (c .before .before .is-run-start .ensures)
+            ∙ c .before .if2 .left,
+        ← c .before .before .before .choices .ensures .0,
+      ) (c .least .ensures),
       omega (arith, c .least .ensures),
     )))

@@ -123,8 +123,10 @@ module _ (G k s e r : ℕ) (d w : List ℕ) (kl : k < 34) (B : Built G k s w) (f
       atKind (pair' .to) (2 * (B .q + zOf e)) j + usedBy codes' j ≡ atKind (B .pair) (2 * B .q) j + usedBy (B .codes) j + xOf e * a + yOf e * b + c
   unfolding codes'
   used' j a b c ea eb ec =
-      let ua : usedBy (rep (xOf e) k (rep (yOf e) (34 + k) (B .codes))) j ≡ xOf e * a + usedBy (rep (yOf e) (34 + k) (B .codes)) j = rw (← ea) (rep-used (xOf e) k (rep (yOf e) (34 + k) (B .codes)) j) in
-      let ub : usedBy (rep (yOf e) (34 + k) (B .codes)) j ≡ yOf e * b + usedBy (B .codes) j = rw (← eb, ← uses-triplet k j) (rep-used (yOf e) (34 + k) (B .codes) j) in
+      let ua : usedBy (rep (xOf e) k (rep (yOf e) (34 + k) (B .codes))) j ≡ xOf e * a + usedBy (rep (yOf e) (34 + k) (B .codes)) j =
+      rw (← ea) (rep-used (xOf e) k (rep (yOf e) (34 + k) (B .codes)) j) in
+      let ub : usedBy (rep (yOf e) (34 + k) (B .codes)) j ≡ yOf e * b + usedBy (B .codes) j =
+      rw (← eb, ← uses-triplet k j) (rep-used (yOf e) (34 + k) (B .codes) j) in
       let uc : atKind (pair' .to) (2 * (B .q + zOf e)) j ≡ atKind (B .pair) (2 * B .q) j + atKind k (2 * zOf e) j = pair' .has j in
       rw (ua, ub, uc, ec) (omega arith)
 
@@ -172,9 +174,30 @@ module _ (G k s e r : ℕ) (d w : List ℕ) (kl : k < 34) (B : Built G k s w) (f
     size = omega (arith, rep-length (xOf e) k (rep (yOf e) (34 + k) (B .codes)), rep-length (yOf e) (34 + k) (B .codes), B .size, read' .groups, begun .0);
     one = omega (arith, B .one, read' .pairs, begun .1);
     tiles = tiles';
-    now = omega (arith, used' (suc k) 1 0 0 run-next (at-other k 3 (suc k) (omega arith)) (at-other k (2 * zOf e) (suc k) (omega arith)), B .soon, read' .runs-a, read' .runs-b);
-    soon = omega (arith, used' (suc (suc k)) 1 0 0 run-last (at-other k 3 (suc (suc k)) (omega arith)) (at-other k (2 * zOf e) (suc (suc k)) (omega arith)), B .later (suc (suc k)) (omega arith), read' .runs-a);
-    later = λ j l. omega (arith, used' j 0 0 0 (run-not j (inr (omega arith))) (at-other k 3 j (omega arith)) (at-other k (2 * zOf e) j (omega arith)), B .later j (omega arith));
+    now =
+        omega (
+          arith,
+          used' (suc k) 1 0 0 run-next (at-other k 3 (suc k) (omega arith))
+              (at-other k (2 * zOf e) (suc k) (omega arith)),
+          B .soon,
+          read' .runs-a,
+          read' .runs-b,
+        );
+    soon =
+        omega (
+          arith,
+          used' (suc (suc k)) 1 0 0 run-last (at-other k 3 (suc (suc k)) (omega arith))
+              (at-other k (2 * zOf e) (suc (suc k)) (omega arith)),
+          B .later (suc (suc k)) (omega arith),
+          read' .runs-a,
+        );
+    later =
+        λ j l. omega (
+          arith,
+          used' j 0 0 0 (run-not j (inr (omega arith))) (at-other k 3 j (omega arith)) (at-other k (2 * zOf e) j (omega arith)),
+          B .later j
+              (omega arith),
+        );
   }
 
 built-begin : (G : ℕ) (w : List ℕ) → G ≤ 4 → Built G 0 (state 0 0 G 1) w

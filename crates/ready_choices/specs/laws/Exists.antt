@@ -51,7 +51,8 @@ module _ (t d : List ℕ) (n k g p e : ℕ) (hg : g ≤ 4) (hp : p ≤ 1) (le : 
       let fit : taken k s e ≤ 4 - getD d k 0 = omega (arith, tk, ra, rb, x, room) in
       let m1 : xOf e + yOf e ≤ gOf s = omega arith in
       let m2 : zOf e ≤ pOf s = omega arith in
-      let f : fine (4 - getD d k 0) k s e ≡ true = fine-of (4 - getD d k 0) k s e (live-regular k s (r .low) (rw (ra)) (rw (rb))) (may-regular k s e (r .low) m1 m2 (rw x)) fit in
+      let f : fine (4 - getD d k 0) k s e ≡ true =
+      fine-of (4 - getD d k 0) k s e (live-regular k s (r .low) (rw (ra)) (rw (rb))) (may-regular k s e (r .low) m1 m2 (rw x)) fit in
       let b : 1 ≤ best t d n (suc k) (next s e) = rw nx h in
       let w = worth-fine (getD t k 0) (4 - getD d k 0) (best t d n (suc k)) k s e f b in
       let c = best-suc t d n k s e le in
@@ -65,15 +66,22 @@ module _ (t d : List ℕ) (n k : ℕ) (ih : (g p : ℕ) → g ≤ 4 → p ≤ 1 
   -- nothing is taken
   pass : (g p : ℕ) → g ≤ 4 → p ≤ 1 → getD d k 0 ≤ 4 → g + p ≤ free d n (suc k) → 1 ≤ best t d (suc n) k (state 0 0 g p)
   unfolding xOf yOf zOf
-  pass g p a b r h = choice-counts t d n k g p 0 a b (omega arith) refl 0 0 refl refl (omega arith) (omega arith) (omega arith) (ih (g - 0) (p - 0) (omega arith) (omega arith) (omega arith))
+  pass g p a b r h =
+      choice-counts t d n k g p 0 a b (omega arith) refl 0 0 refl refl (omega arith) (omega arith) (omega arith)
+      (ih (g - 0) (p - 0) (omega arith) (omega arith) (omega arith))
 
   -- a triplet, or else the pair
   take : (g p : ℕ) → g ≤ 4 → p ≤ 1 → getD d k 0 ≤ 1 → g + p ≤ 1 + free d n (suc k) → 1 ≤ g + p → 1 ≤ best t d (suc n) k (state 0 0 g p)
   unfolding xOf yOf zOf
-  take zero p a b r h i = choice-counts t d n k 0 p 1 a b (omega arith) refl 0 1 refl refl (omega arith) (omega arith) (omega arith) (ih (0 - 0) (p - 1) (omega arith) (omega arith) (omega arith))
-  take (suc g) p a b r h i = choice-counts t d n k (suc g) p 2 a b (omega arith) refl 1 0 refl refl (omega arith) (omega arith) (omega arith) (ih (suc g - 1) (p - 0) (omega arith) (omega arith) (omega arith))
+  take zero p a b r h i =
+      choice-counts t d n k 0 p 1 a b (omega arith) refl 0 1 refl refl (omega arith) (omega arith) (omega arith)
+      (ih (0 - 0) (p - 1) (omega arith) (omega arith) (omega arith))
+  take (suc g) p a b r h i =
+      choice-counts t d n k (suc g) p 2 a b (omega arith) refl 1 0 refl refl (omega arith) (omega arith) (omega arith)
+      (ih (suc g - 1) (p - 0) (omega arith) (omega arith) (omega arith))
 
-  either : (g p : ℕ) → g ≤ 4 → p ≤ 1 → getD d k 0 ≤ 4 → (a b : Bool) → leb (getD d k 0) 1 ≡ a → leb (g + p) (free d n (suc k)) ≡ b → g + p ≤ cond a 1 0 + free d n (suc k) →
+  either : (g p : ℕ) → g ≤ 4 → p ≤ 1 → getD d k 0 ≤ 4 → (a b : Bool) → leb (getD d k 0) 1 ≡ a → leb (g + p) (free d n (suc k)) ≡ b
+      → g + p ≤ cond a 1 0 + free d n (suc k) →
       1 ≤ best t d (suc n) k (state 0 0 g p)
   either g p hg hp r a true e f h = pass g p hg hp r (leb-true (g + p) (free d n (suc k)) f)
   either g p hg hp r true false e f h = let l = leb-false (g + p) (free d n (suc k)) f in take g p hg hp (leb-true (getD d k 0) 1 e) h (omega arith)

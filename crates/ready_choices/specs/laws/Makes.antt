@@ -102,7 +102,12 @@ module _ (k s e : ℕ) (y : Bool) (lo : s < 70) (q : y ≡ isRunStart k) where
       (leb-true _ _ (b .0), leb-true _ _ (b .1))
 
   pub makes-regular : leb (xOf e + yOf e) (gOf s) && leb (zOf e) (pOf s) && (eqb (xOf e) 0 || y) ≡ true →
-      Makes k s e (record { fine = true; to = state (xOf e) (aOf s) (gOf s - (xOf e + yOf e)) (pOf s - zOf e); tiles = aOf s + bOf s + xOf e + 3 * yOf e + 2 * zOf e })
+      Makes k s e (record {
+        fine = true;
+        to = state (xOf e) (aOf s) (gOf s - (xOf e + yOf e)) (pOf s - zOf e);
+        tiles = aOf s + bOf s + xOf e + 3 * yOf e
+            + 2 * zOf e;
+      })
   makes-regular h =
       let (a, b) = regular-begun h in
       let r = state-read (xOf e) (aOf s) (gOf s - (xOf e + yOf e)) (pOf s - zOf e) (omega (arith, state-small s lo)) (omega arith) in
@@ -113,7 +118,8 @@ module _ (k s e : ℕ) (y : Bool) (lo : s < 70) (q : y ≡ isRunStart k) where
         low = omega (arith, r .low);
       }
 
-  pub makes-no-regular : leb (xOf e + yOf e) (gOf s) && leb (zOf e) (pOf s) && (eqb (xOf e) 0 || y) ≡ false → Makes k s e (record { fine = false; to = 0; tiles = 0 })
+  pub makes-no-regular : leb (xOf e + yOf e) (gOf s) && leb (zOf e) (pOf s) && (eqb (xOf e) 0 || y) ≡ false
+      → Makes k s e (record { fine = false; to = 0; tiles = 0 })
   makes-no-regular h = makes-none k s e (may-is-regular ∙ h)
 
 -- the same by the parts that the code has read
@@ -137,7 +143,8 @@ pub kept-zero : (x : ℕ) → kept 0 x ≡ 0
 unfolding kept
 kept-zero x = refl
 
-pub value-with : (m : Move) (later have room x : ℕ) → (m .fine && leb (m .tiles) room) && not (eqb later 0) ≡ true → x ≡ min have (m .tiles) → later + x ≡ valueOf m later have room
+pub value-with : (m : Move) (later have room x : ℕ) → (m .fine && leb (m .tiles) room) && not (eqb later 0) ≡ true → x ≡ min have (m .tiles)
+    → later + x ≡ valueOf m later have room
 unfolding valueOf
 value-with m later have room x h q =
     let a = and-true (m .fine && leb (m .tiles) room) (not (eqb later 0)) h in

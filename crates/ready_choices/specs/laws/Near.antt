@@ -92,11 +92,13 @@ regular-end m d w s r = built (4 - m) d w 34 s (omega arith) (omega arith) r .lo
 pub reach-whole : (m : ℕ) (d w : List ℕ) (s0 s : ℕ) → m ≤ 4 → length w ≡ 34 → Start m s0 → Reach s0 d w 34 s → ended s ≡ true → Whole w m
 reach-whole m d w s0 s h l (groups q) r e =
     let r' : Reach (state 0 0 (4 - m) 1) d w 34 s = rw q at r in
-    let z : s ≡ 0 = ⊎-elim (λ i. i) (⊎-elim (λ i. absurd (omega (arith, regular-end m d w s r'))) (λ i. absurd (omega (arith, regular-end m d w s r')))) (ended-in s e) in
+    let z : s ≡ 0 = ⊎-elim (λ i. i) (⊎-elim (λ i. absurd (omega (arith, regular-end m d w s r'))) (λ i. absurd (omega (arith, regular-end m d w s r'))))
+    (ended-in s e) in
     regular-whole m d w h l (rw z at r')
 reach-whole m d w s0 s h l (seven z q) r e =
     let r' : Reach 77 d w 34 s = rw q at r in
-    let i : s ≡ 70 = ⊎-elim (λ i. absurd (omega (arith, seven-end d w s r'))) (⊎-elim (λ i. i) (λ i. absurd (omega (arith, seven-end d w s r')))) (ended-in s e) in
+    let i : s ≡ 70 = ⊎-elim (λ i. absurd (omega (arith, seven-end d w s r'))) (⊎-elim (λ i. i) (λ i. absurd (omega (arith, seven-end d w s r'))))
+    (ended-in s e) in
     let k = reach-seven d w (rw i at r') in
     record {
       size = omega (arith, seven-total w k);
@@ -104,7 +106,8 @@ reach-whole m d w s0 s h l (seven z q) r e =
     }
 reach-whole m d w s0 s h l (thirteen z q) r e =
     let r' : Reach 79 d w 34 s = rw q at r in
-    let i : s ≡ 78 = ⊎-elim (λ i. absurd (omega (arith, orphans-end d w s r'))) (⊎-elim (λ i. absurd (omega (arith, orphans-end d w s r'))) (λ i. i)) (ended-in s e) in
+    let i : s ≡ 78 = ⊎-elim (λ i. absurd (omega (arith, orphans-end d w s r'))) (⊎-elim (λ i. absurd (omega (arith, orphans-end d w s r'))) (λ i. i))
+    (ended-in s e) in
     let k = reach-orphans d w (rw i at r') in
     record {
       size = omega (arith, orphans-total w k);
@@ -124,9 +127,17 @@ unfolding ended
 reading-came m win d w r four (regular p) =
     let h = shape-of (p .codes) w 0 (r .pair) (p .order) (p .pair) (λ k l. p .tiles k) in
     let g : length (p .codes) ≡ 4 - m = p .size in
-    record { start = state 0 0 (4 - m) 1; from = groups refl; end = 0; reach = rw (← g) (shape-reach (length (p .codes)) d w (omega arith) four h); done = refl }
+    record {
+      start = state 0 0 (4 - m) 1;
+      from = groups refl;
+      end = 0;
+      reach = rw (← g)
+          (shape-reach (length (p .codes)) d w (omega arith) four h);
+      done = refl;
+    }
 reading-came m win d w r four (pairs p) = record { start = 77; from = seven (p .closed) refl; end = 70; reach = seven-reach d w four (p .kinds); done = refl }
-reading-came m win d w r four (orphans p) = record { start = 79; from = thirteen (p .closed) refl; end = 78; reach = orphans-reach d w four (p .kinds); done = refl }
+reading-came m win d w r four (orphans p) =
+    record { start = 79; from = thirteen (p .closed) refl; end = 78; reach = orphans-reach d w four (p .kinds); done = refl }
 
 -- ---- swaps and tiles kept
 swaps-kept : (t u : List ℕ) → swapsOf t u + total 34 (both t u) ≡ total 34 (λ k. getD t k 0)
@@ -153,7 +164,8 @@ ready-needs t d v m h r =
     let le : total 34 (both t v) ≤ total 34 (both t w) = total-le-of (both t v) (both t w) 34 (λ j l. omega (arith, at-w j l)) in
     record { start = c .start; from = c .from; swapped = omega (arith, swaps-kept t v, h .tiles, kw, le) }
   where
-    go : (k : ℕ) → getD v k 0 + getD d k 0 < 4 → ((j : ℕ) → j < 34 → getD v j 0 + getD d j 0 ≤ 4) → (j : ℕ) → j < 34 → getD (more v k 1) j 0 ≡ getD v j 0 + atKind k 1 j → (b : Bool) → eqb k j ≡ b →
+    go : (k : ℕ) → getD v k 0 + getD d k 0 < 4 → ((j : ℕ) → j < 34 → getD v j 0 + getD d j 0 ≤ 4) → (j : ℕ) → j < 34
+        → getD (more v k 1) j 0 ≡ getD v j 0 + atKind k 1 j → (b : Bool) → eqb k j ≡ b →
         getD (more v k 1) j 0 + getD d j 0 ≤ 4
     go k b f j l e true q = let i : k ≡ j = eqb-true k j q in let c : getD v j 0 + getD d j 0 < 4 = rw (← i) b in omega (arith, e, at-le k 1 j)
     go k b f j l e false q = omega (arith, e, f j l, at-other k 1 j (eqb-false k j q))
@@ -177,7 +189,9 @@ module _ (t d w : List ℕ) (m j x : ℕ) (ht : HandTally t d m) (lw : length w 
   long = less-long w j 1 lw
 
   one-less : total 34 (λ k. getD w k 0) ≡ 1 + total 34 (λ k. getD u k 0)
-  one-less = total-cong (λ k. getD w k 0) (λ k. atKind j 1 k + getD u k 0) 34 (λ k l. begun k) ∙ omega (arith, total-add (atKind j 1) (λ k. getD u k 0) 34, total-at j 1 34 lj)
+  one-less =
+      total-cong (λ k. getD w k 0) (λ k. atKind j 1 k + getD u k 0) 34 (λ k l. begun k)
+      ∙ omega (arith, total-add (atKind j 1) (λ k. getD u k 0) 34, total-at j 1 34 lj)
 
   again : more u j 1 ≡ w
   again = ext-getD 0 (more u j 1) w (more-long u j 1 ∙ long ∙ sym lw) (λ k l. getD-more u j 1 k (omega (arith, more-long u j 1)) ∙ omega (arith, begun k))

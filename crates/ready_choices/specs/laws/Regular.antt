@@ -58,7 +58,8 @@ module _ (k s e : ℕ) (l : s < 70) where
   unfolding may
   may-regular a b c = rw (lt-ltb s 70 l, le-leb (xOf e + yOf e) (gOf s) a, le-leb (zOf e) (pOf s) b) c
 
-pub live-regular : (k s : ℕ) → s < 70 → eqb (aOf s) 0 || (ltb k 27 && leb 1 (k % 9) && leb (k % 9) 7) ≡ true → eqb (bOf s) 0 || (ltb k 27 && leb 2 (k % 9)) ≡ true →
+pub live-regular : (k s : ℕ) → s < 70 → eqb (aOf s) 0 || (ltb k 27 && leb 1 (k % 9) && leb (k % 9) 7) ≡ true
+    → eqb (bOf s) 0 || (ltb k 27 && leb 2 (k % 9)) ≡ true →
     live k s ≡ true
 unfolding live
 live-regular k s l a b = rw (lt-ltb s 70 l, a, b)
@@ -148,7 +149,8 @@ module _ (G : ℕ) (d w : List ℕ) (g4 : G ≤ 4) (four : (k : ℕ) → k < 34 
       let qp = q .pairs in
       let same : getD w k 0 ≡ taken k s e = omega arith in
       let fit : taken k s e ≤ 4 - getD d k 0 = under (taken k s e) (getD w k 0) (getD d k 0) same fw in
-      let (enough, left-g) = leaves G (total k (λ j. h .x j + h .y j)) (total (suc k) (λ j. h .x j + h .y j)) (gOf s) (xOf e + yOf e) (h .x k + h .y k) qg tg (sum-cong ex ey) mg in
+      let (enough, left-g) = leaves G (total k (λ j. h .x j + h .y j)) (total (suc k) (λ j. h .x j + h .y j)) (gOf s) (xOf e + yOf e) (h .x k + h .y k) qg tg
+      (sum-cong ex ey) mg in
       let (paired, left-p) = leaves 1 (total k (h .z)) (total (suc k) (h .z)) (pOf s) (zOf e) (h .z k) qp ts ez mz in
       move r e (c .low)
       (fine-of (4 - getD d k 0) k s e (live-regular k s (q .low) (rw qa (allow-a k l)) (rw qb (allow-b k l)))
@@ -215,11 +217,14 @@ group-tiles g k e l =
     run-or g
     (λ r.
     let c2 : g + 1 + 1 ≡ g + 2 = omega arith in
-    let b2 : atKind (g + 2) 1 k ≡ back (back (atKind g 1)) k = rw (← c2) (at-back (g + 1) 1 k ∙ back-cong (atKind (g + 1) 1) (back (atKind g 1)) k (λ j i. at-back g 1 j)) in
+    let b2 : atKind (g + 2) 1 k ≡ back (back (atKind g 1)) k =
+    rw (← c2) (at-back (g + 1) 1 k ∙ back-cong (atKind (g + 1) 1) (back (atKind g 1)) k (λ j i. at-back g 1 j)) in
     rw (lt-ltb g 34 r) (omega (arith, at-back g 1 k, b2, at-other g 1 (34 + k) (omega arith))))
     (λ r.
     let z1 : back (atKind g 1) k ≡ 0 = back-cong (atKind g 1) (λ _. 0) k (λ j i. at-other g 1 j (omega arith)) ∙ back-zero k in
-    let z2 : back (back (atKind g 1)) k ≡ 0 = back-cong (back (atKind g 1)) (λ _. 0) k (λ j i. back-cong (atKind g 1) (λ _. 0) j (λ a q. at-other g 1 a (omega arith)) ∙ back-zero j) ∙ back-zero k in
+    let z2 : back (back (atKind g 1)) k ≡ 0 =
+    back-cong (back (atKind g 1)) (λ _. 0) k (λ j i. back-cong (atKind g 1) (λ _. 0) j (λ a q. at-other g 1 a (omega arith)) ∙ back-zero j)
+    ∙ back-zero k in
     rw (le-ltb g 34 r) (omega (arith, z1, z2, at-other g 1 k (omega arith), trip (eqb (g - 34) k) refl r)))
   where
     trip : (b : Bool) → eqb (g - 34) k ≡ b → 34 ≤ g → atKind (g - 34) 3 k ≡ 3 * atKind g 1 (34 + k)
@@ -247,12 +252,16 @@ back-ofKind g gs k = back-add (atKind g 1) (ofKind gs) k
 
 back-back-ofKind : (g : ℕ) (gs : List ℕ) (k : ℕ) → back (back (ofKind (g ∷ gs))) k ≡ back (back (atKind g 1)) k + back (back (ofKind gs)) k
 back-back-ofKind g gs k =
-    back-cong (back (ofKind (g ∷ gs))) (λ j. back (atKind g 1) j + back (ofKind gs) j) k (λ j i. back-ofKind g gs j) ∙ back-add (back (atKind g 1)) (back (ofKind gs)) k
+    back-cong (back (ofKind (g ∷ gs))) (λ j. back (atKind g 1) j + back (ofKind gs) j) k (λ j i. back-ofKind g gs j)
+    ∙ back-add (back (atKind g 1)) (back (ofKind gs)) k
 
 -- the tiles of groups, by where they begin
-groups-tiles : (gs : List ℕ) (c k : ℕ) → Ascends c gs → k < 34 → usedBy gs k ≡ ofKind gs k + back (ofKind gs) k + back (back (ofKind gs)) k + 3 * ofKind gs (34 + k)
+groups-tiles : (gs : List ℕ) (c k : ℕ) → Ascends c gs → k < 34
+    → usedBy gs k ≡ ofKind gs k + back (ofKind gs) k + back (back (ofKind gs)) k + 3 * ofKind gs (34 + k)
 unfolding usedBy
-groups-tiles [] c k o l = none (back-cong (ofKind []) (λ _. 0) k (λ j i. empty j) ∙ back-zero k) (back-cong (back (ofKind [])) (λ _. 0) k (λ j i. back-cong (ofKind []) (λ _. 0) j (λ i q. empty i) ∙ back-zero j) ∙ back-zero k)
+groups-tiles [] c k o l =
+    none (back-cong (ofKind []) (λ _. 0) k (λ j i. empty j) ∙ back-zero k)
+    (back-cong (back (ofKind [])) (λ _. 0) k (λ j i. back-cong (ofKind []) (λ _. 0) j (λ i q. empty i) ∙ back-zero j) ∙ back-zero k)
   where
     none : back (ofKind []) k ≡ 0 → back (back (ofKind [])) k ≡ 0 → 0 ≡ ofKind [] k + back (ofKind []) k + back (back (ofKind [])) k + 3 * ofKind [] (34 + k)
     none a b = omega (arith, empty k, empty (34 + k))
@@ -265,7 +274,8 @@ begin-once g e =
     run-or g
     (λ r. omega (arith, total-at g 1 34 r, total-none (λ k. atKind g 1 (34 + k)) 34 (λ k l. at-other g 1 (34 + k) (omega arith))))
     (λ r.
-    let s : total 34 (λ k. atKind g 1 (34 + k)) ≡ total 34 (atKind (g - 34) 1) = total-cong (λ k. atKind g 1 (34 + k)) (atKind (g - 34) 1) 34 (λ k l. same r k (eqb (g - 34) k) refl) in
+    let s : total 34 (λ k. atKind g 1 (34 + k)) ≡ total 34 (atKind (g - 34) 1) =
+    total-cong (λ k. atKind g 1 (34 + k)) (atKind (g - 34) 1) 34 (λ k l. same r k (eqb (g - 34) k) refl) in
     omega (arith, total-none (atKind g 1) 34 (λ k l. at-other g 1 k (omega arith)), s, total-at (g - 34) 1 34 (omega (arith, triplet-in g e r))))
   where
     same : 34 ≤ g → (k : ℕ) (b : Bool) → eqb (g - 34) k ≡ b → atKind g 1 (34 + k) ≡ atKind (g - 34) 1 k
@@ -283,7 +293,14 @@ groups-begin : (gs : List ℕ) (c : ℕ) → Ascends c gs → total 34 (ofKind g
 unfolding ofKind
 groups-begin [] c o = omega (arith, total-none (λ k. 0) 34 (λ k l. refl))
 groups-begin (g ∷ gs) c o =
-    omega (arith, groups-begin gs g (o .2), begin-once g (o .1), total-add (atKind g 1) (ofKind gs) 34, total-add (λ k. atKind g 1 (34 + k)) (λ k. ofKind gs (34 + k)) 34)
+    omega (
+      arith,
+      groups-begin gs g (o .2),
+      begin-once g (o .1),
+      total-add (atKind g 1) (ofKind gs) 34,
+      total-add (λ k. atKind g 1 (34 + k))
+          (λ k. ofKind gs (34 + k)) 34,
+    )
 
 pub group-run : (g : ℕ) → isGroup g ≡ true → g < 34 → isRunStart g ≡ true
 unfolding isGroup

@@ -190,7 +190,8 @@ record Orphans (k s : ℕ) (w : List ℕ) : Type 0 where
   count : total k (twice w) + s ≡ 79
   each : (j : ℕ) → j < k → proper w j ≡ true
 
-two-orphan : (n e : ℕ) (y : Bool) → e ≤ 1 → eqb e 0 || y ≡ true → n ≡ cond y (1 + e) 0 → (cond y (eqb n 1 || eqb n 2) (eqb n 0) ≡ true) × (cond (eqb n 2) 1 0 ≡ e)
+two-orphan : (n e : ℕ) (y : Bool) → e ≤ 1 → eqb e 0 || y ≡ true → n ≡ cond y (1 + e) 0
+    → (cond y (eqb n 1 || eqb n 2) (eqb n 0) ≡ true) × (cond (eqb n 2) 1 0 ≡ e)
 two-orphan n zero true h o q = rw q (refl, refl)
 two-orphan n (suc zero) true h o q = rw q (refl, refl)
 two-orphan n (suc (suc e)) true h o q = absurd (omega arith)

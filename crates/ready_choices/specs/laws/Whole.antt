@@ -142,7 +142,8 @@ reach-reads d w m win l r h =
         let z : getD w k 0 ≡ 0 = List·getD-eq-default w 0 {n = k} (omega arith) in
         omega (arith, z, out b q k o (eqb k 34) refl (eqb k 35) refl)
       where
-        out : (b : Built (4 - m) 34 0 w) → b .q ≡ 1 → (k : ℕ) → 34 ≤ k → (c : Bool) → eqb k 34 ≡ c → (f : Bool) → eqb k 35 ≡ f → atKind (b .pair) 2 k + usedBy (b .codes) k ≡ 0
+        out : (b : Built (4 - m) 34 0 w) → b .q ≡ 1 → (k : ℕ) → 34 ≤ k → (c : Bool) → eqb k 34 ≡ c → (f : Bool) → eqb k 35 ≡ f
+            → atKind (b .pair) 2 k + usedBy (b .codes) k ≡ 0
         out b q k o true e f g = let i : k ≡ 34 = eqb-true k 34 e in rw i (rw q at (b .now))
         out b q k o false e true g = let i : k ≡ 35 = eqb-true k 35 g in rw i (rw q at (b .soon))
         out b q k o false e false g = rw q at (b .later k (omega (arith, eqb-false k 34 e, eqb-false k 35 g)))

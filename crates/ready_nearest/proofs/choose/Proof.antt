@@ -31,22 +31,37 @@ choose-spec =
     (λ c. chose-dead _ _ _ _ _ (sym (c .before .live .ensures) ∙ not-true _ (c .if1 .taken)))
     (λ c κs. search needs)
     (λ c. (omega arith, chose-none _ _ _ _ _))
-    (λ c κs. (c .before .before .before .before .before .before .pre .1, omega (arith, c .before .before .tries .ensures .1), c .before .before .before .before .before .begun-in .ensures))
+    (λ c κs. (
+      c .before .before .before .before .before .before .pre .1,
+      omega
+          (arith, c .before .before .tries .ensures .1),
+      c .before .before .before .before .before .begun-in .ensures,
+    ))
     (λ c. omega arith)
     (λ c. omega arith)
     (λ c. omega arith)
     (λ c. omega arith)
     (λ c. omega (arith, c .before .made .ensures .low))
-    (λ c κs. (c .before .before .before .before .before .before .before .before .before .pre .3 _, c .before .before .before .before .before .before .before .before .before .pre .2))
+    (λ c κs. (
+      c .before .before .before .before .before .before .before .before .before .pre .3 _,
+      c .before .before .before .before .before .before .before .before .before .pre .2,
+    ))
     (λ c. omega (arith, c .before .before .before .before .before .before .before .before .tries .ensures .1))
     (λ c. omega arith)
     (λ c. (
       omega arith,
       ⊎-elim
           (λ w. rw (w .1) (chose-with _ _ (after (c .before .before .before .before .before .before .before .before .before .before .before .before .args .table .now) (c .before .before .before .before .before .before .before .before .before .before .before .before .args .k)) _ _ (alive (c .before .before .before .before .before .before .before .before .before)) _ _ (c .before .before .before .before .before .made .ensures) _ _ (omega (arith, c .before .before .before .before .before .before .before .before .tries .ensures .1)) (c .before .before .value .ensures) (w .0 .taken) (c .before .before .before .before .before .before .before .loop .inv .1)))
-          (λ w. rw (w .1) (chose-without _ _ (after (c .before .before .before .before .before .before .before .before .before .before .before .before .args .table .now) (c .before .before .before .before .before .before .before .before .before .before .before .before .args .k)) _ _ (alive (c .before .before .before .before .before .before .before .before .before)) _ _ (c .before .before .before .before .before .made .ensures) _ _ (c .before .before .value .ensures) (w .0 .left) (c .before .before .before .before .before .before .before .loop .inv .1)))
+          (λ w. rw (w .1) (chose-without _ _ (after
+          (c .before .before .before .before .before .before .before .before .before .before .before .before .args .table .now)
+          (c .before .before .before .before .before .before .before .before .before .before .before .before .args .k)) _ _
+          (alive (c .before .before .before .before .before .before .before .before .before)) _ _
+          (c .before .before .before .before .before .made .ensures) _ _ (c .before .before .value .ensures) (w .0 .left)
+          (c .before .before .before .before .before .before .before .loop .inv .1)))
           (c .if2 .came),
     ))
     (λ c.
     let q : c .before .loop .e ≡ c .before .before .tries .result = omega arith in
-    tries-done _ _ (after (c .before .before .before .before .before .before .args .table .now) (c .before .before .before .before .before .before .args .k)) _ _ _ _ _ (c .before .before .before .before .before .begun-in .ensures) (c .before .before .tries .ensures .0) (rw q at (c .before .loop .inv .1))))
+    tries-done _ _ (after (c .before .before .before .before .before .before .args .table .now)
+    (c .before .before .before .before .before .before .args .k)) _ _ _ _ _ (c .before .before .before .before .before .begun-in .ensures)
+    (c .before .before .tries .ensures .0) (rw q at (c .before .loop .inv .1))))

@@ -12,8 +12,12 @@ leads : (c : tie.Joined2) → Leads (c .before .before .before .before .before .
     (c .before .before .before .before .before .args .m) (c .if2 .s)
 leads c =
     ⊎-elim
-    (λ w. rw (w .1) (leads-seven _ _ _ _ (c .before .before .before .before .before .pre .1) (c .before .before .before .before .before .pre .0) (c .before .before .before .if1 .left) _ (c .before .before .before .before .state .ensures (4 - c .before .before .before .before .before .args .m) (omega arith)) (w .0 .taken)))
-    (λ w. rw (w .1) (leads-regular _ _ _ _ (c .before .before .before .before .before .pre .1) (c .before .before .before .before .before .pre .0) (c .before .before .before .if1 .left) _ (c .before .before .before .before .state .ensures (4 - c .before .before .before .before .before .args .m) (omega arith)) (w .0 .left)))
+    (λ w. rw (w .1) (leads-seven _ _ _ _ (c .before .before .before .before .before .pre .1) (c .before .before .before .before .before .pre .0)
+    (c .before .before .before .if1 .left) _
+    (c .before .before .before .before .state .ensures (4 - c .before .before .before .before .before .args .m) (omega arith)) (w .0 .taken)))
+    (λ w. rw (w .1) (leads-regular _ _ _ _ (c .before .before .before .before .before .pre .1) (c .before .before .before .before .before .pre .0)
+    (c .before .before .before .if1 .left) _
+    (c .before .before .before .before .state .ensures (4 - c .before .before .before .before .before .args .m) (omega arith)) (w .0 .left)))
     (c .if2 .came)
 
 pub start-spec : {M : Type 1} → statement M
@@ -23,5 +27,9 @@ start-spec =
     (λ c. rw (c .before .state .ensures (4 - c .before .before .args .m) (omega arith)) (top-melded _ _ _ (c .before .before .pre .0) (c .if1 .taken)))
     (λ c. search needs) (λ c. search needs) (λ c. search needs) (λ c. search needs)
     (λ c. search needs) (λ c. search needs) (λ c. search needs)
-    (λ c. top-orphans _ _ _ _ (c .before .before .before .before .before .before .before .before .before .pre .1) (c .before .before .before .before .before .before .before .before .before .pre .0) (c .before .before .before .before .before .before .before .if1 .left) _ (leads (c .before .before .before .before)) (c .if3 .taken))
-    (λ c. top-leads _ _ _ _ (c .before .before .before .before .before .before .before .before .before .pre .1) (c .before .before .before .before .before .before .before .before .before .pre .0) (c .before .before .before .before .before .before .before .if1 .left) _ (leads (c .before .before .before .before)) (c .if3 .left)))
+    (λ c. top-orphans _ _ _ _ (c .before .before .before .before .before .before .before .before .before .pre .1)
+    (c .before .before .before .before .before .before .before .before .before .pre .0)
+    (c .before .before .before .before .before .before .before .if1 .left) _ (leads (c .before .before .before .before)) (c .if3 .taken))
+    (λ c. top-leads _ _ _ _ (c .before .before .before .before .before .before .before .before .before .pre .1)
+    (c .before .before .before .before .before .before .before .before .before .pre .0)
+    (c .before .before .before .before .before .before .before .if1 .left) _ (leads (c .before .before .before .before)) (c .if3 .left)))

@@ -39,7 +39,8 @@ module _ (t d : List ℕ) (m : ℕ) (h : HandTally t d m) (ld : length d ≡ 34)
       pub shorter-nearest : (u : List ℕ) → Shorter t w u → NearestTally t d m (14 - 3 * m - best t d 34 0 s) u
       shorter-nearest u r =
           rw (r .less-one)
-          (nearest-of t d w m (r .kind) (best t d 34 0 s) h (q .long) whole (λ k l. reach-four s d w 34 (q .end) (q .reach) fours-melds k l) (q .keeps) (r .low) (r .lack) (p .top))
+          (nearest-of t d w m (r .kind) (best t d 34 0 s) h (q .long) whole (λ k l. reach-four s d w 34 (q .end) (q .reach) fours-melds k l) (q .keeps)
+          (r .low) (r .lack) (p .top))
 
       module _ (table : List ℕ) (f : Filled t d table) where
         value : getD table s 0 ≡ best t d 34 0 s

@@ -36,7 +36,8 @@ lesser : (f g : ℕ → ℕ) (n : ℕ) → total n f < total n g → (k : ℕ) �
 lesser f g zero h = absurd (omega (arith, total-zero f, total-zero g))
 lesser f g (suc n) h = go (λ i. lesser f g n i) (ltb (f n) (g n)) refl (total-suc n f) (total-suc n g)
   where
-    go : (total n f < total n g → (k : ℕ) × (k < n) × (f k < g k)) → (b : Bool) → ltb (f n) (g n) ≡ b → total (suc n) f ≡ total n f + f n → total (suc n) g ≡ total n g + g n
+    go : (total n f < total n g → (k : ℕ) × (k < n) × (f k < g k)) → (b : Bool) → ltb (f n) (g n) ≡ b → total (suc n) f ≡ total n f + f n
+        → total (suc n) g ≡ total n g + g n
         → (k : ℕ) × (k < suc n) × (f k < g k)
     go r true q x y = (n, omega arith, ltb-true (f n) (g n) q)
     go r false q x y = let l = ltb-false (f n) (g n) q in let (k, i, v) = r (omega arith) in (k, omega arith, v)
@@ -107,8 +108,11 @@ module _ (t d : List ℕ) (start : ℕ) where
 -- of three values: the regular hand's, seven pairs', thirteen orphans'
 top-three : (t d : List ℕ) (m a b c : ℕ) → m ≡ 0 → best t d 34 0 (state 0 0 (4 - m) 1) ≡ a → best t d 34 0 77 ≡ b → best t d 34 0 79 ≡ c
     → (p q r : Bool) → leb b a ≡ p → leb c a ≡ q → leb c b ≡ r → (s : ℕ) × Topmost t d m s
-top-three t d m a b c z u v w true true r x y k =
-    (state 0 0 (4 - m) 1, top-of t d m (state 0 0 (4 - m) 1) (groups refl) (omega (arith, start-low m)) (omega arith) (omega (arith, leb-true b a x)) (omega (arith, leb-true c a y)))
+top-three t d m a b c z u v w true true r x y k = (
+  state 0 0 (4 - m) 1,
+  top-of t d m (state 0 0 (4 - m) 1) (groups refl) (omega (arith, start-low m)) (omega arith) (omega (arith, leb-true b a x))
+      (omega (arith, leb-true c a y)),
+)
 top-three t d m a b c z u v w true false r x y k =
     (79, top-of t d m 79 (thirteen z refl) (omega arith) (omega (arith, leb-false c a y)) (omega (arith, leb-true b a x, leb-false c a y)) (omega arith))
 top-three t d m a b c z u v w false q true x y k =

@@ -89,7 +89,8 @@ module _ (have room : ℕ) (later : ℕ → ℕ) (k s : ℕ) where
     }
 
     -- any other is not
-    pub chose-without : (b : Choice) (v : ℕ) → v ≡ valueOf m (later (m .to)) have room → v ≤ b .value → Chose have room later k s e b → Chose have room later k s (e + 1) b
+    pub chose-without : (b : Choice) (v : ℕ) → v ≡ valueOf m (later (m .to)) have room → v ≤ b .value → Chose have room later k s e b
+        → Chose have room later k s (e + 1) b
     chose-without b v u p c = record {
       value = rw (most-more (worth have room later k s) e) (omega (arith, u, worth-value, c .value));
       got = c .got;
@@ -198,7 +199,8 @@ module _ (have room : ℕ) (later : ℕ → ℕ) (k s n : ℕ) (u : Begun) (b : 
   none-later : (e : ℕ) → n ≤ e → e < 10 → may k s e ≡ false
   none-later e h i = go (ltb s 70) refl
     where
-      run : s < 70 → (r : Bool) → isRunStart k ≡ r → cond r (choices (u .g)) (min 3 (choices (u .g))) ≤ e → xOf e + yOf e ≤ gOf s → (0 < xOf e → isRunStart k ≡ true) → ⊥
+      run : s < 70 → (r : Bool) → isRunStart k ≡ r → cond r (choices (u .g)) (min 3 (choices (u .g))) ≤ e → xOf e + yOf e ≤ gOf s
+          → (0 < xOf e → isRunStart k ≡ true) → ⊥
       run l true y o x z = let v = over-groups (u .g) e (omega (arith, c .sum)) i o in omega (arith, c .groups l)
       run l false y o x z = three (leb 3 e) refl
         where

@@ -304,7 +304,8 @@ pub record Leads (t d : List ℕ) (m s : ℕ) : Type 0 where
   pub second : best t d 34 0 77 ≤ best t d 34 0 s
 
 -- no start is better than one that is no worse than the three
-pub top-of : (t d : List ℕ) (m s : ℕ) → Start m s → s < 80 → best t d 34 0 (state 0 0 (4 - m) 1) ≤ best t d 34 0 s → best t d 34 0 77 ≤ best t d 34 0 s → best t d 34 0 79 ≤ best t d 34 0 s → Topmost t d m s
+pub top-of : (t d : List ℕ) (m s : ℕ) → Start m s → s < 80 → best t d 34 0 (state 0 0 (4 - m) 1) ≤ best t d 34 0 s → best t d 34 0 77 ≤ best t d 34 0 s
+    → best t d 34 0 79 ≤ best t d 34 0 s → Topmost t d m s
 top-of t d m s b l x y w = record { from = b; low = l; top = λ r q. each r q }
   where
     each : (r : ℕ) → Start m r → best t d 34 0 r ≤ best t d 34 0 s

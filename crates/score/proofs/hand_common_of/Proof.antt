@@ -15,13 +15,30 @@ use Rattle.score.proofs.hand_common_of.Statement.{statement}
 use Rattle.score.proofs.hand_common_of.Tie as tie
 
 module _ (h : Hand) (dealer wind : ℕ) (won : Won) (ew : won ≡ wonOf h dealer wind) where
-  made : (x : TileTests) (codes ways : List ℕ) (dora : ℕ) → x ≡ tileTestsOf (won .tally) (won .meldless) → codes ≡ meldCodes h → ways ≡ meldWays h → dora ≡ doraOf (h .fields .indicator)
+  made : (x : TileTests) (codes ways : List ℕ) (dora : ℕ) → x ≡ tileTestsOf (won .tally) (won .meldless) → codes ≡ meldCodes h → ways ≡ meldWays h
+      → dora ≡ doraOf (h .fields .indicator)
       → record { won = won; tests = x; seats = seatsOf h dealer; dora = dora; codes = codes; ways = ways } ≡ handCommonOf h dealer wind
   unfolding handCommonOf wonOf
   made x codes ways dora ex ec ey ed =
       let q : x ≡ tileTestsOf (wonOf h dealer wind .tally) (wonOf h dealer wind .meldless) = rw ew at ex in
-      rw (ec, ey, ed) (ap (λ (v : Won). record { won = v; tests = x; seats = seatsOf h dealer; dora = doraOf (h .fields .indicator); codes = meldCodes h; ways = meldWays h }) ew
-      ∙ ap (λ (v : TileTests). record { won = wonOf h dealer wind; tests = v; seats = seatsOf h dealer; dora = doraOf (h .fields .indicator); codes = meldCodes h; ways = meldWays h }) q)
+      rw (ec, ey, ed) (ap (λ (v : Won). record {
+        won = v;
+        tests = x;
+        seats = seatsOf h dealer;
+        dora = doraOf
+            (h .fields .indicator);
+        codes = meldCodes h;
+        ways = meldWays h;
+      }) ew
+      ∙ ap (λ (v : TileTests). record {
+        won = wonOf h dealer wind;
+        tests = v;
+        seats = seatsOf h dealer;
+        dora = doraOf
+            (h .fields .indicator);
+        codes = meldCodes h;
+        ways = meldWays h;
+      }) q)
 
   winds : wind ≤ 1 → (won .round < 34) × (won .own < 34)
   unfolding wonOf

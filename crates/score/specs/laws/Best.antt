@@ -27,13 +27,15 @@ module _ (h : Hand) (dealer wind : ℕ) where
 
   -- a search, up to where it may end, held each reading of the hand against the others
   pub over-readings : (ends : Reading → Bool) → MayEnd (worth h dealer wind) ends
-      → Kept (worth h dealer wind) (IsReadingOf h) (folded (keepBetterBy (worth h dealer wind) ends) noneOf (readings (concealedTally h) (h .held .m) (h .fields .winning)))
+      → Kept (worth h dealer wind) (IsReadingOf h)
+      (folded (keepBetterBy (worth h dealer wind) ends) noneOf (readings (concealedTally h) (h .held .m) (h .fields .winning)))
   over-readings ends may =
       let t = worth h dealer wind in
       let c = concealedTally h in
       let m = h .held .m in
       let w = h .fields .winning in
-      kept-same t (λ q. Member q (readings c m w)) (IsReadingOf h) _ (λ q n. readings-sound c m w (all-kinds h) q n) (λ q n. readings-complete c m w (all-kinds h) q n)
+      kept-same t (λ q. Member q (readings c m w)) (IsReadingOf h) _ (λ q n. readings-sound c m w (all-kinds h) q n)
+      (λ q n. readings-complete c m w (all-kinds h) q n)
       (kept-all t ends may (readings c m w) (readings-ordered c m w (all-kinds h)))
 
   -- what the code keeps
@@ -46,7 +48,8 @@ module _ (h : Hand) (dealer wind : ℕ) where
   unfolding keptOf
   tried-kept =
       tried-all (worth h dealer wind) (concealedTally h) (h .held .m) (h .fields .winning)
-      ∙ ap (λ (l : List Reading). length (upTo (withYakuman (worth h dealer wind)) l)) (only-readings h _ (readings-all (concealedTally h) (h .held .m) (h .fields .winning) (all-kinds h)))
+      ∙ ap (λ (l : List Reading). length (upTo (withYakuman (worth h dealer wind)) l))
+      (only-readings h _ (readings-all (concealedTally h) (h .held .m) (h .fields .winning) (all-kinds h)))
 
   -- the three answers
   pub answers : {A : Type 0} → (handScoreOf h dealer wind ≡ refusedWith 6 → A) → (handScoreOf h dealer wind ≡ refusedWith 7 → A)

@@ -102,18 +102,21 @@ zeros-none (suc (suc (suc (suc i)))) = omega arith
 module _ (P : List ℤ → Type 0) (h : Hand) (dealer wind : ℕ) (none : P (replicate 4 (pos 0))) (paid : (a : ℕ) → a ≤ 8000 → P (changes (seatsOf h dealer) (isRon (h .fields)) a)) where
   of-changes : P (handScoreOf h dealer wind .changes)
   of-changes =
-      let to : (x : Scored) → handScoreOf h dealer wind ≡ x → P (x .changes) → P (handScoreOf h dealer wind .changes) = λ x e p. subst (λ (y : Scored). P (y .changes)) (sym e) p in
+      let to : (x : Scored) → handScoreOf h dealer wind ≡ x → P (x .changes) → P (handScoreOf h dealer wind .changes) =
+      λ x e p. subst (λ (y : Scored). P (y .changes)) (sym e) p in
       answers h dealer wind (λ e. to (refusedWith 6) e none) (λ e. to (refusedWith 7) e none)
       (λ e. to _ e (paid _ (kept-le h dealer wind)))
 
 module _ (h : Hand) (dealer wind : ℕ) where
   pub changes-within : (i : ℕ) → Within (change h dealer wind i) 48000
-  changes-within i = of-changes (λ l. Within (getD l i (pos 0)) 48000) h dealer wind (zeros-within i) (λ a l. all-within (seatsOf h dealer) (isRon (h .fields)) a l i)
+  changes-within i =
+      of-changes (λ l. Within (getD l i (pos 0)) 48000) h dealer wind (zeros-within i) (λ a l. all-within (seatsOf h dealer) (isRon (h .fields)) a l i)
 
 -- ---- of a scored record
 
 module _ (P : List ℤ → Type 0) (s : List ℕ) (dealer wind : ℕ) (none : P (replicate 4 (pos 0)))
-    (paid : refusalIn (readOf s .answer) ≡ 0 → (a : ℕ) → a ≤ 8000 → P (changes (seatsOf (handOf (readOf s)) dealer) (isRon (handOf (readOf s) .fields)) a)) where
+    (paid : refusalIn (readOf s .answer) ≡ 0 → (a : ℕ) → a ≤ 8000
+    → P (changes (seatsOf (handOf (readOf s)) dealer) (isRon (handOf (readOf s) .fields)) a)) where
   of-found : P (foundOf s dealer wind .changes)
   unfolding foundOf foundBy
   of-found = go (ltb 3 dealer || ltb 1 wind) (readOf s .answer) refl

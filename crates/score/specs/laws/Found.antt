@@ -63,7 +63,8 @@ module _ (h : Hand) (dealer wind : ℕ) where
     unfolding handScoreOf
     hand-score-by = ap (λ (x : Best). handScoreBy x (seatsOf h dealer) (isRon (h .fields))) e
 
-    pub hand-score-accepted : 0 < b .tried → b .valued ≡ true → acceptedAs (b .value) (seatsOf h dealer) (isRon (h .fields)) (b .tried) ≡ handScoreOf h dealer wind
+    pub hand-score-accepted : 0 < b .tried → b .valued ≡ true → acceptedAs (b .value) (seatsOf h dealer) (isRon (h .fields)) (b .tried)
+        ≡ handScoreOf h dealer wind
     unfolding handScoreBy
     hand-score-accepted s v = rw (lt-ltb 0 (b .tried) s, v) at hand-score-by
 
@@ -90,7 +91,8 @@ module _ (s : List ℕ) (dealer wind : ℕ) (r : HandRead) (q : ltb 3 dealer || 
   unfolding foundBy
   found-refused n w x told why ex = ex ∙ ap refusedWith (why ∙ ap refusalIn told) ∙ by-answer (Refused n) told
 
-  pub found-sound : (f : Fields) (x : Scored) → r .answer ≡ Sound f → x ≡ handScoreOf (record { fields = f; held = r .held }) dealer wind → x ≡ foundOf s dealer wind
+  pub found-sound : (f : Fields) (x : Scored) → r .answer ≡ Sound f → x ≡ handScoreOf (record { fields = f; held = r .held }) dealer wind
+      → x ≡ foundOf s dealer wind
   unfolding foundBy
   found-sound f x told ex = ex ∙ ap (λ (y : Hand). handScoreOf y dealer wind) (hand-is s r e f told) ∙ by-answer (Sound f) told
 

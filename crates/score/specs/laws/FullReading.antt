@@ -58,10 +58,21 @@ module _ (m : ℕ) (codes melds : List ℕ) (few : m ≤ 4) (size : length codes
   at-group i h = rw (List·getD-append codes (replicate m 68) 0 i h, List·getD-append codes after 0 i h, no-filler 0 codes order i h)
 
   -- and where it has none
-  at-meld : (j : ℕ) → j < m → cond (eqb (getD own (length codes + j) 0) 68) (getD places (length codes + j) 0) (getD own (length codes + j) 0) ≡ getD (codes ++ after) (length codes + j) 0
+  at-meld : (j : ℕ) → j < m → cond (eqb (getD own (length codes + j) 0) 68) (getD places (length codes + j) 0) (getD own (length codes + j) 0)
+      ≡ getD (codes ++ after) (length codes + j) 0
   at-meld j h =
       let f : 4 - m + j - (4 - m) ≡ j = omega arith in
-      rw (getD-append-add codes (replicate m 68) j 0, getD-append-add codes after j 0, getD-replicate {A = ℕ} m j 68 0 h, getD-tabulate 0 4 (λ i. cond (ltb i (4 - m)) 68 (meldCode (getD melds (i - (4 - m)) 0))) (length codes + j) (omega (arith, size, few, h)), size, le-ltb (4 - m + j) (4 - m) (omega arith), f)
+      rw (
+        getD-append-add codes (replicate m 68) j 0,
+        getD-append-add codes after j 0,
+        getD-replicate {A = ℕ} m j 68 0 h,
+        getD-tabulate 0 4
+            (λ i. cond (ltb i (4 - m)) 68 (meldCode (getD melds (i - (4 - m)) 0))) (length codes + j) (omega (arith, size, few, h)),
+        size,
+        le-ltb (4 - m + j)
+            (4 - m) (omega arith),
+        f,
+      )
       (sym (List·getD-map meldCode (take m melds) j 0 ∙ ap meldCode (getD-take m melds j 0 h)))
 
   at-place : (i : ℕ) → i < 4 → cond (eqb (getD own i 0) 68) (getD places i 0) (getD own i 0) ≡ getD (codes ++ after) i 0
@@ -172,7 +183,8 @@ module _ (h : Hand) (few : h .held .m ≤ 4) (four : length (h .held .melds) ≡
   -- and so is what the reading is worth
   pub worth-in : (dealer wind : ℕ) (r : Reading) → IsReadingOf h r → worthIn (handCommonOf h dealer wind) r ≡ worth h dealer wind r
   unfolding worthIn worth handCommonOf
-  worth-in dealer wind r i = ap (λ (p : FullReading). valueOf (wonOf h dealer wind) p (doraOf (h .fields .indicator)) (seatsOf h dealer)) (full-reading-in dealer wind r i)
+  worth-in dealer wind r i =
+      ap (λ (p : FullReading). valueOf (wonOf h dealer wind) p (doraOf (h .fields .indicator)) (seatsOf h dealer)) (full-reading-in dealer wind r i)
 
   -- so that the search keeps the same
   module _ (dealer wind : ℕ) (t : HandCommon) (c : List ℕ) (b : Best)

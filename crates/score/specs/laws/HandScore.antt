@@ -32,4 +32,5 @@ module _ (s : List ℕ) (dealer wind : ℕ) where
     pub scored : IsSound s → Named (handOf (readOf s)) dealer wind (scoreOf s dealer wind)
     scored i =
         let e = sound s .0 i in
-        subst (λ (x : Scored). Named (handOf (readOf s)) dealer wind x) (sym (score-read e)) (hand-score (handOf (readOf s)) dealer wind (read-paid s dealer d e))
+        subst (λ (x : Scored). Named (handOf (readOf s)) dealer wind x) (sym (score-read e))
+        (hand-score (handOf (readOf s)) dealer wind (read-paid s dealer d e))

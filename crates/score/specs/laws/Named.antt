@@ -16,7 +16,8 @@ use Rattle.score_best.specs.Best.{figures}
 use Rattle.score_best.specs.laws.First.{Kept, never}
 use Rattle.score_best.specs.laws.Over.{over-same}
 use Rattle.score.specs.declared.Scored.{Scored}
-use Rattle.score.specs.Named.{worth, seatsOf, IsReadingOf, refusedWith, acceptedAs, ReadsWithYaku, IsReported, gainIn, triedIn, scoredAs, Named, reported, six, seven}
+use Rattle.score.specs.Named.{worth, seatsOf, IsReadingOf, refusedWith, acceptedAs, ReadsWithYaku, IsReported, gainIn, triedIn, scoredAs, Named}
+use Rattle.score.specs.Named.{reported, six, seven}
 use Rattle.score.specs.search.HandScore.{handScoreBy, keptOf, handScoreOf}
 use Rattle.score.specs.laws.Best.{over-readings, over-kept, tried-kept}
 use Rattle.score.specs.laws.Paid.{Paid, may-end}
@@ -35,7 +36,8 @@ module _ (h : Hand) (dealer wind : ℕ) where
     named-by : Named h dealer wind answerBy
     named-by = go (ltb 0 (b .tried)) (b .valued) refl refl
       where
-        go : (s v : Bool) → ltb 0 (b .tried) ≡ s → b .valued ≡ v → Named h dealer wind (cond s (cond v (scoredAs h dealer wind (b .reading)) (refusedWith 7)) (refusedWith 6))
+        go : (s v : Bool) → ltb 0 (b .tried) ≡ s → b .valued ≡ v
+            → Named h dealer wind (cond s (cond v (scoredAs h dealer wind (b .reading)) (refusedWith 7)) (refusedWith 6))
         go false v es ev = six (k .untried (omega (arith, ltb-false 0 (b .tried) es)))
         go true false es ev =
             let y = k .tried (ltb-true 0 (b .tried) es) in
@@ -64,7 +66,8 @@ module _ (h : Hand) (dealer wind : ℕ) where
   unfolding handScoreOf
   hand-score paid =
       let k = over-kept h dealer wind (may-end h dealer wind paid) in
-      subst (λ (y : Scored). Named h dealer wind y) (sym (hand-score-by (keptOf h dealer wind) k (tried-kept h dealer wind))) (named-by (keptOf h dealer wind) k)
+      subst (λ (y : Scored). Named h dealer wind y) (sym (hand-score-by (keptOf h dealer wind) k (tried-kept h dealer wind)))
+      (named-by (keptOf h dealer wind) k)
 
   pub only-one : {x y : Scored} → Named h dealer wind x → Named h dealer wind y → x ≡ y
   only-one (reported r a) (reported q b) = ap (scoredAs h dealer wind) (over-same (worth h dealer wind) r q (a .first q (b .yaku)) (b .first r (a .yaku)))
@@ -98,7 +101,8 @@ module _ (h : Hand) (dealer wind : ℕ) where
   refused-6 (six n) = (λ e. n, λ m. refl)
   refused-6 (seven q i n) = (λ e. absurd (omega arith), λ m. absurd (m q i))
 
-  pub refused-7 : {x : Scored} → Named h dealer wind x → (x .refusal ≡ 7) ↔ (((q : Reading) × IsReadingOf h q) × ((r : Reading) → ReadsWithYaku h dealer wind r → ⊥))
+  pub refused-7 : {x : Scored} → Named h dealer wind x
+      → (x .refusal ≡ 7) ↔ (((q : Reading) × IsReadingOf h q) × ((r : Reading) → ReadsWithYaku h dealer wind r → ⊥))
   refused-7 (reported r a) = (λ e. absurd (omega arith), λ m. absurd (m .1 r (a .yaku)))
   refused-7 (six n) = (λ e. absurd (omega arith), λ m. absurd (n (m .0 .0) (m .0 .1)))
   refused-7 (seven q i n) = (λ e. ((q, i), n), λ m. refl)

@@ -93,7 +93,10 @@ abbrev pub Within : ℤ → ℕ → Type 0
 Within z h = (up z ≤ h) × (dn z ≤ h)
 
 pub within-add : (a b : ℤ) (h k : ℕ) → Within a h → Within b k → Within (a +ℤ b) (h + k)
-within-add a b h k wa wb = ⊎-elim (λ z. (omega (arith, add-law a b), omega (arith, add-law a b))) (λ z. (omega (arith, add-law a b), omega (arith, add-law a b))) (part-law (a +ℤ b))
+within-add a b h k wa wb =
+    ⊎-elim (λ z. (omega (arith, add-law a b), omega (arith, add-law a b))) (λ z. (omega (arith, add-law a b), omega (arith, add-law a b))) (part-law (a +ℤ b))
 
 pub sub-parts : (a b : ℤ) → (up (a -ℤ b) ≤ up a + dn b) × (dn (a -ℤ b) ≤ dn a + up b)
-sub-parts a b = ⊎-elim (λ z. (omega (arith, sub-law-z a b), omega (arith, sub-law-z a b))) (λ z. (omega (arith, sub-law-z a b), omega (arith, sub-law-z a b))) (part-law (a -ℤ b))
+sub-parts a b =
+    ⊎-elim (λ z. (omega (arith, sub-law-z a b), omega (arith, sub-law-z a b))) (λ z. (omega (arith, sub-law-z a b), omega (arith, sub-law-z a b)))
+    (part-law (a -ℤ b))

@@ -26,9 +26,12 @@ use Rattle.score_best.specs.laws.Top.{AtMost, equal}
 -- v beats w
 pub beats-lex : (v w : Value) → beats v w ≡ true → Lex (figures w) (figures v)
 unfolding beats
-beats-lex v w e = go (ltb (w .gain .0) (v .gain .0)) (eqb (v .gain .0) (w .gain .0)) (ltb (w .han .0) (v .han .0)) (eqb (v .han .0) (w .han .0)) (ltb (w .fu .0) (v .fu .0)) refl refl refl refl refl e
+beats-lex v w e =
+    go (ltb (w .gain .0) (v .gain .0)) (eqb (v .gain .0) (w .gain .0)) (ltb (w .han .0) (v .han .0)) (eqb (v .han .0) (w .han .0))
+    (ltb (w .fu .0) (v .fu .0)) refl refl refl refl refl e
   where
-    go : (a b c d f : Bool) → ltb (w .gain .0) (v .gain .0) ≡ a → eqb (v .gain .0) (w .gain .0) ≡ b → ltb (w .han .0) (v .han .0) ≡ c → eqb (v .han .0) (w .han .0) ≡ d → ltb (w .fu .0) (v .fu .0) ≡ f
+    go : (a b c d f : Bool) → ltb (w .gain .0) (v .gain .0) ≡ a → eqb (v .gain .0) (w .gain .0) ≡ b → ltb (w .han .0) (v .han .0) ≡ c
+        → eqb (v .han .0) (w .han .0) ≡ d → ltb (w .fu .0) (v .fu .0) ≡ f
         → a || (b && (c || (d && f))) ≡ true → Lex (figures w) (figures v)
     go true b c d f ea eb ec ed ef q = inl (ltb-true _ _ ea)
     go false false c d f ea eb ec ed ef q = absurd (false≢true q)
@@ -40,7 +43,9 @@ beats-lex v w e = go (ltb (w .gain .0) (v .gain .0)) (eqb (v .gain .0) (w .gain 
 -- v does not beat w: w is above, or they are equal
 pub not-beats-lex : (v w : Value) → beats v w ≡ false → AtMost v w
 unfolding beats
-not-beats-lex v w e = go (ltb (w .gain .0) (v .gain .0)) (eqb (v .gain .0) (w .gain .0)) (ltb (w .han .0) (v .han .0)) (eqb (v .han .0) (w .han .0)) (ltb (w .fu .0) (v .fu .0)) refl refl refl refl refl e
+not-beats-lex v w e =
+    go (ltb (w .gain .0) (v .gain .0)) (eqb (v .gain .0) (w .gain .0)) (ltb (w .han .0) (v .han .0)) (eqb (v .han .0) (w .han .0))
+    (ltb (w .fu .0) (v .fu .0)) refl refl refl refl refl e
   where
     under : (a b : ℕ) → ltb b a ≡ false → eqb a b ≡ false → a < b
     under a b p q = ⊎-elim (λ r. absurd (eqb-false a b q r)) (λ l. l) (eq-or-lt-of-le (ltb-false b a p))
@@ -48,7 +53,8 @@ not-beats-lex v w e = go (ltb (w .gain .0) (v .gain .0)) (eqb (v .gain .0) (w .g
     same : (a b : ℕ) → ltb b a ≡ false → (a < b) ⊎ (a ≡ b)
     same a b p = ⊎-elim (λ r. inr r) (λ l. inl l) (eq-or-lt-of-le (ltb-false b a p))
 
-    go : (a b c d f : Bool) → ltb (w .gain .0) (v .gain .0) ≡ a → eqb (v .gain .0) (w .gain .0) ≡ b → ltb (w .han .0) (v .han .0) ≡ c → eqb (v .han .0) (w .han .0) ≡ d → ltb (w .fu .0) (v .fu .0) ≡ f
+    go : (a b c d f : Bool) → ltb (w .gain .0) (v .gain .0) ≡ a → eqb (v .gain .0) (w .gain .0) ≡ b → ltb (w .han .0) (v .han .0) ≡ c
+        → eqb (v .han .0) (w .han .0) ≡ d → ltb (w .fu .0) (v .fu .0) ≡ f
         → a || (b && (c || (d && f))) ≡ false → AtMost v w
     go true b c d f ea eb ec ed ef q = absurd (false≢true (sym q))
     go false false c d f ea eb ec ed ef q = inl (inl (under _ _ ea eb))
@@ -73,7 +79,8 @@ pub record Kept (worth : Reading → Value) (S : Reading → Type 0) (b : Best) 
   pub tried : 0 < b .tried → (r : Reading) × S r
   pub worthless : b .valued ≡ false → (q : Reading) → S q → withYaku worth q ≡ false
   pub best : b .valued ≡ true
-      → S (b .reading) × (withYaku worth (b .reading) ≡ true) × (b .value ≡ worth (b .reading)) × ((q : Reading) → S q → withYaku worth q ≡ true → Over worth (b .reading) q)
+      → S (b .reading) × (withYaku worth (b .reading) ≡ true) × (b .value ≡ worth (b .reading))
+      × ((q : Reading) → S q → withYaku worth q ≡ true → Over worth (b .reading) q)
   -- once the search is done, no reading at all beats what is kept
   pub topped : b .done ≡ true → (b .valued ≡ true) × ((q : Reading) → AtMost (worth q) (b .value))
 
@@ -100,7 +107,8 @@ counted-some n e = go (ltb n 4294967295) refl e
 module _ (worth : Reading → Value) (ends : Reading → Bool) (may : MayEnd worth ends) where
   module _ (S : Reading → Type 0) (b : Best) (x : Reading) (k : Kept worth S b) (later : (q : Reading) → S q → Before q x) where
     -- the reading that is kept, where x does not beat it or has no yaku
-    keeps : (r : Reading) → ((q : Reading) → S q → withYaku worth q ≡ true → Over worth r q) → (withYaku worth x ≡ true → Over worth r x) → (q : Reading) → With S x q → withYaku worth q ≡ true → Over worth r q
+    keeps : (r : Reading) → ((q : Reading) → S q → withYaku worth q ≡ true → Over worth r q) → (withYaku worth x ≡ true → Over worth r x) → (q : Reading)
+        → With S x q → withYaku worth q ≡ true → Over worth r q
     keeps r o ox q m v = ⊎-elim (λ s. o q s v) (λ e. rw e (ox (rw e at v))) m
 
     -- it stays before the later x, which does not beat it
@@ -113,7 +121,8 @@ module _ (worth : Reading → Value) (ends : Reading → Bool) (may : MayEnd wor
       untried = λ z. absurd (counted-some (b .tried) z);
       tried = λ _. (x, inr refl);
       worthless = λ z. absurd (false≢true (sym z));
-      best = λ _. (inr refl, vx, refl, λ q m v. ⊎-elim (λ s. over q s v (b .valued) refl) (λ z. inr (ap (λ (y : Reading). figures (worth y)) z, inl (sym z))) m);
+      best =
+          λ _. (inr refl, vx, refl, λ q m v. ⊎-elim (λ s. over q s v (b .valued) refl) (λ z. inr (ap (λ (y : Reading). figures (worth y)) z, inl (sym z))) m);
       topped = λ z. (refl, λ q. may .top x q z);
     }
       where
@@ -121,7 +130,9 @@ module _ (worth : Reading → Value) (ends : Reading → Bool) (may : MayEnd wor
         above r e1 e2 = beats-lex (worth x) (worth r) (rw e1 at e2)
 
         beyond : (q r : Reading) → Over worth r q → Lex (figures (worth r)) (figures (worth x)) → Over worth x q
-        beyond q r o l = ⊎-elim (λ h. inl (lex-trans (figures (worth q)) (figures (worth r)) (figures (worth x)) h l)) (λ h. inl (subst (λ (z : List ℕ). Lex z (figures (worth x))) (sym (h .0)) l)) o
+        beyond q r o l =
+            ⊎-elim (λ h. inl (lex-trans (figures (worth q)) (figures (worth r)) (figures (worth x)) h l))
+            (λ h. inl (subst (λ (z : List ℕ). Lex z (figures (worth x))) (sym (h .0)) l)) o
 
         over : (q : Reading) → S q → withYaku worth q ≡ true → (c : Bool) → b .valued ≡ c → Over worth x q
         over q s v false z = absurd (false≢true (sym (k .worthless z q s) ∙ v))
@@ -171,7 +182,8 @@ module _ (worth : Reading → Value) (ends : Reading → Bool) (may : MayEnd wor
         go false true true true ed ev ew ez = taken ev (rw (ew, ez) refl)
         go false true true false ed ev ew ez = passed (λ _. (ew, not-beats-lex (worth x) (b .value) ez))
 
-pub kept-same : (worth : Reading → Value) (S T : Reading → Type 0) (b : Best) → ((q : Reading) → S q → T q) → ((q : Reading) → T q → S q) → Kept worth S b → Kept worth T b
+pub kept-same : (worth : Reading → Value) (S T : Reading → Type 0) (b : Best) → ((q : Reading) → S q → T q) → ((q : Reading) → T q → S q) → Kept worth S b
+    → Kept worth T b
 kept-same worth S T b to from k = record {
   untried = λ z q s. k .untried z q (from q s);
   tried = λ z. let y = k .tried z in (y .0, to (y .0) (y .1));
@@ -219,8 +231,10 @@ keep-better-same f g b r e =
     cond (b .done) b (cond (hasYaku (v .yaku) && (not (b .valued) || beats v (b .value))) (taking at (withYakuman at) b r) (passing at (withYakuman at) b r))) e
 
 -- where they agree on each reading of a list, the same is kept
-pub folded-same : (f g : Reading → Value) (b : Best) (rs : List Reading) → ((q : Reading) → Member q rs → f q ≡ g q) → folded (keepBetter f) b rs ≡ folded (keepBetter g) b rs
+pub folded-same : (f g : Reading → Value) (b : Best) (rs : List Reading) → ((q : Reading) → Member q rs → f q ≡ g q)
+    → folded (keepBetter f) b rs ≡ folded (keepBetter g) b rs
 unfolding folded
 folded-same f g b [] h = refl
 folded-same f g b (r ∷ rs) h =
-    ap (λ (x : Best). folded (keepBetter f) x rs) (keep-better-same f g b r (h r (List·Memᴰ·head refl))) ∙ folded-same f g (keepBetter g b r) rs (λ q m. h q (List·Memᴰ·tail m))
+    ap (λ (x : Best). folded (keepBetter f) x rs) (keep-better-same f g b r (h r (List·Memᴰ·head refl)))
+    ∙ folded-same f g (keepBetter g b r) rs (λ q m. h q (List·Memᴰ·tail m))

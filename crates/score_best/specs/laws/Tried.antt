@@ -40,7 +40,8 @@ module _ (worth : Reading → Value) (ends : Reading → Bool) where
       go true = (refl, refl)
       go false = (refl, refl)
 
-  tried-from : (rs : List Reading) (b : Best) → b .done ≡ false → b .tried + length rs ≤ 4294967295 → folded (keepBetterBy worth ends) b rs .tried ≡ b .tried + length (upTo ends rs)
+  tried-from : (rs : List Reading) (b : Best) → b .done ≡ false → b .tried + length rs ≤ 4294967295
+      → folded (keepBetterBy worth ends) b rs .tried ≡ b .tried + length (upTo ends rs)
   unfolding folded upTo
   tried-from [] b e l = omega arith
   tried-from (r ∷ rs) b e l = go (ends r) refl (λ f. tried-from rs (keepBetterBy worth ends b r) (next b r e .0 ∙ f) (omega (arith, n)))
@@ -49,7 +50,8 @@ module _ (worth : Reading → Value) (ends : Reading → Bool) where
       n = next b r e .1 ∙ counts-one (b .tried) (omega arith)
 
       go : (c : Bool) → ends r ≡ c
-          → (ends r ≡ false → folded (keepBetterBy worth ends) (keepBetterBy worth ends b r) rs .tried ≡ keepBetterBy worth ends b r .tried + length (upTo ends rs))
+          → (ends r ≡ false → folded (keepBetterBy worth ends) (keepBetterBy worth ends b r) rs .tried
+          ≡ keepBetterBy worth ends b r .tried + length (upTo ends rs))
           → folded (keepBetterBy worth ends) (keepBetterBy worth ends b r) rs .tried ≡ b .tried + length (r ∷ cond c [] (upTo ends rs))
       go true f i =
           let s = folded-still (keepBetterBy worth ends) (keepBetterBy worth ends b r) (done-still (keepBetterBy worth ends b r) (next b r e .0 ∙ f)) rs in
@@ -57,7 +59,8 @@ module _ (worth : Reading → Value) (ends : Reading → Bool) where
       go false f i = omega (arith, i f, n)
 
 -- "how many readings it tried"
-pub tried-all : (worth : Reading → Value) (tally : List ℕ) (m win : ℕ) → bestOf worth tally m win .tried ≡ length (upTo (withYakuman worth) (readings tally m win))
+pub tried-all : (worth : Reading → Value) (tally : List ℕ) (m win : ℕ)
+    → bestOf worth tally m win .tried ≡ length (upTo (withYakuman worth) (readings tally m win))
 unfolding bestOf noneOf
 tried-all worth tally m win =
     let e = tried-from worth (withYakuman worth) (readings tally m win) noneOf refl (omega (arith, readings-few tally m win)) in

@@ -24,7 +24,8 @@ beats v w =
 
 -- before any reading: nothing is worth anything
 abbrev pub nothing : Value
-nothing = record { yaku = replicate 37 false; han = record { 0 = 0 }; items = baseAlone 0; fu = record { 0 = 0 }; basic = record { 0 = 0 }; gain = record { 0 = 0 } }
+nothing =
+    record { yaku = replicate 37 false; han = record { 0 = 0 }; items = baseAlone 0; fu = record { 0 = 0 }; basic = record { 0 = 0 }; gain = record { 0 = 0 } }
 
 -- what is kept at first
 unfoldable pub noneOf : Best

@@ -7,7 +7,8 @@ use Prim.Native.Nat.{ℕ, _-_, _<_}
 use native.Mathlib.Omega.{arith}
 use lib.ListN.{length}
 use Rattle.reading.specs.laws.Found.{Stored, stored-none, stored-same, stored-at, Left, left-all, left-same, left-put, left-done, left-room}
-use Rattle.reading.specs.laws.Found.{behind, behind-leaf, behind-over, behind-end, behind-step, behind-next, behind-stop, behind-skip, taken, taken-with, taken-none}
+use Rattle.reading.specs.laws.Found.{behind, behind-leaf, behind-over, behind-end, behind-step, behind-next, behind-stop, behind-skip, taken, taken-with}
+use Rattle.reading.specs.laws.Found.{taken-none}
 use borrow.Fn.Kinds.{In}
 use borrow.Fn.PlainCycle.{Measures, is, falls, and}
 use Rattle.score_search.proofs.split.Reads as split
@@ -71,7 +72,8 @@ module _ (t : ℕ) (c : split-lts.Joined3 (claims t) (split-at t) split.Post Inv
   abbrev start : split-lts.Start (claims t) (split-at t) split.Post Inv-loop μ-loop
   start = in-loop .before .before .before .before
 
-  stored : let a = start .args in Stored (in-loop .loop .out) (in-loop .loop .found) (taken (a .size) (a .prefix) (a .left) (in-loop .loop .c) (a .t1)) (c .if3 .out) (c .if3 .found)
+  stored : let a = start .args in Stored (in-loop .loop .out) (in-loop .loop .found) (taken (a .size) (a .prefix) (a .left) (in-loop .loop .c) (a .t1))
+      (c .if3 .out) (c .if3 .found)
   stored =
       ⊎-elim
       (λ w.
@@ -108,7 +110,8 @@ pub +split-spec : {M : Type 1} → statement M
     let s = l .before .before .before in
     let a = s .before .args in
     let p = s .before .pre .1 in
-    let e = taken-with (a .size) (a .prefix) (a .left) (l .loop .c) (a .t1) _ (sym (on .fits2 .ensures) ∙ c .before .before .if3 .taken) (c .before .without .ensures) in
+    let e = taken-with (a .size) (a .prefix) (a .left) (l .loop .c) (a .t1) _ (sym (on .fits2 .ensures) ∙ c .before .before .if3 .taken)
+    (c .before .without .ensures) in
     let r = behind-step (a .size) (a .prefix) (a .left) (l .loop .c) (a .t1) (s .if1 .left) (p .0) (omega arith) in
     (omega arith, (omega arith, p .1, left-room _ e r (l .loop .inv) (p .2))))
     (λ c κs. omega arith)
@@ -117,7 +120,8 @@ pub +split-spec : {M : Type 1} → statement M
     let l = j .before .before .before in
     let s = l .before .before .before in
     left-done refl
-    (left-put (behind-stop _ _ _ _ _ (s .if1 .left) (s .before .pre .1 .0) (omega (arith, j .before .before .loop-test .taken)) (sym (c .before .passes .ensures) ∙ not-true _ (c .if4 .taken)))
+    (left-put (behind-stop _ _ _ _ _ (s .if1 .left) (s .before .pre .1 .0) (omega (arith, j .before .before .loop-test .taken))
+    (sym (c .before .passes .ensures) ∙ not-true _ (c .if4 .taken)))
     (l .loop .inv) (stored t j)))
     (λ c. omega arith)
     (λ c κs. tt)
@@ -128,6 +132,7 @@ pub +split-spec : {M : Type 1} → statement M
     let l = j .before .before .before in
     let s = l .before .before .before in
     left-same (behind-skip _ _ _ _ (s .if1 .left) (s .before .pre .1 .0) _ _ (c .next-code2 .ensures))
-    (left-put (behind-next _ _ _ _ _ (s .if1 .left) (s .before .pre .1 .0) (omega (arith, j .before .before .loop-test .taken)) (sym (q .before .passes .ensures) ∙ not-false _ (q .if4 .left)))
+    (left-put (behind-next _ _ _ _ _ (s .if1 .left) (s .before .pre .1 .0) (omega (arith, j .before .before .loop-test .taken))
+    (sym (q .before .passes .ensures) ∙ not-false _ (q .if4 .left)))
     (l .loop .inv) (stored t j)))
     (λ c. left-done (behind-end _ _ _ _ _ (c .before .before .before .before .if1 .left) (c .loop-test .left)) (c .before .loop .inv))

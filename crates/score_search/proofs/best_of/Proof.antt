@@ -9,7 +9,8 @@ use lib.ListN.{length}
 use borrow.Author.Needs.{needs}
 use Rattle.reading.specs.search.Pairs.{Among}
 use Rattle.reading.specs.search.Readings.{paired}
-use Rattle.reading.specs.laws.Fold.{folded-still, ranged, ranged-turn, ranged-done, ranged-still, ranged-skip, paired-with, paired-none, paired-out, readings-with}
+use Rattle.reading.specs.laws.Fold.{folded-still, ranged, ranged-turn, ranged-done, ranged-still, ranged-skip, paired-with, paired-none, paired-out}
+use Rattle.reading.specs.laws.Fold.{readings-with}
 use Rattle.reading.specs.laws.Found.{behind, behind-three}
 use Rattle.reading.specs.laws.Groups.{less-long}
 use Rattle.score_best.specs.declared.Best.{Best}
@@ -109,7 +110,8 @@ best-of-spec =
       skipped (l .before) (l .loop .k + 1) (l .loop .k + 3) _ (omega arith) (λ k u v a. omega (arith, l .loop .inv .2))
           ∙ ranged-turn (keepBetter _) _ _ _ _ _ (omega arith)
           (⊎-elim
-          (λ w. w .6 ∙ paired-with (keepBetter _) _ _ _ _ _ _ _ _ _ _ (long start) (start .pre .1) (w .0 .taken) (w .1 .ensures) refl (w .3 .ensures) (w .4 .ensures))
+          (λ w. w .6 ∙ paired-with (keepBetter _) _ _ _ _ _ _ _ _ _ _ (long start) (start .pre .1) (w .0 .taken) (w .1 .ensures) refl (w .3 .ensures)
+          (w .4 .ensures))
           (λ w. w .1 ∙ paired-none (keepBetter _) _ _ _ _ _ (w .0 .left))
           (c .if2 .came))
           ∙ l .loop .inv .4,

@@ -16,7 +16,8 @@ use Rattle.score_search.proofs.each.Tie as tie
 abbrev Inv-loop : tie.InvT-loop
 Inv-loop h pair n size win out b₀ i₀ b i =
     (i ≤ n) × (b .done ≡ false)
-    × (ranged (keepBetter (worthIn h)) (λ j. placed size win pair (getD out j [])) n i b ≡ ranged (keepBetter (worthIn h)) (λ j. placed size win pair (getD out j [])) n 0 b₀)
+    × (ranged (keepBetter (worthIn h)) (λ j. placed size win pair (getD out j [])) n i b
+    ≡ ranged (keepBetter (worthIn h)) (λ j. placed size win pair (getD out j [])) n 0 b₀)
 
 abbrev μ-loop : tie.MeasureT-loop
 μ-loop h pair n size win out b₀ i₀ b i = n - i
@@ -37,6 +38,10 @@ each-spec =
     (λ c. omega arith)
     (λ c. omega arith)
     (λ c.
-    let l = c .before .before .before .before in
-    (omega arith, c .if1 .left, ranged-turn (keepBetter _) _ _ _ _ _ (c .before .before .before .loop-test .taken) (c .before .places .ensures) ∙ l .loop .inv .2))
+    let l = c .before .before .before .before in (
+      omega arith,
+      c .if1 .left,
+      ranged-turn (keepBetter _) _ _ _ _ _ (c .before .before .before .loop-test .taken) (c .before .places .ensures)
+          ∙ l .loop .inv .2,
+    ))
     (λ c. ranged-done (keepBetter _) _ _ _ _ (c .loop-test .left) ∙ c .before .loop .inv .2))

@@ -15,7 +15,9 @@ use Rattle.score_search.proofs.places.Statement.{statement}
 use Rattle.score_search.proofs.places.Tie as tie
 
 abbrev Inv-loop : tie.InvT-loop
-Inv-loop h pair groups size win k b₀ p₀ b p = (p ≤ size + 1) × (b .done ≡ false) × (ranged (keepBetter (worthIn h)) (placedAt win pair groups) (size + 1) p b ≡ folded (keepBetter (worthIn h)) b₀ (placed size win pair groups))
+Inv-loop h pair groups size win k b₀ p₀ b p =
+    (p ≤ size + 1) × (b .done ≡ false) × (ranged (keepBetter (worthIn h)) (placedAt win pair groups) (size + 1) p b
+    ≡ folded (keepBetter (worthIn h)) b₀ (placed size win pair groups))
 
 abbrev μ-loop : tie.MeasureT-loop
 μ-loop h pair groups size win k b₀ p₀ b p = size + 1 - p
@@ -34,7 +36,8 @@ places-spec =
     (λ c.
     let on = c .before .before .before in
     ranged-still (keepBetter _) _ _ _ _ (done-still _ _ _ (c .if2 .taken))
-    ∙ ranged-turn (keepBetter _) _ _ _ _ _ (omega arith) (folded-with (keepBetter _) _ _ _ _ (sym (on .holds .ensures) ∙ c .before .before .if1 .taken) (c .before .keep-better-at .ensures))
+    ∙ ranged-turn (keepBetter _) _ _ _ _ _ (omega arith)
+    (folded-with (keepBetter _) _ _ _ _ (sym (on .holds .ensures) ∙ c .before .before .if1 .taken) (c .before .keep-better-at .ensures))
     ∙ on .before .before .loop .inv .2)
     (λ c. omega arith)
     (λ c. omega arith)

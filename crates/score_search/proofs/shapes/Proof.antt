@@ -17,10 +17,12 @@ use Rattle.score_best.specs.laws.Tried.{done-still}
 use Rattle.score_search.proofs.shapes.Statement.{statement}
 use Rattle.score_search.proofs.shapes.Tie as tie
 
-paired : (c : tie.Joined2) → c .if2 .b ≡ folded (keepBetter (worthIn (c .before .before .before .args .h))) (c .before .before .before .args .best) (when (isSevenPairs (c .before .before .before .args .t)) (λ _. ofShape 1 ∷ []))
+paired : (c : tie.Joined2) → c .if2 .b ≡ folded (keepBetter (worthIn (c .before .before .before .args .h))) (c .before .before .before .args .best)
+    (when (isSevenPairs (c .before .before .before .args .t)) (λ _. ofShape 1 ∷ []))
 paired c =
     ⊎-elim
-    (λ w. w .4 ∙ folded-with (keepBetter _) _ _ _ _ (sym (c .before .is-seven-pairs .ensures) ∙ w .0 .taken) (w .2 .ensures ∙ ap (keepBetter _ _) (w .1 .ensures)))
+    (λ w. w .4 ∙ folded-with (keepBetter _) _ _ _ _ (sym (c .before .is-seven-pairs .ensures) ∙ w .0 .taken)
+    (w .2 .ensures ∙ ap (keepBetter _ _) (w .1 .ensures)))
     (λ w. w .1 ∙ folded-none (keepBetter _) _ _ _ (sym (c .before .is-seven-pairs .ensures) ∙ w .0 .left))
     (c .if2 .came)
 
@@ -39,13 +41,15 @@ shapes-spec =
     (λ c.
     let on = c .before .before .before .before in
     shaped-with (keepBetter _) _ _ _ _ _ (on .before .if1 .left)
-    (folded-with (keepBetter _) _ _ _ _ (sym (on .is-seven-pairs .ensures) ∙ c .before .before .before .if2 .taken) (c .before .keep-better .ensures ∙ ap (keepBetter _ _) (c .before .before .of-shape .ensures)))
+    (folded-with (keepBetter _) _ _ _ _ (sym (on .is-seven-pairs .ensures) ∙ c .before .before .before .if2 .taken)
+    (c .before .keep-better .ensures ∙ ap (keepBetter _ _) (c .before .before .of-shape .ensures)))
     (folded-still (keepBetter _) _ (done-still _ _ _ (c .if3 .taken)) _))
     (λ c κs. search needs) (λ c κs. search needs)
     (λ c κs. let on = c .before .before .before in (on .before .before .before .pre .0, place-zero (c .of-shape2 .result) 2 (c .of-shape2 .ensures), going on))
     (λ c.
     shaped-with (keepBetter _) _ _ _ _ _ (c .before .before .before .before .before .before .if1 .left) (paired (c .before .before .before .before))
-    (folded-with (keepBetter _) _ _ _ _ (sym (c .before .before .before .is-orphans .ensures) ∙ c .before .before .if4 .taken) (c .keep-better2 .ensures ∙ ap (keepBetter _ _) (c .before .of-shape2 .ensures))))
+    (folded-with (keepBetter _) _ _ _ _ (sym (c .before .before .before .is-orphans .ensures) ∙ c .before .before .if4 .taken)
+    (c .keep-better2 .ensures ∙ ap (keepBetter _ _) (c .before .of-shape2 .ensures))))
     (λ c.
     shaped-with (keepBetter _) _ _ _ _ _ (c .before .before .before .before .if1 .left) (paired (c .before .before))
     (folded-none (keepBetter _) _ _ _ (sym (c .before .is-orphans .ensures) ∙ c .if4 .left))))

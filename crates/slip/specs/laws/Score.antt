@@ -59,7 +59,8 @@ module _ (h : Hand) (dealer wind : ℕ) where
   unfolding worth
   plain-fu r e =
       let w = wonOf h dealer wind in
-      rw (fu-rounded w (fullReadingOf h r) (doraOf (h .fields .indicator)) (seatsOf h dealer), e) (some-fu w (fullReadingOf h r) (eqb (fullReadingOf h r .shape) 1))
+      rw (fu-rounded w (fullReadingOf h r) (doraOf (h .fields .indicator)) (seatsOf h dealer), e)
+      (some-fu w (fullReadingOf h r) (eqb (fullReadingOf h r .shape) 1))
 
   worth-yakuman : (r : Reading) → worth h dealer wind r .fu .0 ≡ 0 → isYakuman (worth h dealer wind r .yaku) ≡ true
   unfolding worth valueOf

@@ -21,5 +21,8 @@ put-groups-spec =
     (λ c.
     let put-item3 = c .before .before .before .before .before .before .before in
     let put-item2 = put-item3 .before .before .before .before .before in
-    let put-item = put-item2 .before .before .before .before .before in
-    (put-then (put-item .put-item .ensures .0) (put-then (put-item2 .put-item2 .ensures .0) (put-then (put-item3 .put-item3 .ensures .0) (c .before .before .put-item4 .ensures .0))), omega arith)))
+    let put-item = put-item2 .before .before .before .before .before in (
+      put-then (put-item .put-item .ensures .0)
+          (put-then (put-item2 .put-item2 .ensures .0) (put-then (put-item3 .put-item3 .ensures .0) (c .before .before .put-item4 .ensures .0))),
+      omega arith,
+    )))

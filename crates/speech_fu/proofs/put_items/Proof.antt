@@ -17,10 +17,21 @@ put-items-spec =
     let put-groups = c .before .before .before in
     let put-first = put-groups .before .before .before .before in
     let pre = put-first .before .before .before .before in
-    omega (arith, put-groups .put-groups .ensures .1, put-groups .put-groups .kept .0, put-first .put-first .ensures .1, put-first .put-first .kept .0, pre .pre))
+    omega (
+      arith,
+      put-groups .put-groups .ensures .1,
+      put-groups .put-groups .kept .0,
+      put-first .put-first .ensures .1,
+      put-first .put-first .kept .0,
+      pre .pre,
+    ))
     (λ c. search needs)
     (λ c.
     let put-groups = c .before .before .before .before .before .before in
     let put-first = put-groups .before .before .before .before in
-    let start = put-first .before .before .before .before in
-    (put-as (items-of (start .args .language) (start .args .x)) (put-then (put-first .put-first .ensures .0) (put-then (put-groups .put-groups .ensures .0) (c .before .before .put-last .ensures .0))), omega (arith, put-first .put-first .ensures .1, put-groups .put-groups .ensures .1, c .before .before .put-last .ensures .1))))
+    let start = put-first .before .before .before .before in (
+      put-as (items-of (start .args .language) (start .args .x))
+          (put-then (put-first .put-first .ensures .0) (put-then (put-groups .put-groups .ensures .0) (c .before .before .put-last .ensures .0))),
+      omega
+          (arith, put-first .put-first .ensures .1, put-groups .put-groups .ensures .1, c .before .before .put-last .ensures .1),
+    )))

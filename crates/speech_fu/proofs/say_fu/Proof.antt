@@ -15,7 +15,8 @@ returns c =
     let start = c .before .before .before .before .before in
     let s = start .args in
     let a = scoreOf (s .s .now) (s .dealer) (s .wind) in
-    unknown-by (s .language) (a .refusal) (fuMessage (s .language) a) (s .buf .now) (c .before .before .is-known .ensures) (c .before .if1 .taken) (c .refused .ensures)
+    unknown-by (s .language) (a .refusal) (fuMessage (s .language) a) (s .buf .now) (c .before .before .is-known .ensures) (c .before .if1 .taken)
+    (c .refused .ensures)
 
 returns-2 : tie.Need-returns-2
 returns-2 c =

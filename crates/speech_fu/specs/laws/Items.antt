@@ -8,7 +8,8 @@ use Rattle.speech_told.specs.Messages.{groupAt, itemsClips}
 
 pub items-of : (l : ℕ) (x : Items)
     → (countedClips l 84 (x .base .0) ++ (countedClips l 85 (x .ron .0) ++ countedClips l 86 (x .pair .0)))
-    ++ ((countedClips l 87 (groupAt (x .group) 0) ++ (countedClips l 88 (groupAt (x .group) 1) ++ (countedClips l 89 (groupAt (x .group) 2) ++ countedClips l 90 (groupAt (x .group) 3))))
+    ++ ((countedClips l 87 (groupAt (x .group) 0) ++
+    (countedClips l 88 (groupAt (x .group) 1) ++ (countedClips l 89 (groupAt (x .group) 2) ++ countedClips l 90 (groupAt (x .group) 3))))
     ++ (countedClips l 91 (x .wait .0) ++ (countedClips l 92 (x .tsumo .0) ++ countedClips l 93 (x .rounding .0))))
     ≡ itemsClips l x
 unfolding itemsClips

@@ -11,7 +11,8 @@ returns c =
     let scaled-three3 = c .before .before .before .before .before .before in
     let scaled-three2 = scaled-three3 .before .before .before .before in
     let scaled-three = scaled-three2 .before .before .before .before in
-    put-then (scaled-three .scaled-three .ensures .0) (put-then (scaled-three2 .scaled-three2 .ensures .0) (put-then (scaled-three3 .scaled-three3 .ensures .0) (c .before .before .three .ensures .0)))
+    put-then (scaled-three .scaled-three .ensures .0)
+    (put-then (scaled-three2 .scaled-three2 .ensures .0) (put-then (scaled-three3 .scaled-three3 .ensures .0) (c .before .before .three .ensures .0)))
 
 pub english-spec : {M : Type 1} → statement M
 english-spec =

@@ -11,8 +11,11 @@ unfolding fourOf
 returns c =
     let tens = c .before .before .before .before .before .before in
     let hundreds = tens .before .before .before .before in
-    let thousands = hundreds .before .before .before .before in
-    (put-then (thousands .thousands .ensures .0) (put-then (hundreds .hundreds .ensures .0) (put-then (tens .tens .ensures .0) (c .before .before .ones .ensures .0))), omega arith)
+    let thousands = hundreds .before .before .before .before in (
+      put-then (thousands .thousands .ensures .0)
+          (put-then (hundreds .hundreds .ensures .0) (put-then (tens .tens .ensures .0) (c .before .before .ones .ensures .0))),
+      omega arith,
+    )
 
 pub four-spec : {M : Type 1} → statement M
 four-spec =

@@ -8,7 +8,8 @@ use Rattle.speech_numerals.proofs.number.Tie as tie
 returns : tie.Need-returns
 returns c =
     let s = c .before .before in
-    put-numeral (s .args .language) (s .args .n) (numeral-zero (s .args .language) (s .args .n) (c .if1 .taken)) (s .fits .n .fits) (put-after 0 (put-none (s .args .buf .now) (s .args .at)))
+    put-numeral (s .args .language) (s .args .n) (numeral-zero (s .args .language) (s .args .n) (c .if1 .taken)) (s .fits .n .fits)
+    (put-after 0 (put-none (s .args .buf .now) (s .args .at)))
 
 returns-2 : tie.Need-returns-2
 returns-2 c =
@@ -16,7 +17,8 @@ returns-2 c =
     let if1 = if2 .before in
     let before = if1 .before in
     let s = before .before in
-    put-numeral (s .args .language) (s .args .n) (numeral-english (s .args .language) (s .args .n) (if1 .if1 .left) (if2 .if2 .taken)) (s .fits .n .fits) (c .before .before .english .ensures)
+    put-numeral (s .args .language) (s .args .n) (numeral-english (s .args .language) (s .args .n) (if1 .if1 .left) (if2 .if2 .taken)) (s .fits .n .fits)
+    (c .before .before .english .ensures)
 
 returns-3 : tie.Need-returns-3
 returns-3 c =
@@ -24,7 +26,8 @@ returns-3 c =
     let if1 = if2 .before in
     let before = if1 .before in
     let s = before .before in
-    put-numeral (s .args .language) (s .args .n) (numeral-eastern (s .args .language) (s .args .n) (if1 .if1 .left) (if2 .if2 .left)) (s .fits .n .fits) (c .before .before .eastern .ensures)
+    put-numeral (s .args .language) (s .args .n) (numeral-eastern (s .args .language) (s .args .n) (if1 .if1 .left) (if2 .if2 .left)) (s .fits .n .fits)
+    (c .before .before .eastern .ensures)
 
 pub number-spec : {M : Type 1} → statement M
 number-spec =

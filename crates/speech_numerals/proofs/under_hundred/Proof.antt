@@ -9,7 +9,11 @@ use Rattle.speech_numerals.proofs.under_hundred.Tie as tie
 
 returns : tie.Need-returns
 unfolding underHundred
-returns c = (rw (c .if1 .taken) (put-after (31 + c .before .before .args .t) (put-none (c .before .before .args .buf .now) (c .before .before .args .at))), omega arith)
+returns c = (
+  rw (c .if1 .taken) (put-after (31 + c .before .before .args .t)
+      (put-none (c .before .before .args .buf .now) (c .before .before .args .at))),
+  omega arith,
+)
 
 returns-2 : tie.Need-returns-2
 unfolding underHundred

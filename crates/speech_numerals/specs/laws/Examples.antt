@@ -2,7 +2,8 @@
 use mathlib.Core.Path.{_≡_, refl}
 use mathlib.Core.List.{List, [], _∷_}
 use Prim.Native.Nat.{ℕ}
-use Rattle.speech_numerals.specs.Numerals.{placeOf, underHundred, threeOf, scaledThree, englishOf, thousandsOf, hundredsOf, tensOf, onesOf, fourOf, scaledFour, easternOf, numeral}
+use Rattle.speech_numerals.specs.Numerals.{placeOf, underHundred, threeOf, scaledThree, englishOf, thousandsOf, hundredsOf, tensOf, onesOf, fourOf}
+use Rattle.speech_numerals.specs.Numerals.{scaledFour, easternOf, numeral}
 
 -- a number in the four languages
 abbrev Row : ℕ → List ℕ → List ℕ → List ℕ → List ℕ → Type 0

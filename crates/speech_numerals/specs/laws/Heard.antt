@@ -9,7 +9,8 @@ use borrow.Author.Tests.{eqb-true, eqb-false, ne-eqb}
 use lib.Dec.{ltb, eqb}
 use Rattle.tiles.specs.Below.{every}
 use Rattle.tiles.specs.laws.Below.{every-at, and-true}
-use Rattle.speech_numerals.specs.Numerals.{placeOf, underHundred, threeOf, scaledThree, englishOf, thousandsOf, hundredsOf, tensOf, onesOf, fourOf, scaledFour, easternOf, numeral}
+use Rattle.speech_numerals.specs.Numerals.{placeOf, underHundred, threeOf, scaledThree, englishOf, thousandsOf, hundredsOf, tensOf, onesOf, fourOf}
+use Rattle.speech_numerals.specs.Numerals.{scaledFour, easternOf, numeral}
 use Rattle.speech_numerals.specs.Heard.{valueOf, scaleOf, heardFrom, heard}
 
 -- ---- clips that add v to what was heard since the last scale, and clips that add v to the whole
@@ -52,7 +53,8 @@ unfolding heardFrom
 adds-clip c v h g = record {
   adds = λ w s cs.
       let e : w + max 1 s * 0 ≡ w = omega arith in
-      ap (λ (k : ℕ). heardFrom (w + max 1 s * k) (cond (eqb k 0) (s + valueOf c) 0) cs) h ∙ whole (s + valueOf c) cs e ∙ ap (λ (k : ℕ). heardFrom w (s + k) cs) g;
+      ap (λ (k : ℕ). heardFrom (w + max 1 s * k) (cond (eqb k 0) (s + valueOf c) 0) cs) h ∙ whole (s + valueOf c) cs e
+      ∙ ap (λ (k : ℕ). heardFrom w (s + k) cs) g;
 }
 
 wholes-none : Wholes [] 0
@@ -155,7 +157,8 @@ module _ (l : ℕ) (scaled : Bool) (x : ℕ) where
   adds-thousands =
       adds-place _ _ (x / 1000 % 10) (1000 * (x / 1000 % 10)) (λ z. omega arith)
       (λ z. means-or (eqb l 1 && (scaled && eqb (x % 10000) 1000)) 39 (27 + x / 1000 % 10) (1000 * (x / 1000 % 10))
-      (λ t. let e = eqb-true (x % 10000) 1000 (third (eqb l 1) scaled (eqb (x % 10000) 1000) t) in let k : 1000 * (x / 1000 % 10) ≡ 1000 = omega arith in rw k (special .0))
+      (λ t. let e = eqb-true (x % 10000) 1000 (third (eqb l 1) scaled (eqb (x % 10000) 1000) t) in let k : 1000 * (x / 1000 % 10) ≡ 1000 = omega arith in
+      rw k (special .0))
       (row-means (λ d. 27 + d) 1000 thousands-row (x / 1000 % 10) (omega arith) z))
 
   adds-hundreds : Adds (hundredsOf l x) (100 * (x % 10))

@@ -39,7 +39,8 @@ module _ (l n : ℕ) where
   unfolding numeral
   numeral-eastern z e = rw (ne-eqb n 0 z, ne-eqb l 2 e)
 
-  pub put-numeral : {old text new : List ℕ} {at r : ℕ} → text ≡ numeral l n → n < 4294967296 → Put old at text new r → Put old at (numeral l n) new r × (r ≤ at + 13)
+  pub put-numeral : {old text new : List ℕ} {at r : ℕ} → text ≡ numeral l n → n < 4294967296 → Put old at text new r
+      → Put old at (numeral l n) new r × (r ≤ at + 13)
   put-numeral {old} {text} {new} {at} {r} e h p =
       let q : Put old at (numeral l n) new r = rw e at p in
       (q, omega (arith, q .place, numeral-short l n h))

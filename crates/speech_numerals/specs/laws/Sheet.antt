@@ -8,7 +8,8 @@ use native.Mathlib.Omega.{arith}
 use borrow.Author.Tests.{eqb-true, eqb-false, ltb-true, lt-ltb, le-ltb, ne-eqb}
 use lib.Dec.{ltb, eqb}
 use Rattle.tiles.specs.laws.Below.{and-true}
-use Rattle.speech_numerals.specs.Numerals.{placeOf, underHundred, threeOf, scaledThree, englishOf, thousandsOf, hundredsOf, tensOf, onesOf, fourOf, scaledFour, easternOf, numeral}
+use Rattle.speech_numerals.specs.Numerals.{placeOf, underHundred, threeOf, scaledThree, englishOf, thousandsOf, hundredsOf, tensOf, onesOf, fourOf}
+use Rattle.speech_numerals.specs.Numerals.{scaledFour, easternOf, numeral}
 use Rattle.speech_numerals.specs.Heard.{onSheet}
 
 -- all clips of a list are on the sheet of language l
@@ -48,7 +49,16 @@ own = (refl, refl, refl)
 english : (c : ℕ) → 41 < c → c < 54 → onSheet 2 c ≡ true
 unfolding onSheet
 english c h g =
-    rw (le-ltb c 28 (omega arith), le-ltb c 39 (omega arith), ne-eqb c 39 (λ e. omega arith), lt-ltb 39 c (omega arith), le-ltb c 42 (omega arith), lt-ltb 41 c h, lt-ltb c 54 g)
+    rw (
+      le-ltb c 28 (omega arith),
+      le-ltb c 39 (omega arith),
+      ne-eqb c 39 (λ e. omega arith),
+      lt-ltb 39 c (omega arith),
+      le-ltb c 42
+          (omega arith),
+      lt-ltb 41 c h,
+      lt-ltb c 54 g,
+    )
 
 -- ---- a place
 
@@ -70,17 +80,21 @@ module _ (l : ℕ) (n : l ≡ 2 → ⊥) where
   unfolding fourOf thousandsOf hundredsOf tensOf onesOf
   on-four scaled x =
       on-then
-      (on-place l _ _ _ (clip-or l (eqb l 1 && (scaled && eqb (x % 10000) 1000)) 39 _ (λ e. rw (first l 1 (scaled && eqb (x % 10000) 1000) e) (own .0)) (not-english l (27 + x / 1000 % 10) n (omega arith))))
+      (on-place l _ _ _ (clip-or l (eqb l 1 && (scaled && eqb (x % 10000) 1000)) 39 _ (λ e. rw (first l 1 (scaled && eqb (x % 10000) 1000) e) (own .0))
+      (not-english l (27 + x / 1000 % 10) n (omega arith))))
       (on-then (on-place l _ _ _ (all-28 l (18 + x / 100 % 10) (omega arith)))
       (on-then
-      (on-place l _ _ _ (clip-or l (eqb l 4 && (ltb 0 (x / 10 / 10) && eqb (x / 10 % 10) 1)) 40 _ (λ e. rw (first l 4 (ltb 0 (x / 10 / 10) && eqb (x / 10 % 10) 1) e) (own .1)) (all-28 l (9 + x / 10 % 10) (omega arith))))
-      (on-place l _ _ _ (clip-or l (eqb l 4 && (scaled && eqb (x % 10000) 2)) 41 _ (λ e. rw (first l 4 (scaled && eqb (x % 10000) 2) e) (own .2)) (all-28 l (x % 10) (omega arith))))))
+      (on-place l _ _ _ (clip-or l (eqb l 4 && (ltb 0 (x / 10 / 10) && eqb (x / 10 % 10) 1)) 40 _
+      (λ e. rw (first l 4 (ltb 0 (x / 10 / 10) && eqb (x / 10 % 10) 1) e) (own .1)) (all-28 l (9 + x / 10 % 10) (omega arith))))
+      (on-place l _ _ _ (clip-or l (eqb l 4 && (scaled && eqb (x % 10000) 2)) 41 _ (λ e. rw (first l 4 (scaled && eqb (x % 10000) 2) e) (own .2))
+      (all-28 l (x % 10) (omega arith))))))
 
   on-scaled : (c x : ℕ) → c < 39 → On l (scaledFour l c x)
   unfolding scaledFour
   on-scaled c x h =
       on-cond l (eqb (x % 10000) 0) [] _ (λ e. on-none l)
-      (λ e. on-then (on-cond l (eqb l 3 && (eqb c 37 && eqb x 1)) [] (fourOf l true x) (λ t. on-none l) (λ t. on-four true x)) (on-clip l c (not-english l c n h)))
+      (λ e. on-then (on-cond l (eqb l 3 && (eqb c 37 && eqb x 1)) [] (fourOf l true x) (λ t. on-none l) (λ t. on-four true x))
+      (on-clip l c (not-english l c n h)))
 
   on-eastern : (k : ℕ) → On l (easternOf l k)
   unfolding easternOf
@@ -95,7 +109,8 @@ on-under t h =
     (λ e.
     let b = and-true (ltb 10 t) (ltb t 20) e in
     on-clip 2 (31 + t) (english (31 + t) (omega (arith, ltb-true 10 t (b .0))) (omega (arith, ltb-true t 20 (b .1)))))
-    (λ e. on-then (on-place 2 false (9 + t / 10) (t / 10) (all-28 2 (9 + t / 10) (omega arith))) (on-place 2 false (t % 10) (t % 10) (all-28 2 (t % 10) (omega arith))))
+    (λ e. on-then (on-place 2 false (9 + t / 10) (t / 10) (all-28 2 (9 + t / 10) (omega arith)))
+    (on-place 2 false (t % 10) (t % 10) (all-28 2 (t % 10) (omega arith))))
 
 on-three : (g : ℕ) → g < 1000 → On 2 (threeOf g)
 unfolding threeOf

@@ -9,7 +9,8 @@ use lib.Dec.{ltb, eqb}
 use lib.ListN.{length, length-append}
 use Rattle.tiles.specs.laws.Below.{and-true}
 use Rattle.speech_numerals.specs.laws.Heard.{third}
-use Rattle.speech_numerals.specs.Numerals.{placeOf, underHundred, threeOf, scaledThree, englishOf, isGap, thousandsOf, hundredsOf, tensOf, onesOf, fourOf, scaledFour, easternOf, numeral}
+use Rattle.speech_numerals.specs.Numerals.{placeOf, underHundred, threeOf, scaledThree, englishOf, isGap, thousandsOf, hundredsOf, tensOf, onesOf}
+use Rattle.speech_numerals.specs.Numerals.{fourOf, scaledFour, easternOf, numeral}
 
 -- ---- a place
 
@@ -82,9 +83,12 @@ module _ (l : ℕ) (scaled : Bool) (x : ℕ) where
   unfolding hundredsOf tensOf onesOf
   after j h z =
       let a : Within (x / 1000 % 10) th (1 + j) = record { most = h; less = λ e. omega (arith, z e) } in
-      let b : Within (x / 100 % 10) (th + hu) (1 + j + 1) = within-next (x / 1000 % 10) th (1 + j) _ _ (x / 100 % 10) a (λ e. omega (arith, gap-ten l (x / 100) e .1)) in
-      let c : Within (x / 10 % 10) (th + hu + te) (1 + j + 1 + 1) = within-next (x / 100 % 10) (th + hu) (1 + j + 1) _ _ (x / 10 % 10) b (λ e. omega (arith, gap-ten l (x / 10) e .1)) in
-      let d : Within (x % 10) (th + hu + te + un) (1 + j + 1 + 1 + 1) = within-next (x / 10 % 10) (th + hu + te) (1 + j + 1 + 1) _ _ (x % 10) c (λ e. gap-ten l x e .1) in
+      let b : Within (x / 100 % 10) (th + hu) (1 + j + 1) =
+      within-next (x / 1000 % 10) th (1 + j) _ _ (x / 100 % 10) a (λ e. omega (arith, gap-ten l (x / 100) e .1)) in
+      let c : Within (x / 10 % 10) (th + hu + te) (1 + j + 1 + 1) =
+      within-next (x / 100 % 10) (th + hu) (1 + j + 1) _ _ (x / 10 % 10) b (λ e. omega (arith, gap-ten l (x / 10) e .1)) in
+      let d : Within (x % 10) (th + hu + te + un) (1 + j + 1 + 1 + 1) =
+      within-next (x / 10 % 10) (th + hu + te) (1 + j + 1 + 1) _ _ (x % 10) c (λ e. gap-ten l x e .1) in
       omega (arith, d .most, four-parts)
 
   thousands-none : x / 1000 % 10 ≡ 0 → th ≡ 0
@@ -107,7 +111,8 @@ module _ (l : ℕ) (scaled : Bool) (x : ℕ) where
   four-two : x < 100 → length (fourOf l scaled x) ≤ 2
   unfolding thousandsOf hundredsOf tensOf onesOf
   four-two h =
-      let a = place-none (isGap l (x / 10000) (eqb (x / 10000 % 10000) 0)) (cond (eqb l 1 && (scaled && eqb (x % 10000) 1000)) 39 (27 + x / 1000 % 10)) (x / 1000 % 10) (omega arith) in
+      let a = place-none (isGap l (x / 10000) (eqb (x / 10000 % 10000) 0)) (cond (eqb l 1 && (scaled && eqb (x % 10000) 1000)) 39 (27 + x / 1000 % 10))
+      (x / 1000 % 10) (omega arith) in
       let b = place-none (isGap l (x / 100 / 10) (eqb (x / 100 / 10 % 10) 0)) (18 + x / 100 % 10) (x / 100 % 10) (omega arith) in
       let c : te ≤ 1 = place-one _ _ (x / 10 % 10) (λ e. omega (arith, gap-ten l (x / 10) e .0)) in
       let d : un ≤ 1 = place-one _ _ (x % 10) (λ e. omega (arith, gap-ten l x e .0, gap-ten l x e .1)) in
@@ -136,7 +141,8 @@ eastern-short l n h = rw (length-append, length-append) (go (eqb (n / 10000 % 10
     middle : length (scaledFour l 37 (n / 10000)) ≤ 5
     middle = scaled-short l 37 (n / 10000) 4 (four-plain l true (n / 10000) (λ a z. omega arith))
 
-    go : (b : Bool) → eqb (n / 10000 % 10000) 0 ≡ b → length (scaledFour l 38 (n / 100000000)) + (length (scaledFour l 37 (n / 10000)) + length (fourOf l false n)) ≤ 12
+    go : (b : Bool) → eqb (n / 10000 % 10000) 0 ≡ b
+        → length (scaledFour l 38 (n / 100000000)) + (length (scaledFour l 37 (n / 10000)) + length (fourOf l false n)) ≤ 12
     go true e = omega (arith, high, scaled-none l 37 (n / 10000) (eqb-true (n / 10000 % 10000) 0 e), four-short l false n)
     go false e = omega (arith, high, middle, four-plain l false n (λ a z. eqb-false (n / 10000 % 10000) 0 e z))
 

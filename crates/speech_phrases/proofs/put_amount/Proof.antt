@@ -11,8 +11,11 @@ unfolding amountClips
 returns c =
     let number = c .before .before .before .before .before .before in
     let put-clip2 = number .before .before .before .before in
-    let put-clip = put-clip2 .before .before .before .before in
-    (put-then (put-clip .put-clip .ensures .0) (put-then (put-clip2 .put-clip2 .ensures .0) (put-then (number .number .ensures .0) (c .before .before .put-clip3 .ensures .0))), omega arith)
+    let put-clip = put-clip2 .before .before .before .before in (
+      put-then (put-clip .put-clip .ensures .0)
+          (put-then (put-clip2 .put-clip2 .ensures .0) (put-then (number .number .ensures .0) (c .before .before .put-clip3 .ensures .0))),
+      omega arith,
+    )
 
 pub put-amount-spec : {M : Type 1} → statement M
 put-amount-spec =

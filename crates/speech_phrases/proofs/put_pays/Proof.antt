@@ -15,15 +15,21 @@ returns c =
     let before = size .before in
     let s = before .before in
     let fits = toZ-ofZ (s .fits .change) in
-    let a = s .args in
-    (put-as (pays-some (a .language) (a .dealer) (a .seat) (a .change) _ _ (player .player .ensures) (rw fits at (size .absolute .ensures)) (rw fits at (if1 .if1 .taken))) (c .before .before .put-amount .ensures .0), c .before .before .put-amount .ensures .1)
+    let a = s .args in (
+      put-as (pays-some (a .language) (a .dealer) (a .seat) (a .change) _ _ (player .player .ensures) (rw fits at (size .absolute .ensures))
+          (rw fits at (if1 .if1 .taken))) (c .before .before .put-amount .ensures .0),
+      c .before .before .put-amount .ensures .1,
+    )
 
 returns-2 : tie.Need-returns-2
 returns-2 c =
     let before = c .before .before .before in
     let s = before .before in
-    let a = s .args in
-    (put-as (pays-none (a .language) (a .dealer) (a .seat) (a .change) (rw (toZ-ofZ (s .fits .change)) at (c .if1 .left))) (put-none (a .buf .now) (a .at)), omega arith)
+    let a = s .args in (
+      put-as (pays-none (a .language) (a .dealer) (a .seat) (a .change) (rw (toZ-ofZ (s .fits .change)) at (c .if1 .left)))
+          (put-none (a .buf .now) (a .at)),
+      omega arith,
+    )
 
 pub put-pays-spec : {M : Type 1} → statement M
 put-pays-spec =

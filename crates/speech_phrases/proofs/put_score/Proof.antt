@@ -12,7 +12,9 @@ returns c =
     let s = c .before .before .before .before .before .before .before .before .before .before .before .before .before .before .before .before .before .before .before .before in
     let fits = toZ-ofZ (s .fits .score) in
     let a = s .args in (
-      put-as (score-minus (a .language) (a .dealer) (a .seat) (a .score) _ _ (c .before .before .before .before .before .before .before .before .before .before .before .before .before .before .before .before .player .ensures) (rw fits at (c .before .before .before .before .before .before .before .before .before .before .before .before .before .before .before .before .before .before .absolute .ensures)) (rw fits at (c .before .before .before .before .before .before .before .before .before .before .before .before .if1 .taken)))
+      put-as (score-minus (a .language) (a .dealer) (a .seat) (a .score) _ _
+          (c .before .before .before .before .before .before .before .before .before .before .before .before .before .before .before .before .player .ensures)
+          (rw fits at (c .before .before .before .before .before .before .before .before .before .before .before .before .before .before .before .before .before .before .absolute .ensures)) (rw fits at (c .before .before .before .before .before .before .before .before .before .before .before .before .if1 .taken)))
           (put-then (c .before .before .before .before .before .before .before .before .before .before .before .before .before .before .before .put-clip .ensures .0) (put-then (c .before .before .before .before .before .before .before .before .before .before .put-clip2 .ensures .0) (put-then (c .before .before .before .before .before .before .number .ensures .0) (c .before .before .put-clip3 .ensures .0)))),
       omega arith,
     )
@@ -22,8 +24,12 @@ returns-2 c =
     let s = c .before .before .before .before .before .before .before .before .before .before .before .before .before .before .before .before in
     let fits = toZ-ofZ (s .fits .score) in
     let a = s .args in (
-      put-as (score-plus (a .language) (a .dealer) (a .seat) (a .score) _ _ (c .before .before .before .before .before .before .before .before .before .before .before .before .player .ensures) (rw fits at (c .before .before .before .before .before .before .before .before .before .before .before .before .before .before .absolute .ensures)) (rw fits at (c .before .before .before .before .before .before .before .before .if1 .left)))
-          (put-then (c .before .before .before .before .before .before .before .before .before .before .before .put-clip .ensures .0) (put-then (c .before .before .before .before .before .before .number2 .ensures .0) (c .before .before .put-clip4 .ensures .0))),
+      put-as (score-plus (a .language) (a .dealer) (a .seat) (a .score) _ _
+          (c .before .before .before .before .before .before .before .before .before .before .before .before .player .ensures)
+          (rw fits at (c .before .before .before .before .before .before .before .before .before .before .before .before .before .before .absolute .ensures))
+          (rw fits at (c .before .before .before .before .before .before .before .before .if1 .left)))
+          (put-then (c .before .before .before .before .before .before .before .before .before .before .before .put-clip .ensures .0)
+          (put-then (c .before .before .before .before .before .before .number2 .ensures .0) (c .before .before .put-clip4 .ensures .0))),
       omega arith,
     )
 

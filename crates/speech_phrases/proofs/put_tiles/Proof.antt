@@ -20,8 +20,13 @@ abbrev μ-loop : tie.MeasureT-loop
 loop-again : tie.Need-loop-again Inv-loop μ-loop
 loop-again c =
     let start = c .before .before .before in
-    let at = c .before .before .loop in
-    (omega arith, omega arith, length-set (at .buf) (at .e) (100 + at .k) ∙ at .inv .2, put-chosen 100 (λ j. getD (start .args .t3) j false) (at .k) (at .inv .3) (c .if1 .taken))
+    let at = c .before .before .loop in (
+      omega arith,
+      omega arith,
+      length-set (at .buf) (at .e) (100 + at .k)
+          ∙ at .inv .2,
+      put-chosen 100 (λ j. getD (start .args .t3) j false) (at .k) (at .inv .3) (c .if1 .taken),
+    )
 
 loop-again-2 : tie.Need-loop-again-2 Inv-loop μ-loop
 loop-again-2 c =

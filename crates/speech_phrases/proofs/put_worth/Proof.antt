@@ -19,8 +19,12 @@ returns-2 c =
     let number2 = put-clip3 .before .before .before .before in
     let put-clip2 = number2 .before .before .before .before in
     let number = put-clip2 .before .before .before .before in
-    let if1 = number .before .before in
-    (rw (if1 .if1 .left) (put-then (number .number .ensures .0) (put-then (put-clip2 .put-clip2 .ensures .0) (put-then (number2 .number2 .ensures .0) (put-then (put-clip3 .put-clip3 .ensures .0) (c .before .before .put-limit .ensures .0))))), omega arith)
+    let if1 = number .before .before in (
+      rw (if1 .if1 .left) (put-then (number .number .ensures .0)
+          (put-then (put-clip2 .put-clip2 .ensures .0)
+          (put-then (number2 .number2 .ensures .0) (put-then (put-clip3 .put-clip3 .ensures .0) (c .before .before .put-limit .ensures .0))))),
+      omega arith,
+    )
 
 pub put-worth-spec : {M : Type 1} → statement M
 put-worth-spec =

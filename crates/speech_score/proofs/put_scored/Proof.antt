@@ -17,9 +17,17 @@ returns c =
     let gain-of = player .before in
     let start = gain-of .before .before .before .before in
     let s = start .args in (
-      put-as (message-of (s .language) (s .dealer) (s .winner) (s .ron) (s .a) _ _ _ (player .player .ensures) (is-yakuman .is-yakuman .ensures) (gain-of .gain-of .ensures))
-          (put-then (put-won .put-won .ensures .0) (put-then (put-worth .put-worth .ensures .0) (put-then (put-payments .put-payments .ensures .0) (c .before .before .put-amount .ensures .0)))),
-      omega (arith, c .before .before .put-amount .ensures .1, put-payments .put-payments .ensures .1, put-worth .put-worth .ensures .1, put-won .put-won .ensures .1),
+      put-as (message-of (s .language) (s .dealer) (s .winner) (s .ron) (s .a) _ _ _ (player .player .ensures) (is-yakuman .is-yakuman .ensures)
+          (gain-of .gain-of .ensures))
+          (put-then (put-won .put-won .ensures .0)
+          (put-then (put-worth .put-worth .ensures .0) (put-then (put-payments .put-payments .ensures .0) (c .before .before .put-amount .ensures .0)))),
+      omega (
+        arith,
+        c .before .before .put-amount .ensures .1,
+        put-payments .put-payments .ensures .1,
+        put-worth .put-worth .ensures .1,
+        put-won .put-won .ensures .1,
+      ),
     )
 
 pub put-scored-spec : {M : Type 1} → statement M
@@ -37,6 +45,15 @@ put-scored-spec =
     let put-worth = put-payments .before .before .before .before in
     let put-won = put-worth .before .before .before .before in
     let pre = put-won .before .before .before .before .before .before .before .before in
-    omega (arith, put-payments .put-payments .ensures .1, put-payments .put-payments .kept .0, put-worth .put-worth .ensures .1, put-worth .put-worth .kept .0, put-won .put-won .ensures .1, put-won .put-won .kept .0, pre .pre .0))
+    omega (
+      arith,
+      put-payments .put-payments .ensures .1,
+      put-payments .put-payments .kept .0,
+      put-worth .put-worth .ensures .1,
+      put-worth .put-worth .kept .0,
+      put-won .put-won .ensures .1,
+      put-won .put-won .kept .0,
+      pre .pre .0,
+    ))
     (λ c. search needs)
     returns)

@@ -10,7 +10,8 @@ returns c =
     let put-clip2 = c .before .before .before .before .before .before in
     let way = put-clip2 .before in
     let put-clip = way .before .before .before .before in (
-      rw (way .way .ensures) at (put-then (put-clip .put-clip .ensures .0) (put-then (put-clip2 .put-clip2 .ensures .0) (c .before .before .put-yaku .ensures .0))),
+      rw (way .way .ensures) at (put-then (put-clip .put-clip .ensures .0)
+          (put-then (put-clip2 .put-clip2 .ensures .0) (c .before .before .put-yaku .ensures .0))),
       omega arith,
     )
 

@@ -19,7 +19,8 @@ returns-2 c =
     let is-known = c .before .before .before in
     let start = is-known .before .before in
     let s = start .args in
-    rw (lt-ltb _ _ (c .before .if2 .taken)) (refused-by (s .language) 8 (refusalMessage (s .number)) (s .buf .now) (is-known .is-known .ensures) (c .before .before .if1 .left) refl (omega arith) (c .refused2 .ensures))
+    rw (lt-ltb _ _ (c .before .if2 .taken)) (refused-by (s .language) 8 (refusalMessage (s .number)) (s .buf .now) (is-known .is-known .ensures)
+    (c .before .before .if1 .left) refl (omega arith) (c .refused2 .ensures))
 
 returns-3 : tie.Need-returns-3
 returns-3 c =
@@ -28,7 +29,8 @@ returns-3 c =
     let is-known = if1 .before in
     let start = is-known .before .before in
     let s = start .args in
-    rw (le-ltb _ _ (if2 .if2 .left)) (given-by (s .language) 0 (refusalMessage (s .number)) (s .buf .now) (is-known .is-known .ensures) (if1 .if1 .left) refl (omega arith) refl (c .before .before .give .ensures .0) (c .before .before .give .ensures .1))
+    rw (le-ltb _ _ (if2 .if2 .left)) (given-by (s .language) 0 (refusalMessage (s .number)) (s .buf .now) (is-known .is-known .ensures) (if1 .if1 .left) refl
+    (omega arith) refl (c .before .before .give .ensures .0) (c .before .before .give .ensures .1))
 
 pub say-refusal-spec : {M : Type 1} → statement M
 say-refusal-spec =

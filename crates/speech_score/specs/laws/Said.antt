@@ -42,7 +42,8 @@ module _ (m old : List ℕ) where
   pub long : length m ≤ length old → {k : ℕ} {new : List ℕ} → k ≡ length m → new ≡ take (length m) m ++ drop (length m) old
       → (_≡_ {A = Said} (record { refusal = 0; len = k }) (givenOf m old)) × (new ≡ bufferOf m old)
   unfolding givenOf bufferOf
-  long h e q = (rw (le-ltb (length old) (length m) h, e), rw (le-ltb (length old) (length m) h) (q ∙ ap (λ (t : List ℕ). t ++ drop (length m) old) (take-length m)))
+  long h e q =
+      (rw (le-ltb (length old) (length m) h, e), rw (le-ltb (length old) (length m) h) (q ∙ ap (λ (t : List ℕ). t ++ drop (length m) old) (take-length m)))
 
 -- ---- the same, by what the functions called gave
 
@@ -53,9 +54,11 @@ module _ (l n : ℕ) (m old : List ℕ) {r : Said} where
   pub refused-by : {k : Bool} {x : ℕ} → k ≡ isKnown l → not k ≡ false → x ≡ n → 0 < x → r ≡ refusedWith x → Answers l n m old r old
   refused-by e t x h q = rw (q, x) (refused l n m old (sym e ∙ not-false _ t) (omega arith))
 
-  pub given-by : {k : Bool} {x : ℕ} {text new : List ℕ} → k ≡ isKnown l → not k ≡ false → x ≡ n → x ≤ 0 → text ≡ m → r ≡ givenOf text old → new ≡ bufferOf text old
+  pub given-by : {k : Bool} {x : ℕ} {text new : List ℕ} → k ≡ isKnown l → not k ≡ false → x ≡ n → x ≤ 0 → text ≡ m → r ≡ givenOf text old
+      → new ≡ bufferOf text old
       → Answers l n m old r new
-  given-by e t x h q p b = given l n m old (sym e ∙ not-false _ t) (omega arith) (p ∙ ap (λ (y : List ℕ). givenOf y old) q) (b ∙ ap (λ (y : List ℕ). bufferOf y old) q)
+  given-by e t x h q p b =
+      given l n m old (sym e ∙ not-false _ t) (omega arith) (p ∙ ap (λ (y : List ℕ). givenOf y old) q) (b ∙ ap (λ (y : List ℕ). bufferOf y old) q)
 
 -- what was put into the work buffer and lent out of it
 pub put-long : {old text new : List ℕ} {r : ℕ} → Put old 0 text new r → r ≤ length old → r ≡ length (take r new)
@@ -69,7 +72,8 @@ put-fits p h g = omega (arith, put-long p h)
 module _ (l dealer winner : ℕ) (ron : Bool) (a : Scored) where
   pub message-of : (who gain : ℕ) (yakuman : Bool) → who ≡ player dealer winner → yakuman ≡ isYakuman (a .yaku)
       → gain ≡ natAbs (getD (a .changes) winner (pos 0))
-      → (who ∷ cond ron 64 65 ∷ yakuClips (a .yaku)) ++ (worthClips l yakuman (a .h) (a .fu) ++ (paymentsClips l dealer (a .changes) ++ amountClips l who 67 gain))
+      → (who ∷ cond ron 64 65 ∷ yakuClips (a .yaku)) ++
+      (worthClips l yakuman (a .h) (a .fu) ++ (paymentsClips l dealer (a .changes) ++ amountClips l who 67 gain))
       ≡ scoreMessage l dealer winner ron a
   unfolding scoreMessage
   message-of who gain yakuman p y g = rw (p, y, g)

@@ -32,4 +32,5 @@ any-wait-spec =
     (λ c.
     let start = c .before .before .before in
     (omega arith, some-more (λ j. getD (start .args .t1) j false) (c .before .before .loop .k) (c .before .before .loop .inv .1) (c .if1 .left)))
-    (λ c. sym (some-done (λ j. getD (c .before .before .args .t1) j false) 34 (c .before .loop .k) (c .before .loop .inv .0) (search needs) (c .before .loop .inv .1))))
+    (λ c. sym (some-done (λ j. getD (c .before .before .args .t1) j false) 34 (c .before .loop .k) (c .before .loop .inv .0) (search needs)
+    (c .before .loop .inv .1))))

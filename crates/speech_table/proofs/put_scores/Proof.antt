@@ -10,8 +10,11 @@ returns : tie.Need-returns
 unfolding scoresMessage
 returns c =
     let put-counted = c .before .before .before .before .before .before in
-    let put-four = put-counted .before .before .before .before in
-    (put-then (put-four .put-four .ensures .0) (put-then (put-counted .put-counted .ensures .0) (c .before .before .put-counted2 .ensures .0)), omega (arith, put-four .put-four .ensures .1, put-counted .put-counted .ensures .1, c .before .before .put-counted2 .ensures .1))
+    let put-four = put-counted .before .before .before .before in (
+      put-then (put-four .put-four .ensures .0) (put-then (put-counted .put-counted .ensures .0) (c .before .before .put-counted2 .ensures .0)),
+      omega
+          (arith, put-four .put-four .ensures .1, put-counted .put-counted .ensures .1, c .before .before .put-counted2 .ensures .1),
+    )
 
 pub put-scores-spec : {M : Type 1} → statement M
 put-scores-spec =

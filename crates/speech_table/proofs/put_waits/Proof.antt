@@ -16,8 +16,11 @@ returns c =
     let put-tiles = if2 .before .before .before in
     let put-clip = put-tiles .before .before .before .before in
     let if1 = put-clip .before .before in
-    let any-wait = if1 .before in
-    (rw (sym (any-wait .any-wait .ensures) ∙ if1 .if1 .taken, if2 .if2 .taken) (put-then (put-then (put-clip .put-clip .ensures .0) (put-tiles .put-tiles .ensures .0)) (c .before .before .put-clip2 .ensures .0)), omega arith)
+    let any-wait = if1 .before in (
+      rw (sym (any-wait .any-wait .ensures) ∙ if1 .if1 .taken, if2 .if2 .taken)
+          (put-then (put-then (put-clip .put-clip .ensures .0) (put-tiles .put-tiles .ensures .0)) (c .before .before .put-clip2 .ensures .0)),
+      omega arith,
+    )
 
 returns-2 : tie.Need-returns-2
 unfolding waitsMessage
@@ -26,8 +29,11 @@ returns-2 c =
     let put-clip = put-tiles .before .before .before .before in
     let if1 = put-clip .before .before in
     let any-wait = if1 .before in
-    let start = any-wait .before .before .before in
-    (rw (sym (any-wait .any-wait .ensures) ∙ if1 .if1 .taken, c .if2 .left, append-nil (tileClips (start .args .w .waits))) (put-then (put-clip .put-clip .ensures .0) (put-tiles .put-tiles .ensures .0)), omega arith)
+    let start = any-wait .before .before .before in (
+      rw (sym (any-wait .any-wait .ensures) ∙ if1 .if1 .taken, c .if2 .left, append-nil (tileClips (start .args .w .waits)))
+          (put-then (put-clip .put-clip .ensures .0) (put-tiles .put-tiles .ensures .0)),
+      omega arith,
+    )
 
 returns-3 : tie.Need-returns-3
 unfolding waitsMessage
@@ -35,8 +41,11 @@ returns-3 c =
     let if3 = c .before .before .before .before in
     let put-clip3 = if3 .before .before .before in
     let if1 = put-clip3 .before .before in
-    let any-wait = if1 .before in
-    (rw (sym (any-wait .any-wait .ensures) ∙ if1 .if1 .left, if3 .if3 .taken) (put-then (put-clip3 .put-clip3 .ensures .0) (c .before .before .put-clip4 .ensures .0)), omega arith)
+    let any-wait = if1 .before in (
+      rw (sym (any-wait .any-wait .ensures) ∙ if1 .if1 .left, if3 .if3 .taken)
+          (put-then (put-clip3 .put-clip3 .ensures .0) (c .before .before .put-clip4 .ensures .0)),
+      omega arith,
+    )
 
 returns-4 : tie.Need-returns-4
 unfolding waitsMessage

@@ -14,7 +14,8 @@ returns c =
     let start = c .before .before .before .before .before in
     λ a p.
     let s = start .args in
-    unknown-by (s .language) (a .refusal) (readyMessage (s .language) (a .swaps)) (s .buf .now) (c .before .before .is-known .ensures) (c .before .if1 .taken) (c .refused .ensures)
+    unknown-by (s .language) (a .refusal) (readyMessage (s .language) (a .swaps)) (s .buf .now) (c .before .before .is-known .ensures) (c .before .if1 .taken)
+    (c .refused .ensures)
 
 returns-2 : tie.Need-returns-2
 returns-2 c =

@@ -12,7 +12,8 @@ returns : tie.Need-returns
 returns c =
     let start = c .before .before .before .before in
     let s = start .args in
-    unknown-by (s .language) 0 (scoresMessage (s .language) (s .g)) (s .buf .now) (c .before .before .is-known .ensures) (c .before .if1 .taken) (c .refused .ensures)
+    unknown-by (s .language) 0 (scoresMessage (s .language) (s .g)) (s .buf .now) (c .before .before .is-known .ensures) (c .before .if1 .taken)
+    (c .refused .ensures)
 
 returns-2 : tie.Need-returns-2
 returns-2 c =

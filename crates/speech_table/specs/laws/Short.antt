@@ -22,8 +22,10 @@ module _ (l : ℕ) (g : Position) (f : (k : ℕ) → natAbs (getD (g .scores) k 
   pub scores-short : length (scoresMessage l g) ≤ 92
   unfolding scoresMessage fourScores
   scores-short =
-      let s : (k : ℕ) → length (scoreClips l (g .dealer) k (getD (g .scores) k (pos 0))) ≤ 16 = λ k. score-short l (g .dealer) k (getD (g .scores) k (pos 0)) (f k) in
-      rw (length-append, length-append, length-append, length-append, length-append) (omega (arith, s 0, s 1, s 2, s 3, counted-short l 77 (g .sticks) a, counted-short l 78 (g .counter) b))
+      let s : (k : ℕ) → length (scoreClips l (g .dealer) k (getD (g .scores) k (pos 0))) ≤ 16 =
+      λ k. score-short l (g .dealer) k (getD (g .scores) k (pos 0)) (f k) in
+      rw (length-append, length-append, length-append, length-append, length-append)
+      (omega (arith, s 0, s 1, s 2, s 3, counted-short l 77 (g .sticks) a, counted-short l 78 (g .counter) b))
 
   pub scores-has : Has l (scoresMessage l g)
   unfolding scoresMessage fourScores isPhrase

@@ -72,7 +72,16 @@ sheet-low l c h = go (ltb c 60) refl
     go true e = refl
     go false e =
         let g = ltb-false c 60 e in
-        absurd (false≢true (rw (le-ltb c 28 (omega arith), le-ltb c 39 (omega arith), ne-eqb c 39 (λ q. omega arith), lt-ltb 39 c (omega arith), le-ltb c 42 (omega arith), lt-ltb 41 c (omega arith), le-ltb c 54 (omega arith)) at h))
+        absurd (false≢true (rw (
+          le-ltb c 28 (omega arith),
+          le-ltb c 39 (omega arith),
+          ne-eqb c 39 (λ q. omega arith),
+          lt-ltb 39 c (omega arith),
+          le-ltb c 42
+              (omega arith),
+          lt-ltb 41 c (omega arith),
+          le-ltb c 54 (omega arith),
+        ) at h))
 
 numeral-low : (l n : ℕ) → n < 1000000000000 → Each isLow (numeral l n)
 numeral-low l n h = each-of isLow (numeral l n) (λ c m. sheet-low l c (on-numeral l n h .on c m))
@@ -133,7 +142,8 @@ module _ (first : ℕ) (p : ℕ → Bool) where
   unfolding chosen
   chosen-has zero k h = absurd (omega arith)
   chosen-has (suc n) k h =
-      has-then (first + k) (chosen first p n) (cond (p n) ((first + n) ∷ []) []) ∙ ⊎-elim same (λ g. less g (chosen-has n k g)) (eq-or-lt-of-le (le-of-suc-le-suc h))
+      has-then (first + k) (chosen first p n) (cond (p n) ((first + n) ∷ []) [])
+      ∙ ⊎-elim same (λ g. less g (chosen-has n k g)) (eq-or-lt-of-le (le-of-suc-le-suc h))
     where
       same : k ≡ n → has (first + k) (chosen first p n) || has (first + k) (cond (p n) ((first + n) ∷ []) []) ≡ p k
       same e = rw (e, chosen-out n n (omega arith)) (last-same n)
@@ -158,7 +168,8 @@ module _ (l dealer : ℕ) where
   unfolding amountClips NotNext
   next-amount seat who g x e = let z : _≡_ {A = ℕ} 67 66 = head-eq (tail-eq e) in omega arith
 
-  next-pays : (seat other : ℕ) (z : ℤ) (t : List ℕ) → seat ≤ 3 → other ≤ 3 → (seat ≡ other → ⊥) → NotNext seat t → NotNext seat (paysClips l dealer other z ++ t)
+  next-pays : (seat other : ℕ) (z : ℤ) (t : List ℕ) → seat ≤ 3 → other ≤ 3 → (seat ≡ other → ⊥) → NotNext seat t
+      → NotNext seat (paysClips l dealer other z ++ t)
   unfolding paysClips amountClips NotNext
   next-pays seat other z t h g n r x = go (ltZ z (pos 0))
     where
@@ -177,7 +188,8 @@ module _ (l dealer : ℕ) where
 
       go : (b c : Bool) → cond b (clips y) [] ++ t ≡ cond c (clips z) [] ++ u → (cond b (natAbs y) 0 ≡ cond c (natAbs z) 0) × (t ≡ u)
       go true true e =
-          let r = cut isLow (numeral l (natAbs y)) (numeral l (natAbs z)) {m = 68} {n = 68} {x = t} {y = u} (numeral-low l (natAbs y) f) (numeral-low l (natAbs z) g) refl refl
+          let r = cut isLow (numeral l (natAbs y)) (numeral l (natAbs z)) {m = 68} {n = 68} {x = t} {y = u} (numeral-low l (natAbs y) f)
+          (numeral-low l (natAbs z) g) refl refl
           (sym (append-assoc (numeral l (natAbs y)) (68 ∷ []) t) ∙ tail-eq (tail-eq e) ∙ append-assoc (numeral l (natAbs z)) (68 ∷ []) u) in
           (alike l l (natAbs y) (natAbs z) f g (r .0), tail-eq (r .1))
       go true false e = absurd (m ((numeral l (natAbs y) ++ (68 ∷ [])) ++ t) (sym e))
@@ -240,7 +252,8 @@ drop-front [] e = e
 drop-front (c ∷ a) e = drop-front a (tail-eq e)
 
 module _ (l : ℕ) where
-  worth-apart : (h fu : ℕ) (t : List ℕ) → (numeral l h ++ (69 ∷ (numeral l fu ++ (70 ∷ limitClips h fu)))) ++ t ≡ numeral l h ++ (69 ∷ (numeral l fu ++ (70 ∷ (limitClips h fu ++ t))))
+  worth-apart : (h fu : ℕ) (t : List ℕ) → (numeral l h ++ (69 ∷ (numeral l fu ++ (70 ∷ limitClips h fu)))) ++ t
+      ≡ numeral l h ++ (69 ∷ (numeral l fu ++ (70 ∷ (limitClips h fu ++ t))))
   worth-apart h fu t = append-assoc (numeral l h) _ t ∙ ap (λ (k : List ℕ). numeral l h ++ (69 ∷ k)) (append-assoc (numeral l fu) (70 ∷ limitClips h fu) t)
 
   pub worth-same : (yakuman : Bool) (h k fu gu : ℕ) (t u : List ℕ) → h < 1000000000000 → k < 1000000000000 → fu < 1000000000000 → gu < 1000000000000
@@ -248,11 +261,16 @@ module _ (l : ℕ) where
   unfolding worthClips isLow
   worth-same true h k fu gu t u hh hk hf hg e = (λ f. absurd (false≢true (sym f)), tail-eq e)
   worth-same false h k fu gu t u hh hk hf hg e =
-      let r = cut isLow (numeral l h) (numeral l k) {m = 69} {n = 69} (numeral-low l h hh) (numeral-low l k hk) refl refl (sym (worth-apart h fu t) ∙ e ∙ worth-apart k gu u) in
-      let q = cut isLow (numeral l fu) (numeral l gu) {m = 70} {n = 70} {x = limitClips h fu ++ t} {y = limitClips k gu ++ u} (numeral-low l fu hf) (numeral-low l gu hg) refl refl (tail-eq (r .1)) in
+      let r = cut isLow (numeral l h) (numeral l k) {m = 69} {n = 69} (numeral-low l h hh) (numeral-low l k hk) refl refl
+      (sym (worth-apart h fu t) ∙ e ∙ worth-apart k gu u) in
+      let q = cut isLow (numeral l fu) (numeral l gu) {m = 70} {n = 70} {x = limitClips h fu ++ t} {y = limitClips k gu ++ u} (numeral-low l fu hf)
+      (numeral-low l gu hg) refl refl (tail-eq (r .1)) in
       let a = alike l l h k hh hk (r .0) in
-      let b = alike l l fu gu hf hg (q .0) in
-      (λ f. (a, b), drop-front (limitClips h fu) (tail-eq (q .1) ∙ ap (λ (c : List ℕ). c ++ u) (ap (λ (n : ℕ). limitClips n gu) (sym a) ∙ ap (limitClips h) (sym b))))
+      let b = alike l l fu gu hf hg (q .0) in (
+        λ f. (a, b),
+        drop-front (limitClips h fu) (tail-eq (q .1)
+            ∙ ap (λ (c : List ℕ). c ++ u) (ap (λ (n : ℕ). limitClips n gu) (sym a) ∙ ap (limitClips h) (sym b))),
+      )
 
   -- it begins with a clip that is no yaku's
   front : (a : List ℕ) (k : ℕ) (y : List ℕ) → Each isLow a → isHigh k ≡ false → (m : ℕ) × (x : List ℕ) × (a ++ (k ∷ y) ≡ m ∷ x) × (isHigh m ≡ false)
@@ -260,7 +278,8 @@ module _ (l : ℕ) where
   front [] k y s f = (k, y, refl, f)
   front (c ∷ a) k y s f = (c, a ++ (k ∷ y), refl, le-ltb 140 c (omega (arith, ltb-true c 60 (s .0))))
 
-  pub worth-front : (yakuman : Bool) (h fu : ℕ) (t : List ℕ) → h < 1000000000000 → (m : ℕ) × (x : List ℕ) × (worthClips l yakuman h fu ++ t ≡ m ∷ x) × (isHigh m ≡ false)
+  pub worth-front : (yakuman : Bool) (h fu : ℕ) (t : List ℕ) → h < 1000000000000
+      → (m : ℕ) × (x : List ℕ) × (worthClips l yakuman h fu ++ t ≡ m ∷ x) × (isHigh m ≡ false)
   unfolding worthClips isHigh
   worth-front true h fu t g = (75, t, refl, refl)
   worth-front false h fu t g =
@@ -269,12 +288,14 @@ module _ (l : ℕ) where
 
 -- ---- the yaku
 
-pub yaku-same : (y z : List Bool) (v w : List ℕ) → ((m : ℕ) × (x : List ℕ) × (v ≡ m ∷ x) × (isHigh m ≡ false)) → ((m : ℕ) × (x : List ℕ) × (w ≡ m ∷ x) × (isHigh m ≡ false))
+pub yaku-same : (y z : List Bool) (v w : List ℕ) → ((m : ℕ) × (x : List ℕ) × (v ≡ m ∷ x) × (isHigh m ≡ false))
+    → ((m : ℕ) × (x : List ℕ) × (w ≡ m ∷ x) × (isHigh m ≡ false))
     → yakuClips y ++ v ≡ yakuClips z ++ w → ((k : ℕ) → k < 36 → getD y (k + 1) false ≡ getD z (k + 1) false) × (v ≡ w)
 unfolding yakuClips
 yaku-same y z v w a b e =
     let p : ℕ → Bool = λ k. getD y (k + 1) false in
     let q : ℕ → Bool = λ k. getD z (k + 1) false in
-    let r = cut isHigh (chosen 141 p 36) (chosen 141 q 36) {m = a .0} {n = b .0} {x = a .1} {y = b .1} (chosen-high 141 p 36 (omega arith)) (chosen-high 141 q 36 (omega arith)) (a .3) (b .3)
+    let r = cut isHigh (chosen 141 p 36) (chosen 141 q 36) {m = a .0} {n = b .0} {x = a .1} {y = b .1} (chosen-high 141 p 36 (omega arith))
+    (chosen-high 141 q 36 (omega arith)) (a .3) (b .3)
     (ap (λ (k : List ℕ). chosen 141 p 36 ++ k) (sym (a .2)) ∙ e ∙ ap (λ (k : List ℕ). chosen 141 q 36 ++ k) (b .2)) in
     (chosen-same 141 p q 36 (r .0), a .2 ∙ r .1 ∙ sym (b .2))

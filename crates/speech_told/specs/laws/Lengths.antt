@@ -10,7 +10,8 @@ use lib.Signed.{ltZ}
 use Rattle.points.specs.Points.{plain}
 use Rattle.speech_numerals.specs.Numerals.{numeral}
 use Rattle.speech_numerals.specs.laws.Short.{numeral-short}
-use Rattle.speech_told.specs.Phrases.{player, chosen, yakuClips, limitClips, worthClips, amountClips, paysClips, paymentsClips, countedClips, scoreClips, tileClips}
+use Rattle.speech_told.specs.Phrases.{player, chosen, yakuClips, limitClips, worthClips, amountClips, paysClips, paymentsClips, countedClips}
+use Rattle.speech_told.specs.Phrases.{scoreClips, tileClips}
 
 -- ---- the parts
 
@@ -57,7 +58,14 @@ module _ (l : ℕ) where
   unfolding paymentsClips
   payments-short dealer c f =
       rw (length-append, length-append, length-append)
-      (omega (arith, pays-short dealer 0 (getD c 0 (pos 0)) (f 0), pays-short dealer 1 (getD c 1 (pos 0)) (f 1), pays-short dealer 2 (getD c 2 (pos 0)) (f 2), pays-short dealer 3 (getD c 3 (pos 0)) (f 3)))
+      (omega (
+        arith,
+        pays-short dealer 0 (getD c 0 (pos 0)) (f 0),
+        pays-short dealer 1 (getD c 1 (pos 0)) (f 1),
+        pays-short dealer 2 (getD c 2 (pos 0))
+            (f 2),
+        pays-short dealer 3 (getD c 3 (pos 0)) (f 3),
+      ))
 
   pub counted-short : (clip n : ℕ) → n < 4294967296 → length (countedClips l clip n) ≤ 14
   unfolding countedClips

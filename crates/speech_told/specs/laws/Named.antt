@@ -13,7 +13,8 @@ unfolding namedAmount limitClips limit ordinary
 named-as-paid h fu = go (plain h fu) (leb 5 h || ltb 2000 (plain h fu)) (leb h 5) (leb h 7) (leb h 10)
   where
     go : (a : ℕ) (paid five seven ten : Bool)
-        → namedAmount (cond paid (cond five 71 (cond seven 72 (cond ten 73 74)) ∷ []) []) a ≡ cond paid (cond five 2000 (cond seven 3000 (cond ten 4000 6000))) a
+        → namedAmount (cond paid (cond five 71 (cond seven 72 (cond ten 73 74)) ∷ []) []) a
+        ≡ cond paid (cond five 2000 (cond seven 3000 (cond ten 4000 6000))) a
     go a false five seven ten = refl
     go a true true seven ten = refl
     go a true false true ten = refl

@@ -14,7 +14,8 @@ use Rattle.points.specs.Points.{plain}
 use Rattle.speech_numerals.specs.Numerals.{numeral}
 use Rattle.speech_numerals.specs.Heard.{onSheet}
 use Rattle.speech_numerals.specs.laws.Sheet.{on-numeral}
-use Rattle.speech_told.specs.Phrases.{player, chosen, yakuClips, limitClips, worthClips, amountClips, paysClips, paymentsClips, countedClips, scoreClips, tileClips}
+use Rattle.speech_told.specs.Phrases.{player, chosen, yakuClips, limitClips, worthClips, amountClips, paysClips, paymentsClips, countedClips}
+use Rattle.speech_told.specs.Phrases.{scoreClips, tileClips}
 use Rattle.speech_told.specs.Sheet.{isPhrase, hasClip}
 
 -- all clips of a list
@@ -98,7 +99,8 @@ module _ (l : ℕ) where
   pub has-worth : (yakuman : Bool) (h fu : ℕ) → h < 4294967296 → fu < 4294967296 → Has l (worthClips l yakuman h fu)
   unfolding worthClips isPhrase
   has-worth yakuman h fu f g =
-      has-cond l yakuman (has-more 75 refl (has-none l)) (has-then (has-numeral l h f) (has-more 69 refl (has-then (has-numeral l fu g) (has-more 70 refl (has-limit h fu)))))
+      has-cond l yakuman (has-more 75 refl (has-none l))
+      (has-then (has-numeral l h f) (has-more 69 refl (has-then (has-numeral l fu g) (has-more 70 refl (has-limit h fu)))))
 
   pub has-amount : (who verb n : ℕ) → isPhrase who ≡ true → isPhrase verb ≡ true → n < 4294967296 → Has l (amountClips l who verb n)
   unfolding amountClips isPhrase
@@ -111,7 +113,9 @@ module _ (l : ℕ) where
   pub has-payments : (dealer : ℕ) (c : List ℤ) → ((k : ℕ) → natAbs (getD c k (pos 0)) < 4294967296) → Has l (paymentsClips l dealer c)
   unfolding paymentsClips
   has-payments dealer c f =
-      has-then (has-pays dealer 0 (getD c 0 (pos 0)) (f 0)) (has-then (has-pays dealer 1 (getD c 1 (pos 0)) (f 1)) (has-then (has-pays dealer 2 (getD c 2 (pos 0)) (f 2)) (has-pays dealer 3 (getD c 3 (pos 0)) (f 3))))
+      has-then (has-pays dealer 0 (getD c 0 (pos 0)) (f 0))
+      (has-then (has-pays dealer 1 (getD c 1 (pos 0)) (f 1))
+      (has-then (has-pays dealer 2 (getD c 2 (pos 0)) (f 2)) (has-pays dealer 3 (getD c 3 (pos 0)) (f 3))))
 
   pub has-counted : (clip n : ℕ) → isPhrase clip ≡ true → n < 4294967296 → Has l (countedClips l clip n)
   unfolding countedClips
@@ -120,4 +124,6 @@ module _ (l : ℕ) where
   pub has-score : (dealer seat : ℕ) (z : ℤ) → natAbs z < 4294967296 → Has l (scoreClips l dealer seat z)
   unfolding scoreClips isPhrase
   has-score dealer seat z h =
-      has-more (player dealer seat) (has-player dealer seat) (has-then (has-cond l (ltZ z (pos 0)) (has-more 76 refl (has-none l)) (has-none l)) (has-then (has-numeral l (natAbs z) h) (has-more 68 refl (has-none l))))
+      has-more (player dealer seat) (has-player dealer seat)
+      (has-then (has-cond l (ltZ z (pos 0)) (has-more 76 refl (has-none l)) (has-none l))
+      (has-then (has-numeral l (natAbs z) h) (has-more 68 refl (has-none l))))

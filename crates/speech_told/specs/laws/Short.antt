@@ -18,7 +18,8 @@ use Rattle.speech_numerals.specs.Numerals.{numeral}
 use Rattle.speech_numerals.specs.laws.Short.{numeral-short}
 use Rattle.speech_told.specs.Phrases.{player}
 use Rattle.speech_told.specs.Sheet.{isPhrase}
-use Rattle.speech_told.specs.laws.OnSheet.{Has, has-none, has-then, has-more, has-cond, has-numeral, has-player, verbs, has-yaku, has-worth, has-amount, has-payments, has-counted}
+use Rattle.speech_told.specs.laws.OnSheet.{Has, has-none, has-then, has-more, has-cond, has-numeral, has-player, verbs, has-yaku, has-worth, has-amount}
+use Rattle.speech_told.specs.laws.OnSheet.{has-payments, has-counted}
 use Rattle.speech_told.specs.laws.Lengths.{yaku-short, worth-short, amount-short, payments-short, counted-short}
 use Rattle.speech_told.specs.Messages.{scoreMessage, scoreSaid, groupAt, itemsClips, fuMessage, refusalMessage}
 use Rattle.score.specs.laws.Small.{small}
@@ -66,12 +67,18 @@ module _ (l : ℕ) (s : List ℕ) (dealer wind : ℕ) where
   unfolding fuMessage
   fu-short = go (isYakuman (scoreOf s dealer wind .yaku))
     where
-      go : (b : Bool) → length (cond b (75 ∷ []) (itemsClips l (scoreOf s dealer wind .items) ++ (94 ∷ (numeral l (scoreOf s dealer wind .fu) ++ (70 ∷ []))))) ≤ 155
+      go : (b : Bool) → length (cond b (75 ∷ [])
+          (itemsClips l (scoreOf s dealer wind .items) ++ (94 ∷ (numeral l (scoreOf s dealer wind .fu) ++ (70 ∷ []))))) ≤ 155
       go true = omega arith
       go false =
           let f = small s dealer wind .1 in
           rw (length-append, length-append)
-          (omega (arith, items-short (scoreOf s dealer wind .items) (omega (arith, items-total s dealer wind)), numeral-short l (scoreOf s dealer wind .fu) (omega arith)))
+          (omega (
+            arith,
+            items-short (scoreOf s dealer wind .items) (omega (arith, items-total s dealer wind)),
+            numeral-short l (scoreOf s dealer wind .fu)
+                (omega arith),
+          ))
 
   -- ---- on the sheet
 
@@ -81,8 +88,11 @@ module _ (l : ℕ) (s : List ℕ) (dealer wind : ℕ) where
       let a = scoreOf s dealer wind in
       let f = handOf (readOf s) .fields in
       has-more (player dealer (f .winner)) (has-player dealer (f .winner)) (has-more (cond (isRon f) 64 65) (way (isRon f))
-      (has-then (has-yaku l (a .yaku)) (has-then (has-worth l (isYakuman (a .yaku)) (a .h) (a .fu) (omega (arith, small s dealer wind .0)) (omega (arith, small s dealer wind .1)))
-      (has-then (has-payments l dealer (a .changes) (changes-fit s dealer wind)) (has-amount l (player dealer (f .winner)) 67 (natAbs (getD (a .changes) (f .winner) (pos 0))) (has-player dealer (f .winner)) (verbs .3) (changes-fit s dealer wind (f .winner)))))))
+      (has-then (has-yaku l (a .yaku)) (has-then
+      (has-worth l (isYakuman (a .yaku)) (a .h) (a .fu) (omega (arith, small s dealer wind .0)) (omega (arith, small s dealer wind .1)))
+      (has-then (has-payments l dealer (a .changes) (changes-fit s dealer wind))
+      (has-amount l (player dealer (f .winner)) 67 (natAbs (getD (a .changes) (f .winner) (pos 0))) (has-player dealer (f .winner)) (verbs .3)
+      (changes-fit s dealer wind (f .winner)))))))
     where
       way : (b : Bool) → isPhrase (cond b 64 65) ≡ true
       way true = verbs .0
@@ -91,9 +101,13 @@ module _ (l : ℕ) (s : List ℕ) (dealer wind : ℕ) where
   items-has : (i : Items) → added i < 1000 → Has l (itemsClips l i)
   unfolding itemsClips added isPhrase
   items-has i few =
-      has-then (has-counted l 84 (i .base .0) refl (omega arith)) (has-then (has-counted l 85 (i .ron .0) refl (omega arith)) (has-then (has-counted l 86 (i .pair .0) refl (omega arith))
-      (has-then (has-counted l 87 (groupAt (i .group) 0) refl (omega arith)) (has-then (has-counted l 88 (groupAt (i .group) 1) refl (omega arith)) (has-then (has-counted l 89 (groupAt (i .group) 2) refl (omega arith))
-      (has-then (has-counted l 90 (groupAt (i .group) 3) refl (omega arith)) (has-then (has-counted l 91 (i .wait .0) refl (omega arith)) (has-then (has-counted l 92 (i .tsumo .0) refl (omega arith)) (has-counted l 93 (i .rounding .0) refl (omega arith))))))))))
+      has-then (has-counted l 84 (i .base .0) refl (omega arith))
+      (has-then (has-counted l 85 (i .ron .0) refl (omega arith)) (has-then (has-counted l 86 (i .pair .0) refl (omega arith))
+      (has-then (has-counted l 87 (groupAt (i .group) 0) refl (omega arith))
+      (has-then (has-counted l 88 (groupAt (i .group) 1) refl (omega arith)) (has-then (has-counted l 89 (groupAt (i .group) 2) refl (omega arith))
+      (has-then (has-counted l 90 (groupAt (i .group) 3) refl (omega arith))
+      (has-then (has-counted l 91 (i .wait .0) refl (omega arith))
+      (has-then (has-counted l 92 (i .tsumo .0) refl (omega arith)) (has-counted l 93 (i .rounding .0) refl (omega arith))))))))))
 
   pub fu-has : Has l (fuMessage l (scoreOf s dealer wind))
   unfolding fuMessage isPhrase
@@ -101,7 +115,8 @@ module _ (l : ℕ) (s : List ℕ) (dealer wind : ℕ) where
       let a = scoreOf s dealer wind in
       let f = small s dealer wind .1 in
       let few : added (a .items) < 1000 = omega (arith, items-total s dealer wind) in
-      has-cond l (isYakuman (a .yaku)) (has-more 75 refl (has-none l)) (has-then (items-has (a .items) few) (has-more 94 refl (has-then (has-numeral l (a .fu) (omega arith)) (has-more 70 refl (has-none l)))))
+      has-cond l (isYakuman (a .yaku)) (has-more 75 refl (has-none l))
+      (has-then (items-has (a .items) few) (has-more 94 refl (has-then (has-numeral l (a .fu) (omega arith)) (has-more 70 refl (has-none l)))))
 
 -- ---- a refusal
 

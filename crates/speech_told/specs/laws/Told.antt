@@ -102,7 +102,8 @@ module _ (l dealer w v : ℕ) (p q : Bool) (a b : Scored) (hw : w ≤ 3) (hv : v
   abbrev restB : List ℕ
   restB = paymentsClips l dealer (b .changes) ++ amountClips l (player dealer v) 67 (natAbs (getD (b .changes) v (pos 0)))
 
-  same-worth : (x y : Bool) → isYakuman (a .yaku) ≡ x → isYakuman (b .yaku) ≡ y → x ≡ y → ((x ≡ false) → (a .h ≡ b .h) × (a .fu ≡ b .fu)) → (a .h ≡ b .h) × (a .fu ≡ b .fu)
+  same-worth : (x y : Bool) → isYakuman (a .yaku) ≡ x → isYakuman (b .yaku) ≡ y → x ≡ y → ((x ≡ false) → (a .h ≡ b .h) × (a .fu ≡ b .fu))
+      → (a .h ≡ b .h) × (a .fu ≡ b .fu)
   same-worth true true ea eb e r =
       let s = za ea in
       let t = zb eb in
@@ -119,7 +120,8 @@ module _ (l dealer w v : ℕ) (p q : Bool) (a b : Scored) (hw : w ≤ 3) (hv : v
       (worth-front l (isYakuman (a .yaku)) (a .h) (a .fu) restA (omega (arith, sa .0)))
       (worth-front l (isYakuman (b .yaku)) (b .h) (b .fu) restB (omega (arith, sb .0))) (tail-eq (tail-eq e)) in
       let iy = yakuman-same (a .yaku) (b .yaku) (yk .0) in
-      let wo = worth-same l (isYakuman (a .yaku)) (a .h) (b .h) (a .fu) (b .fu) restA restB (omega (arith, sa .0)) (omega (arith, sb .0)) (omega (arith, sa .1)) (omega (arith, sb .1))
+      let wo = worth-same l (isYakuman (a .yaku)) (a .h) (b .h) (a .fu) (b .fu) restA restB (omega (arith, sa .0)) (omega (arith, sb .0))
+      (omega (arith, sa .1)) (omega (arith, sb .1))
       (yk .1 ∙ ap (λ (t : Bool). worthClips l t (b .h) (b .fu) ++ restB) (sym iy)) in
       let hf = same-worth (isYakuman (a .yaku)) (isYakuman (b .yaku)) refl refl iy (wo .0) in
       record {
@@ -136,10 +138,12 @@ module _ (l dealer w v : ℕ) (p q : Bool) (a b : Scored) (hw : w ≤ 3) (hv : v
 
 module _ (l dealer wind other : ℕ) (s t : List ℕ) where
   pub same-said : scoreSaid l s dealer wind ≡ scoreSaid l t dealer other
-      → Agree (handOf (readOf s) .fields .winner) (handOf (readOf t) .fields .winner) (isRon (handOf (readOf s) .fields)) (isRon (handOf (readOf t) .fields)) (scoreOf s dealer wind) (scoreOf t dealer other)
+      → Agree (handOf (readOf s) .fields .winner) (handOf (readOf t) .fields .winner) (isRon (handOf (readOf s) .fields)) (isRon (handOf (readOf t) .fields))
+      (scoreOf s dealer wind) (scoreOf t dealer other)
   unfolding scoreSaid
   same-said e =
       let x = handOf (readOf s) .fields in
       let y = handOf (readOf t) .fields in
-      same-message l dealer (x .winner) (y .winner) (isRon x) (isRon y) (scoreOf s dealer wind) (scoreOf t dealer other) (read-winner s) (read-winner t) (small s dealer wind) (small t dealer other) (zeros s dealer wind) (zeros t dealer other)
+      same-message l dealer (x .winner) (y .winner) (isRon x) (isRon y) (scoreOf s dealer wind) (scoreOf t dealer other) (read-winner s) (read-winner t)
+      (small s dealer wind) (small t dealer other) (zeros s dealer wind) (zeros t dealer other)
       (λ k. omega (arith, changes-fit s dealer wind k)) (λ k. omega (arith, changes-fit t dealer other k)) e

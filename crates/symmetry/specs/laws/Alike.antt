@@ -12,10 +12,12 @@ use Rattle.tiles.specs.Below.{all, any, count, sum}
 use Rattle.tiles.specs.Kinds.{isYaochu, isDragon, isWind}
 use Rattle.tiles.specs.Groups.{isRun, isTriplet, isGroup}
 use Rattle.tiles.specs.laws.Below.{and-true, both-ways, any-counted, all-any, any-at, any-of}
-use Rattle.yaku_basics.specs.Tests.{has, isValue, dragons, winds, littleDragons, valueHan, earnsWait, pinfu, held, twins, inThreeAt, inThreeSuits, straight, hasYaochu, outside, triplets, isConcealed, concealed, kans, fourWinds}
+use Rattle.yaku_basics.specs.Tests.{has, isValue, dragons, winds, littleDragons, valueHan, earnsWait, pinfu, held, twins, inThreeAt, inThreeSuits, straight}
+use Rattle.yaku_basics.specs.Tests.{hasYaochu, outside, triplets, isConcealed, concealed, kans, fourWinds}
 use Rattle.symmetry.specs.Renamed.{renamed}
 use Rattle.symmetry.specs.laws.Kinds.{Renaming, at-suit, test-other, isDragon-stays, isWind-stays, isYaochu-stays, one-of-three}
-use Rattle.symmetry.specs.laws.Codes.{renamedCode, code-run, code-triplet, code-test, code-test-other, isRun-code, isTriplet-code, has-yaochu-code, wait-code}
+use Rattle.symmetry.specs.laws.Codes.{renamedCode, code-run, code-triplet, code-test, code-test-other, isRun-code, isTriplet-code, has-yaochu-code}
+use Rattle.symmetry.specs.laws.Codes.{wait-code}
 use Rattle.symmetry.specs.laws.Tallies.{any-suits, total-kinds}
 
 -- the groups g with ways w, renamed, are the groups r with ways v in some order: each sum over them is the same

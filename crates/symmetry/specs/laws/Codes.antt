@@ -10,7 +10,8 @@ use Rattle.yaku_basics.specs.Tests.{earnsWait, hasYaochu}
 use Rattle.points_fu.specs.Fu.{groupFu}
 use Rattle.reading.specs.laws.Groups.{run-in, run-or}
 use Rattle.symmetry.specs.Renamed.{renamed}
-use Rattle.symmetry.specs.laws.Kinds.{Renaming, number-or, renamed-other, number-stays, there-back, test-stays, next-stays, lt-stays, kind-order, isYaochu-stays, isRunStart-stays}
+use Rattle.symmetry.specs.laws.Kinds.{Renaming, number-or, renamed-other, number-stays, there-back, test-stays, next-stays, lt-stays, kind-order}
+use Rattle.symmetry.specs.laws.Kinds.{isYaochu-stays, isRunStart-stays}
 use Rattle.tiles.specs.laws.Below.{same-test}
 use Rattle.reading.specs.laws.Suits.{suitOf, suit-run, suit-triplet}
 

@@ -18,7 +18,8 @@ use Rattle.hand_record.specs.Record.{headOf, meldsOf, tilesOf, heldIn, paddingA
 use Rattle.reading.specs.Reading.{holds, isSevenPairs, isOrphans}
 use Rattle.reading.specs.search.Readings.{concatMap, isEmpty, less, fits, without, passes, step, splits, placedAt, placed, paired, shaped, readings}
 use Rattle.reading.specs.search.Folded.{folded}
-use Rattle.yaku_basics.specs.Tests.{littleDragons, valueHan, earnsWait, pinfu, twins, inThreeAt, inThreeSuits, straight, hasYaochu, outside, concealed, kans, fourWinds}
+use Rattle.yaku_basics.specs.Tests.{littleDragons, valueHan, earnsWait, pinfu, twins, inThreeAt, inThreeSuits, straight, hasYaochu, outside, concealed, kans}
+use Rattle.yaku_basics.specs.Tests.{fourWinds}
 use Rattle.yaku_tiles.specs.OfTiles.{only, halfFlush, flush, gates}
 use Rattle.yaku.specs.Yaku.{testsOf, isYakuman, listed, yakuOf, hasYaku}
 use Rattle.points.specs.Points.{plain, limit, ordinary, basic, hundreds, share, pays, gain, change, changes}
@@ -58,7 +59,13 @@ told s changes e = ap (λ (x : Scored). x .changes) (sym (found-is-score s 0 0))
 
 -- "provided the hand is all green (yaku 34) neither before nor after": without this the score may differ
 pub green-differs : GreenDiffers
-unfolding renamed renamedMeld put inOrder renamedHeld renamedRecord widths valuesOf recordOf every some number total doraOf isGroup atKind uses tallyOf meldHolds inMelds inOthers inHeld inConcealed inHand concealedTally handTally tileOver33 wrongHeld wrongFields descends inRecord overFour wrongSituation refusalOf headOf meldsOf tilesOf heldIn paddingAfter handIn answerBy answerIn readOf holds isSevenPairs isOrphans concatMap isEmpty less fits without passes step splits placedAt placed paired shaped readings folded littleDragons valueHan earnsWait pinfu twins inThreeAt inThreeSuits straight hasYaochu outside concealed kans fourWinds only halfFlush flush gates testsOf isYakuman listed yakuOf hasYaku plain limit ordinary basic hundreds share pays gain change changes hanBy yakuHan hanOf tripletFu groupFu groupItems earned added rounded itemsOf fuOf valueOf beats counted noneOf keepBetterBy bestOf wonOf groupsOf waysOf fullReadingOf worth handScoreBy keptOf handScoreOf foundBy foundOf
+unfolding renamed renamedMeld put inOrder renamedHeld renamedRecord widths valuesOf recordOf every some number total doraOf isGroup atKind uses tallyOf
+    meldHolds inMelds inOthers inHeld inConcealed inHand concealedTally handTally tileOver33 wrongHeld wrongFields descends inRecord overFour wrongSituation
+    refusalOf headOf meldsOf tilesOf heldIn paddingAfter handIn answerBy answerIn readOf holds isSevenPairs isOrphans concatMap isEmpty less fits without
+    passes step splits placedAt placed paired shaped readings folded littleDragons valueHan earnsWait pinfu twins inThreeAt inThreeSuits straight hasYaochu
+    outside concealed kans fourWinds only halfFlush flush gates testsOf isYakuman listed yakuOf hasYaku plain limit ordinary basic hundreds share pays gain
+    change changes hanBy yakuHan hanOf tripletFu groupFu groupItems earned added rounded itemsOf fuOf valueOf beats counted noneOf keepBetterBy bestOf wonOf
+    groupsOf waysOf fullReadingOf worth handScoreBy keptOf handScoreOf foundBy foundOf
 green-differs = record {
   renaming = renaming-of 2 1 0 (omega arith) (omega arith) (omega arith) (λ e. omega arith) (λ e. omega arith) (λ e. omega arith);
   green = refl;

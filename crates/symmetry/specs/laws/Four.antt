@@ -162,7 +162,8 @@ module _ (u : Renaming) (h k : Hand) (s : Renames u h k) (green : only (handTall
       is = rw (won-renamed u h k s dealer wind, es, ep, ← dora-stays u (h .fields .indicator) (s .indicator), s .fields)
 
   module _ (r q : Reading) (x : Regular h r) (y : Regular k q) (c : Carries u (x .codes) (y .codes) (r .place) (q .place)) where
-    melds-moved : (P : ℕ → ℕ → ℕ) → sum (h .held .m) (at-meld k few′ (s .long′) q y P) ≡ sum (h .held .m) (at-meld h (s .few) (s .long) r x (λ c w. P (renamedCode (u .to) c) w))
+    melds-moved : (P : ℕ → ℕ → ℕ) → sum (h .held .m) (at-meld k few′ (s .long′) q y P)
+        ≡ sum (h .held .m) (at-meld h (s .few) (s .long) r x (λ c w. P (renamedCode (u .to) c) w))
     melds-moved P =
         sum-cong (at-meld k few′ (s .long′) q y P) (at-meld h (s .few) (s .long) r x (λ c w. P (renamedCode (u .to) c) w)) (h .held .m)
         (λ i l. rw (s .melds i l, code-renamed u (getD (h .held .melds) i 0) (s .good i l), way-stays u (getD (h .held .melds) i 0)))

@@ -50,7 +50,9 @@ module _ (u : Renaming) (a b : List ℕ) (s : Sums u a b) where
 -- renamed back
 pub carries-back : (u : Renaming) (a b : List ℕ) (i j : ℕ) → Carries u a b i j → Carries (back u) b a j i
 carries-back u a b i j c = record {
-  sums = λ φ. sym (c .sums (λ x. φ (renamedCode (u .from) x)) ∙ over-cong (λ x. φ (renamedCode (u .from) (renamedCode (u .to) x))) φ a (λ x. ap φ (code-back u x)));
+  sums =
+      λ φ. sym (c .sums (λ x. φ (renamedCode (u .from) x)) ∙ over-cong (λ x. φ (renamedCode (u .from) (renamedCode (u .to) x))) φ a
+      (λ x. ap φ (code-back u x)));
   place = go (c .place);
 }
   where
@@ -86,7 +88,8 @@ module _ (u : Renaming) (a : List ℕ) (o : Ascends 0 a) where
   carried-place (suc p) h =
       let c : ℕ = getD a p 0 in
       let l = rank-later a c p (length a) h h refl in
-      let n : ofKind (take p a) c < ofKind (carried u a) (renamedCode (u .to) c) = rw (carried-kind u a (carried u a) carried-sums c) (rw (take-length a) at l) in
+      let n : ofKind (take p a) c < ofKind (carried u a) (renamedCode (u .to) c) =
+      rw (carried-kind u a (carried u a) carried-sums c) (rw (take-length a) at l) in
       let r = rank-at (carried u a) (renamedCode (u .to) c) (ofKind (take p a) c) n in
       (suc (r .0), record { sums = carried-sums; place = at-group p (r .0) refl refl h (r .1) (r .2) (r .3) })
 
@@ -141,7 +144,8 @@ module _ (u : Renaming) (a b a′ b′ : List ℕ) (oa : Ascends 0 a) (ob : Asce
 
 -- that of two places among the same groups, both with the winning tile
 place-order : (u : Renaming) (a b : List ℕ) (win i j i′ j′ : ℕ) → Ascends 0 a → Ascends 0 b
-    → ((p : ℕ) → i ≡ suc p → 1 ≤ uses (getD a p 0) win) → ((p : ℕ) → i′ ≡ suc p → 1 ≤ uses (getD a p 0) win) → Placed u a b i j → Placed u a b i′ j′ → i < i′ → j < j′
+    → ((p : ℕ) → i ≡ suc p → 1 ≤ uses (getD a p 0) win) → ((p : ℕ) → i′ ≡ suc p → 1 ≤ uses (getD a p 0) win) → Placed u a b i j → Placed u a b i′ j′ → i < i′
+    → j < j′
 place-order u a b win i j i′ j′ oa ob h h′ (at-pair p q) (at-pair p′ q′) l = absurd (omega arith)
 place-order u a b win i j i′ j′ oa ob h h′ (at-pair p q) (at-group p′ q′ ei ej lp lq e r) l = omega arith
 place-order u a b win i j i′ j′ oa ob h h′ (at-group p q ei ej lp lq e r) (at-pair p′ q′) l = absurd (omega arith)
@@ -173,7 +177,8 @@ place-order u a b win i j i′ j′ oa ob h h′ (at-group p q ei ej lp lq e r) 
 
 -- both
 module _ (u : Renaming) (a b a′ b′ : List ℕ) (oa : Ascends 0 a) (ob : Ascends 0 b) (oa′ : Ascends 0 a′) (ob′ : Ascends 0 b′)
-    (few : length a ≤ 4) (long : length a ≡ length a′) (same : (k : ℕ) → usedBy a k ≡ usedBy a′ k) (win i j i′ j′ : ℕ) (c : Carries u a b i j) (c′ : Carries u a′ b′ i′ j′)
+    (few : length a ≤ 4) (long : length a ≡ length a′) (same : (k : ℕ) → usedBy a k ≡ usedBy a′ k) (win i j i′ j′ : ℕ) (c : Carries u a b i j)
+    (c′ : Carries u a′ b′ i′ j′)
     (h : (p : ℕ) → i ≡ suc p → 1 ≤ uses (getD a p 0) win) (h′ : (p : ℕ) → i′ ≡ suc p → 1 ≤ uses (getD a′ p 0) win) where
   pub carries-order : Lex a a′ ⊎ ((a ≡ a′) × (i < i′)) → Lex b b′ ⊎ ((b ≡ b′) × (j < j′))
   carries-order (inl l) = inl (groups-order u a b a′ b′ oa ob oa′ ob′ few long same (c .sums) (c′ .sums) l)

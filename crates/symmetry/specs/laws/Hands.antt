@@ -132,10 +132,12 @@ module _ (u : Renaming) (h k : Hand) (s : Renames u h k) where
   unfolding inMelds
   melds-hold j = rw (s .m, one 0, one 1, one 2, one 3)
     where
-      one : (i : ℕ) → cond (ltb i (h .held .m)) (meldHolds (getD (k .held .melds) i 0) (f₀ j)) 0 ≡ cond (ltb i (h .held .m)) (meldHolds (getD (h .held .melds) i 0) j) 0
+      one : (i : ℕ) → cond (ltb i (h .held .m)) (meldHolds (getD (k .held .melds) i 0) (f₀ j)) 0
+          ≡ cond (ltb i (h .held .m)) (meldHolds (getD (h .held .melds) i 0) j) 0
       one i = go (ltb i (h .held .m)) refl
         where
-          go : (b : Bool) → ltb i (h .held .m) ≡ b → cond b (meldHolds (getD (k .held .melds) i 0) (f₀ j)) 0 ≡ cond b (meldHolds (getD (h .held .melds) i 0) j) 0
+          go : (b : Bool) → ltb i (h .held .m) ≡ b → cond b (meldHolds (getD (k .held .melds) i 0) (f₀ j)) 0
+              ≡ cond b (meldHolds (getD (h .held .melds) i 0) j) 0
           go true e = let l = ltb-true i (h .held .m) e in rw (s .melds i l) (meld-holds u (getD (h .held .melds) i 0) (s .good i l) j)
           go false e = refl
 

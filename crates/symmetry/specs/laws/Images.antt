@@ -84,7 +84,8 @@ module _ (u : Renaming) (h k : Hand) where
       go (inl l) = inl (rw (eq, ec) (kind-order u (r .pair) (p .pair) (pairs-alike (r .pair) (p .pair) (x .codes) (y .codes) (x .order) (y .order) tiles) l))
       go (inr (e, l)) = inr (
         eq ∙ ap (renamed (u .to)) e ∙ sym ec,
-        carries-order u (x .codes) (v .codes) (y .codes) (w .codes) (x .order) (v .order) (y .order) (w .order) (omega (arith, x .size)) (lengths r p x y) (used e)
+        carries-order u (x .codes) (v .codes) (y .codes) (w .codes) (x .order) (v .order) (y .order) (w .order) (omega (arith, x .size)) (lengths r p x y)
+            (used e)
             (h .fields .winning) (r .place) (q .place) (p .place) (c .place) s z (λ i f. place-holds r x i f .1) (λ i f. place-holds p y i f .1) l,
       )
 

@@ -111,7 +111,8 @@ module _ (u : Renaming) (h k : Hand) (s : Renames u h k) where
         go (at-group p q ei ej lp lq e z) =
             let g = group-at 0 a p (x .order) lp in
             let y : 1 ≤ uses (getD b q 0) (k .fields .winning) = rw (e, win-renamed u h k s, uses-code u (getD a p 0) win g) (place-holds r x p ei .1) in
-            let z : holds (image .pair) (image .groups) (suc q) (k .fields .winning) ≡ true = holds-at (f (r .pair)) (k .held .m) (k .fields .winning) b q lq ∙ le-leb 1 _ y in
+            let z : holds (image .pair) (image .groups) (suc q) (k .fields .winning) ≡ true =
+            holds-at (f (r .pair)) (k .held .m) (k .fields .winning) b q lq ∙ le-leb 1 _ y in
             (omega (arith, long), rw ej z)
 
     reads : IsRegular (concealedTally k) (k .held .m) (k .fields .winning) image

@@ -27,7 +27,8 @@ use Rattle.hand_record.specs.laws.Bounds.{bounds-of}
 use Rattle.score.specs.declared.Scored.{Scored}
 use Rattle.score.specs.Score.{scoreOf}
 use Rattle.score.specs.Claims.{scored}
-use Rattle.symmetry.specs.Renamed.{IsRenaming, renamed, renamedMeld, renamedFields, renamedHeld, renamedHand, renamedRecord, inOrder, isAllGreen, SameScore}
+use Rattle.symmetry.specs.Renamed.{IsRenaming, renamed, renamedMeld, renamedFields, renamedHeld, renamedHand, renamedRecord, inOrder, isAllGreen}
+use Rattle.symmetry.specs.Renamed.{SameScore}
 use Rattle.symmetry.specs.laws.Kinds.{Renaming, back, renaming, there-back, lt-stays}
 use Rattle.symmetry.specs.laws.Codes.{at-kind}
 use Rattle.tiles.specs.laws.Sums.{sumOver, sum-cong, over-places, over-map, over-cong, over-length}
@@ -178,7 +179,8 @@ module _ (u : Renaming) (h : Hand) (y : Accepted h) (i : IsHand h) where
     concealed = length-fill 13 tiles (omega (arith, tiles-long));
     bytes =
         below-fill 256 4 melds
-        (below-map 256 (renamedMeld (u .to)) (take (x₀ .m) (x₀ .melds)) (omega arith) (λ b l. byte-stays u b l) (below-take 256 (x₀ .m) (x₀ .melds) (i .bytes)));
+        (below-map 256 (renamedMeld (u .to)) (take (x₀ .m) (x₀ .melds)) (omega arith) (λ b l. byte-stays u b l)
+        (below-take 256 (x₀ .m) (x₀ .melds) (i .bytes)));
   }
 
   -- ---- it is accepted as it was

@@ -29,7 +29,8 @@ use Rattle.points_value.specs.declared.Value.{Value}
 use Rattle.points_value.specs.Value.{valueOf, basicOf}
 use Rattle.score_best.specs.Best.{Over, withYakuman, upTo}
 use Rattle.score.specs.declared.Scored.{Scored}
-use Rattle.score.specs.Named.{wonOf, seatsOf, groupsOf, waysOf, fullReadingOf, worth, IsReadingOf, ReadsWithYaku, IsReported, triedIn, scoredAs, Named, reported, six, seven, acceptedAs}
+use Rattle.score.specs.Named.{wonOf, seatsOf, groupsOf, waysOf, fullReadingOf, worth, IsReadingOf, ReadsWithYaku, IsReported, triedIn, scoredAs, Named}
+use Rattle.score.specs.Named.{reported, six, seven, acceptedAs}
 use Rattle.score.specs.Readings.{AreReadingsOf, readingsOf, are-readings, only-readings}
 use Rattle.score.specs.Score.{scoreOf}
 use Rattle.score.specs.Claims.{scored}

@@ -23,7 +23,9 @@ use Rattle.symmetry.specs.Renamed.{renamed, SameItems}
 use Rattle.symmetry.specs.laws.Kinds.{Renaming, isNumber-stays, isHonour-stays, isTerminal-stays, isYaochu-stays, isSimple-stays}
 use Rattle.symmetry.specs.laws.Codes.{renamedCode, groupFu-code}
 use Rattle.symmetry.specs.laws.Tallies.{only-stays, flush-stays, half-stays, gates-stays}
-use Rattle.symmetry.specs.laws.Alike.{Moved, SamePlace, count-moved, dragons-moved, little-moved, winds-stay, valueHan-moved, twins-moved, runs-moved, triplets-three, straight-moved, outside-moved, triplets-moved, concealed-moved, kans-moved, value-pair, wait-moved, pinfu-moved}
+use Rattle.symmetry.specs.laws.Alike.{Moved, SamePlace, count-moved, dragons-moved, little-moved, winds-stay, valueHan-moved, twins-moved, runs-moved}
+use Rattle.symmetry.specs.laws.Alike.{triplets-three, straight-moved, outside-moved, triplets-moved, concealed-moved, kans-moved, value-pair}
+use Rattle.symmetry.specs.laws.Alike.{wait-moved, pinfu-moved}
 
 -- w is worth what v is, but for the order of the groups' items
 pub record SameWorth (v w : Value) : Type 0 where
@@ -74,7 +76,8 @@ module _ (u : Renaming) (w : Won) (t : List ℕ) (e : (k : ℕ) → k < 34 → g
   numbers-stay : only t isNumber ≡ only (w .tally) isNumber
   numbers-stay = only-stays u (w .tally) t e isNumber isNumber (isNumber-stays u)
 
-  pinfu-stays : pinfu (w .closed) r (renamed (u .to) pair) at (renamed (u .to) (w .win)) (w .round) (w .own) ≡ pinfu (w .closed) g pair place (w .win) (w .round) (w .own)
+  pinfu-stays : pinfu (w .closed) r (renamed (u .to) pair) at (renamed (u .to) (w .win)) (w .round) (w .own)
+      ≡ pinfu (w .closed) g pair place (w .win) (w .round) (w .own)
   pinfu-stays = pinfu-moved u g ws r v m place at here (w .win) (w .closed) pair (w .round) (w .own) hr ho
 
   tests-stay : testsOf w′ q ≡ testsOf w p

@@ -50,7 +50,13 @@ pub +digits-spec : {M : Type 1} → statement M
     (λ c κs. (omega arith, omega (arith, length-more (c .before .before .before .args .n) (c .before .if1 .left))))
     (λ c. omega arith)
     (λ c. omega arith)
-    (λ c. omega (arith, length-more (c .before .before .before .before .before .before .args .n) (c .before .before .before .before .if1 .left), c .before .before .digits .kept .0))
+    (λ c. omega (
+      arith,
+      length-more (c .before .before .before .before .before .before .args .n)
+          (c .before .before .before .before .if1 .left),
+      c .before .before .digits .kept .0,
+    ))
     (λ c. omega (arith, length-more (c .before .before .before .before .before .before .args .n) (c .before .before .before .before .if1 .left)))
-    (λ c. length-set (c .before .before .digits .last .0) (c .before .before .digits .result) (48 + c .before .before .before .before .before .before .args .n % 10) ∙ c .before .before .digits .kept .0)
+    (λ c. length-set (c .before .before .digits .last .0) (c .before .before .digits .result)
+    (48 + c .before .before .before .before .before .before .args .n % 10) ∙ c .before .before .digits .kept .0)
     (last-returns t)

@@ -11,7 +11,9 @@ use Rattle.text.proofs.line.Statement.{statement}
 use Rattle.text.proofs.line.Tie as tie
 
 -- what was made is the line, and the number returned is its length
-made : (c : tie.After-put-line) → take (c .put-line .result) (c .put-line .last .0) ≡ lineOf (c .before .before .before .args .entry) (c .before .before .before .args .letter) (c .before .before .before .args .refusal) (c .before .before .before .args .scores) (c .before .before .before .args .sticks)
+made : (c : tie.After-put-line) → take (c .put-line .result) (c .put-line .last .0)
+    ≡ lineOf (c .before .before .before .args .entry) (c .before .before .before .args .letter) (c .before .before .before .args .refusal)
+    (c .before .before .before .args .scores) (c .before .before .before .args .sticks)
 made c = take-put (c .put-line .ensures .0) (c .put-line .ensures .1)
 
 long : (c : tie.After-put-line) → c .put-line .result ≡ length (take (c .put-line .result) (c .put-line .last .0))
@@ -29,8 +31,14 @@ returns-2 c =
     let s = c .before .before .before .before .before .before .before .before .before .before .args in
     let t = lineOf (s .entry) (s .letter) (s .refusal) (s .scores) (s .sticks) in
     let h = le-leb (length t) (length (s .buf .now)) (omega (arith, c .before .before .before .before .before .before .before .put-line .ensures .0 .place)) in
-    let q : take (length t) t ≡ t = take-length t in
-    (c .before .before .copy .ensures .0 ∙ rw (made (c .before .before .before .before .before .before .before), h), (c .before .before .copy .ensures .1 ∙ rw (made (c .before .before .before .before .before .before .before), q, h), omega (arith, c .before .before .before .before .before .before .before .put-line .ensures .0 .place)))
+    let q : take (length t) t ≡ t = take-length t in (
+      c .before .before .copy .ensures .0 ∙ rw (made (c .before .before .before .before .before .before .before), h),
+      (
+        c .before .before .copy .ensures .1 ∙ rw (made (c .before .before .before .before .before .before .before), q, h),
+        omega
+            (arith, c .before .before .before .before .before .before .before .put-line .ensures .0 .place),
+      ),
+    )
 
 pub line-spec : {M : Type 1} → statement M
 line-spec =

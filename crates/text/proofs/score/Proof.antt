@@ -9,7 +9,8 @@ use Rattle.text.proofs.score.Statement.{statement}
 use Rattle.text.proofs.score.Tie as tie
 
 -- what `signed` put there
-put : (c : tie.After-signed) → Put (c .before .before .before .args .buf .now) (c .before .before .before .args .at) (signedOf (c .before .before .before .args .n)) (c .signed .last .0) (c .signed .result)
+put : (c : tie.After-signed) → Put (c .before .before .before .args .buf .now) (c .before .before .before .args .at)
+    (signedOf (c .before .before .before .args .n)) (c .signed .last .0) (c .signed .result)
 put c = rw (toZ-ofZ (c .before .before .before .fits .n)) at (c .signed .ensures)
 
 signed-requires : tie.Need-signed-requires
@@ -28,7 +29,17 @@ score-spec =
     tie.close
     (tie.spec
     signed-requires
-    (λ c. omega (arith, put (c .before .before) .place, length-signed-32 (c .before .before .before .before .before .args .n) (c .before .before .before .before .before .fits .n)))
-    (λ c. omega (arith, put (c .before .before) .place, length-signed-32 (c .before .before .before .before .before .args .n) (c .before .before .before .before .before .fits .n)))
+    (λ c. omega (
+      arith,
+      put (c .before .before) .place,
+      length-signed-32 (c .before .before .before .before .before .args .n)
+          (c .before .before .before .before .before .fits .n),
+    ))
+    (λ c. omega (
+      arith,
+      put (c .before .before) .place,
+      length-signed-32 (c .before .before .before .before .before .args .n)
+          (c .before .before .before .before .before .fits .n),
+    ))
     (λ c. search needs)
     returns)

@@ -49,7 +49,8 @@ pub digits-are-digits : (n k : ℕ) → k < length (digitsOf n) → IsDigit (get
 digits-are-digits n =
     by-tenths (λ m. (k : ℕ) → k < length (digitsOf m) → IsDigit (getD (digitsOf m) k 0))
     (λ m h k g. let q : k ≡ 0 = omega (arith, length-one m h) in rw (q, digits-one m h) (omega arith, omega arith))
-    (λ m h e k g. rw (digits-more m h) (digit-last (digitsOf (m / 10)) (48 + m % 10) k (omega arith, omega arith) e (omega (arith, length-more m h)))) (suc n) n (omega arith)
+    (λ m h e k g. rw (digits-more m h) (digit-last (digitsOf (m / 10)) (48 + m % 10) k (omega arith, omega arith) e (omega (arith, length-more m h))))
+    (suc n) n (omega arith)
 
 -- there is a digit
 pub digits-some : (n : ℕ) → 0 < length (digitsOf n)
@@ -59,7 +60,8 @@ digits-some n =
 pub no-leading-zero : (n : ℕ) → 0 < n → 48 < getD (digitsOf n) 0 0
 no-leading-zero n =
     by-tenths (λ m. 0 < m → 48 < getD (digitsOf m) 0 0) (λ m h g. rw (digits-one m h) (omega arith))
-    (λ m h e g. rw (digits-more m h, List·getD-append (digitsOf (m / 10)) ((48 + m % 10) ∷ []) 0 0 (digits-some (m / 10))) (e (omega arith))) (suc n) n (omega arith)
+    (λ m h e g. rw (digits-more m h, List·getD-append (digitsOf (m / 10)) ((48 + m % 10) ∷ []) 0 0 (digits-some (m / 10))) (e (omega arith))) (suc n) n
+    (omega arith)
 
 -- with a sign: a digit is no minus
 plain-back : (l : List ℕ) (n : ℕ) → 0 < length l → 48 ≤ getD l 0 0 → numberIn l ≡ n → signedIn l ≡ pos n

@@ -23,7 +23,8 @@ unfolding lastDigits
 enough zero j n h g = absurd (omega arith)
 enough (suc k) zero n h g = absurd (omega arith)
 enough (suc k) (suc j) n h g =
-    ap (λ (l : List ℕ). l ++ ((48 + n % 10) ∷ [])) (guarded n (ltb n 10) refl (lastDigits k (n / 10)) (lastDigits j (n / 10)) (λ m. enough k j (n / 10) (omega arith) (omega arith)))
+    ap (λ (l : List ℕ). l ++ ((48 + n % 10) ∷ []))
+    (guarded n (ltb n 10) refl (lastDigits k (n / 10)) (lastDigits j (n / 10)) (λ m. enough k j (n / 10) (omega arith) (omega arith)))
 
 -- one digit, and more
 pub digits-one : (n : ℕ) → n < 10 → digitsOf n ≡ (48 + n) ∷ []

@@ -38,7 +38,8 @@ unfoldable pub scoresText : List ℤ → List ℕ
 scoresText s = (scoreText s 0 ++ (32 ∷ [])) ++ ((scoreText s 1 ++ (32 ∷ [])) ++ ((scoreText s 2 ++ (32 ∷ [])) ++ (scoreText s 3 ++ (32 ∷ []))))
 
 -- a line by its parts
-pub line-parts : (e letter r : ℕ) (s : List ℤ) (k : ℕ) → lineOf e letter r s k ≡ (digitsOf e ++ (32 ∷ [])) ++ ((letter ∷ 32 ∷ []) ++ ((digitsOf r ++ (32 ∷ [])) ++ (scoresText s ++ (digitsOf k ++ (10 ∷ [])))))
+pub line-parts : (e letter r : ℕ) (s : List ℤ) (k : ℕ) → lineOf e letter r s k
+    ≡ (digitsOf e ++ (32 ∷ [])) ++ ((letter ∷ 32 ∷ []) ++ ((digitsOf r ++ (32 ∷ [])) ++ (scoresText s ++ (digitsOf k ++ (10 ∷ [])))))
 unfolding lineOf spaced scoresText
 line-parts e letter r s k = simp append-assoc
 

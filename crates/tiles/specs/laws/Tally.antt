@@ -64,5 +64,6 @@ module _ (t : List ℕ) (l : length t ≡ 34) where
       go false e = rw (List·getD-eq-default t 0 {n = k} (omega (arith, ltb-false k 34 e))) (omega arith)
 
   -- n more of kind a, over a tally that is known kind by kind
-  pub more-adds : (u : List ℕ) (f : ℕ → ℕ) (a n : ℕ) → u ≡ more t a n → ((k : ℕ) → k < 34 → getD t k 0 ≡ f k) → (k : ℕ) → k < 34 → getD u k 0 ≡ f k + atKind a n k
+  pub more-adds : (u : List ℕ) (f : ℕ → ℕ) (a n : ℕ) → u ≡ more t a n → ((k : ℕ) → k < 34 → getD t k 0 ≡ f k) → (k : ℕ) → k < 34
+      → getD u k 0 ≡ f k + atKind a n k
   more-adds u f a n e h k g = rw (e, getD-more t a n k (omega arith), h k g)

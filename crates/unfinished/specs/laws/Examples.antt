@@ -13,5 +13,6 @@ pub worked : readOf (32 ∷ 34 ∷ 10 ∷ 49 ∷ 69 ∷ 24 ∷ 105 ∷ 203 ∷ 1
       refusal = 0;
       held = record { m = 1; melds = 1 ∷ 0 ∷ 0 ∷ 0 ∷ []; concealed = 4 ∷ 5 ∷ 6 ∷ 10 ∷ 10 ∷ 12 ∷ 13 ∷ 14 ∷ 23 ∷ 24 ∷ 0 ∷ 0 ∷ 0 ∷ [] };
     }
-unfolding every some number atKind meldHolds inMelds inOthers inHeld tileOver33 wrongHeld descends overFour meldsOf tilesOf heldIn paddingAfter countIn heldRefusal refusalOf readOf
+unfolding every some number atKind meldHolds inMelds inOthers inHeld tileOver33 wrongHeld descends overFour meldsOf tilesOf heldIn paddingAfter countIn
+    heldRefusal refusalOf readOf
 worked = refl

@@ -25,7 +25,8 @@ givenBy x padding = cond (ltb 0 (heldRefusal x padding)) (refusedWith (heldRefus
 
 -- the widths fill the bytes
 pub whole : (m : ℕ) → m ≤ 4
-    → (3 + 8 * m + 6 * (13 - 3 * m) + padOf m ≡ 8 * lengthOf m) × (81 - 10 * m + padOf m ≡ 8 * lengthOf m) × (padOf m < 8) × (lengthOf m ≤ 13) × (0 < lengthOf m)
+    → (3 + 8 * m + 6 * (13 - 3 * m) + padOf m ≡ 8 * lengthOf m) × (81 - 10 * m + padOf m ≡ 8 * lengthOf m) × (padOf m < 8) × (lengthOf m ≤ 13)
+    × (0 < lengthOf m)
 whole zero h = (refl, refl, omega arith, omega arith, omega arith)
 whole (suc zero) h = (refl, refl, omega arith, omega arith, omega arith)
 whole (suc (suc zero)) h = (refl, refl, omega arith, omega arith, omega arith)

@@ -134,7 +134,8 @@ module _ (s : List ℕ) (r : Unfinished) (e : r ≡ readOf s) where
   unfolding readOf
   refusal-is = ap (λ (x : Unfinished). x .refusal) e ∙ go (refusalOf s) noneHeld (heldOf s) (ltb 0 (refusalOf s)) refl
     where
-      go : (n : ℕ) (x y : Held) (b : Bool) → ltb 0 n ≡ b → cond {A = Unfinished} b (record { refusal = n; held = x }) (record { refusal = 0; held = y }) .refusal ≡ n
+      go : (n : ℕ) (x y : Held) (b : Bool) → ltb 0 n ≡ b
+          → cond {A = Unfinished} b (record { refusal = n; held = x }) (record { refusal = 0; held = y }) .refusal ≡ n
       go n x y true q = refl
       go n x y false q = omega (arith, ltb-false 0 n q)
 

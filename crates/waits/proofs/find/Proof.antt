@@ -47,4 +47,5 @@ find-spec =
     (λ c.
     let k = c .before .before .before in
     let e = k .before .before in
-    told _ _ _ (found-waits _ _ (e .before .read .result) (e .before .read .ensures) (e .if1 .left) (kinds k) _ _ (c .before .wait-set .ensures) (c .in-furiten .ensures))))
+    told _ _ _ (found-waits _ _ (e .before .read .result) (e .before .read .ensures) (e .if1 .left) (kinds k) _ _ (c .before .wait-set .ensures)
+    (c .in-furiten .ensures))))

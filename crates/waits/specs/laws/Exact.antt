@@ -44,10 +44,12 @@ module _ (s d : List ℕ) where
           → IsWaits s d (cond b (refusedWith 15) (record { refusal = 0; waits = W; furiten = someIn d (λ k. getD W k false) }))
       second z true e = fifteen z (over-exactly d .0 e)
       second z false e =
-          answered z (λ o. mathlib.Core.Bool.false≢true (sym e ∙ over-exactly d .1 o)) W (someIn d (λ k. getD W k false)) (length-waits (heldOf s)) (set-exactly (heldOf s)) furiten-exactly
+          answered z (λ o. mathlib.Core.Bool.false≢true (sym e ∙ over-exactly d .1 o)) W (someIn d (λ k. getD W k false)) (length-waits (heldOf s))
+          (set-exactly (heldOf s)) furiten-exactly
 
       first : (b : Bool) → ltb 0 (refusalOf s) ≡ b
-          → IsWaits s d (cond b (refusedWith (refusalOf s)) (cond (someIn d (ltb 33)) (refusedWith 15) (record { refusal = 0; waits = W; furiten = someIn d (λ k. getD W k false) })))
+          → IsWaits s d (cond b (refusedWith (refusalOf s))
+          (cond (someIn d (ltb 33)) (refusedWith 15) (record { refusal = 0; waits = W; furiten = someIn d (λ k. getD W k false) })))
       first true e = unreadable (ltb-true 0 (refusalOf s) e)
       first false e = second (omega (arith, ltb-false 0 (refusalOf s) e)) (someIn d (ltb 33)) refl
 

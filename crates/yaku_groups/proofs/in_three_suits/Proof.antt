@@ -10,4 +10,10 @@ in-three-suits-spec =
     tie.close
     (tie.spec
     (λ c. search needs) (λ c κs. search needs) (λ c. search needs) (λ c κs. search needs) (λ c. search needs)
-    (λ c κs. search needs) (λ c. search needs) (λ c κs. search needs) (λ c. rw (c .in-three-at4 .ensures, c .before .in-three-at3 .ensures, c .before .before .in-three-at2 .ensures, c .before .before .before .in-three-at .ensures)))
+    (λ c κs. search needs) (λ c. search needs) (λ c κs. search needs)
+    (λ c. rw (
+      c .in-three-at4 .ensures,
+      c .before .in-three-at3 .ensures,
+      c .before .before .in-three-at2 .ensures,
+      c .before .before .before .in-three-at .ensures,
+    )))

@@ -42,4 +42,5 @@ gates-spec =
     let a = first .before .before in
     let x = a .args in
     rw (first .gates-of .ensures, two .gates-of2 .ensures, c .gates-of3 .ensures)
-    (one (x .meldless) ((x .man || x .pin) || x .sou) _ (not-false _ (first .before .if1 .left)) ∙ by-suits (x .t) (x .meldless) (x .man) (x .pin) (x .sou) (a .pre))))
+    (one (x .meldless) ((x .man || x .pin) || x .sou) _ (not-false _ (first .before .if1 .left))
+    ∙ by-suits (x .t) (x .meldless) (x .man) (x .pin) (x .sou) (a .pre))))

@@ -74,7 +74,8 @@ of-sort t p s ks e =
     one-answer (λ k. eqb (getD t k 0) 0) p s ks e
     ∙ ap (λ (b : Bool). s || b)
     (sym
-    (ap not (any-cong (λ k. ltb 0 (getD t k 0)) (λ k. not (eqb (getD t k 0) 0)) false ks (λ k. there (getD t k 0)) ∙ any-absent (λ k. eqb (getD t k 0) 0) false ks)
+    (ap not (any-cong (λ k. ltb 0 (getD t k 0)) (λ k. not (eqb (getD t k 0) 0)) false ks (λ k. there (getD t k 0))
+    ∙ any-absent (λ k. eqb (getD t k 0) 0) false ks)
     ∙ double (allOf ks (λ k. eqb (getD t k 0) 0))))
 
 -- ---- all kinds, sort by sort

@@ -23,11 +23,19 @@ abbrev start : tie.After-han-for Inv-loop μ-loop → tie.Start Inv-loop μ-loop
 start c = c .before .before .before
 
 turn : (c : tie.After-han-for Inv-loop μ-loop)
-    → (c .han-for .result .0 ≡ cond (getD (start c .args .t1) (c .before .before .loop .i) false) (getD (hanFor (start c .args .closed)) (c .before .before .loop .i) 0) 0) × (c .han-for .result .0 ≤ 6)
+    → (c .han-for .result .0 ≡ cond (getD (start c .args .t1) (c .before .before .loop .i) false)
+    (getD (hanFor (start c .args .closed)) (c .before .before .loop .i) 0) 0) × (c .han-for .result .0 ≤ 6)
 turn c =
     let h = han-at (start c .args .closed) (c .before .before .loop .i) (c .before .loop-test .taken) in
-    let e = c .han-for .ensures ∙ ap (λ (n : ℕ). cond (getD (start c .args .t1) (c .before .before .loop .i) false) n 0) (h .0) in
-    (e, omega (arith, e, cond-le (getD (start c .args .t1) (c .before .before .loop .i) false) (getD (hanFor (start c .args .closed)) (c .before .before .loop .i) 0) 0 6 (h .1) (omega arith)))
+    let e = c .han-for .ensures ∙ ap (λ (n : ℕ). cond (getD (start c .args .t1) (c .before .before .loop .i) false) n 0) (h .0) in (
+      e,
+      omega (
+        arith,
+        e,
+        cond-le (getD (start c .args .t1) (c .before .before .loop .i) false)
+            (getD (hanFor (start c .args .closed)) (c .before .before .loop .i) 0) 0 6 (h .1) (omega arith),
+      ),
+    )
 
 pub han-by-spec : {M : Type 1} → statement M
 unfolding hanBy
