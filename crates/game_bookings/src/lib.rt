@@ -74,7 +74,8 @@ fn book(g: Game, m: Moved, earlier: Position, correctable: u32) -> Booked
     }
 }
 
-// Riichi of a seat. Refused with 8, 9, 10, 21 as `position_bookings::riichi` has it; 9 too where the earlier position is kept and out of form, as every booking is.
+// Riichi of a seat. Refused with 8, 9, 10, 21 as `position_bookings::riichi` has it; 9 too where the earlier position is kept and out of form, as every
+// booking is.
 pub fn riichi(g: Game, seat: u8) -> Booked
     ensures { λ r. ⌜ Books g (booking (Booking.riichi seat)) (r .refusal) (r .game) ⌝ }
 {

@@ -21,7 +21,7 @@ pub struct Fields {
     pub winning: u8,
 }
 
-// The tiles held: m melds, each 64 times its kind and its tile, and 13 - 3m concealed tiles beside the winning one. Unused places are 0.
+// The tiles held: m melds, each 64 times its kind plus its tile, and 13 - 3m concealed tiles beside the winning one. Unused places are 0.
 #[repr(C)]
 pub struct Held {
     pub m: u8,

@@ -188,7 +188,8 @@ pub extern "C" fn hb_pao(g: &mut Game, holder: u8, feeder: u8, yaku: u8) -> u8
     b.refusal
 }
 
-// The correction of the last finished booking by a win, which is booked in the earlier position; 9 where the game is out of form, 20 where there is none to supersede.
+// The correction of the last finished booking by a win, which is booked in the earlier position; 9 where the game is out of form, 20 where there is none
+// to supersede.
 #[no_mangle]
 pub extern "C" fn hb_correct_win(g: &mut Game, s: &[u8]) -> u8
     ensures { λ r. ⌜ Books (now (g .entry)) (correction (Booking.win (now (s .entry)))) r (now (g .exit)) ⌝ }
@@ -276,7 +277,8 @@ pub extern "C" fn hb_log_start() -> Walk
     log_walk::start()
 }
 
-// Books entries of a log from where a walk stands and writes their lines into a buffer, as many whole lines as fit: how many bytes, and where the walk then stands.
+// Books entries of a log from where a walk stands and writes their lines into a buffer, as many whole lines as fit: how many bytes, and where the walk
+// then stands.
 #[no_mangle]
 pub extern "C" fn hb_log_lines(w: Walk, s: &[u8], buf: &mut [u8]) -> Printed
     ensures { λ r. ⌜ r ≡ linesOf (length (now (buf .entry))) w (now (s .entry)) ⌝ }
@@ -294,7 +296,8 @@ fn line_of(p: Position, entry: u32, letter: u8, refusal: u8, buf: &mut [u8]) -> 
     text::line(buf, entry, letter, refusal, scores, p.sticks)
 }
 
-// A line of `tally` at the start of a buffer, or nothing where it does not fit: an entry's number, letter and refusal, and the lent position's scores and sticks.
+// A line of `tally` at the start of a buffer, or nothing where it does not fit: an entry's number, letter and refusal, and the lent position's scores and
+// sticks.
 #[no_mangle]
 pub extern "C" fn hb_log_line(
     p: &Position,

@@ -19,7 +19,11 @@ use Rattle.log_walk.specs.declared.Printed.{Printed}
 -- "kind 4 bits (.. 1 win, 2 draw, 3 chombo)"; "kind 4 .. its argument being how many records follow" (02, S-6): the result of such a kind, its argument and
 -- the bytes after the header, where of a win "its record follows"; any other kind, which no part has, counts as 3
 abbrev pub resultBy : ℕ → ℕ → List ℕ → Result
-resultBy kind argument s = cond (eqb kind winKind) (win s) (cond (eqb kind drawKind) (draw argument) (cond (eqb kind multiRonKind) (multiRon argument s) (chombo argument)))
+resultBy kind argument s =
+    cond (eqb kind winKind) (win s)
+    (cond (eqb kind drawKind) (draw argument)
+    (cond (eqb kind multiRonKind) (multiRon argument s)
+    (chombo argument)))
 
 -- "0 riichi"; "kind 5" is pao (02, S-8)
 abbrev pub bookingBy : ℕ → ℕ → List ℕ → Booking

@@ -39,7 +39,7 @@ fn plain(h: Han, f: Fu) -> Points
     Points(wide_fu(f) << (n + 2))
 }
 
-// What A is from 5 han or 2,000 on.
+// What A is where h is 5 or more, or A exceeds 2,000.
 fn limit(h: Han) -> Points
     ensures { λ r. ⌜ r .0 ≡ limitOf (h .0) ⌝ }
     ensures { λ r. ⌜ r .0 ≤ 6000 ⌝ }

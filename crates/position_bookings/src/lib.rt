@@ -66,7 +66,8 @@ fn lacks_stick(s: [i32; 4], seat: u8) -> bool
     s[i] < 1000
 }
 
-// Riichi: the seat declares. Refused with 8, a seat over 3; 9, a position that is not open; 10, a seat that has declared already; 21, one with under 1,000 points.
+// Riichi: the seat declares. Refused with 8, a seat over 3; 9, a position that is not open; 10, a seat that has declared already; 21, one with under 1,000
+// points.
 pub fn riichi(p: Position, seat: u8) -> Moved
     ensures { λ r. ⌜ Moves p (Booking.riichi seat) (r .refusal) (r .position) ⌝ }
 {

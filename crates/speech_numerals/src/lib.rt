@@ -1,4 +1,5 @@
-// Numbers as clips in four languages (SPEECH, Numbers): 1 Japanese, 2 English, 3 Korean, 4 Mandarin. A function that is given a buffer requires room for its work.
+// Numbers as clips in four languages (SPEECH, Numbers): 1 Japanese, 2 English, 3 Korean, 4 Mandarin. A function that is given a buffer requires room for
+// its work.
 ghost use mathlib.Core.Path.{_≡_};
 ghost use mathlib.Core.Bool.{cond};
 ghost use Prim.Native.Nat.{_+_, _≤_, _<_};

@@ -12,7 +12,7 @@ pub struct Fu(pub u8);
 // Points: the basic points A, a payment, the winner's gain.
 pub struct Points(pub u32);
 
-// A count as han: 1 for each thing counted.
+// A count as han.
 pub fn han_of(n: u8) -> Han
     ensures { λ r. ⌜ r .0 ≡ n ⌝ }
     ensures { λ r. ⌜ r .0 < 256 ⌝ }

@@ -23,15 +23,15 @@ valueHanOf w p = valueHan (p .groups) (w .round) (w .own) (littleDragons (p .gro
 unfoldable pub testsOf : Won → FullReading → List Bool
 testsOf w p =
     false
-    -- 1 "tsumo c"
+    -- 1 "tsumo c1"
     ∷ (w .closed && not (w .ron))
     -- 2 "all simples"
     ∷ only (w .tally) isSimple
     -- 3 "value triplet": it counts at least one
     ∷ ltb 0 (valueHanOf w p)
-    -- 4 "pinfu c"
+    -- 4 "pinfu c1"
     ∷ pinfu (w .closed) (p .groups) (p .pair) (p .place) (w .win) (w .round) (w .own)
-    -- 5 "one twin run c"
+    -- 5 "one twin run (a run held twice or thrice) c1"
     ∷ (w .closed && eqb (twins (p .groups)) 1)
     -- 6 "chankan"
     ∷ eqb (w .situation) 2
@@ -41,11 +41,11 @@ testsOf w p =
     ∷ (eqb (w .situation) 3 && not (w .ron))
     -- 9 "last tile ron"
     ∷ (eqb (w .situation) 3 && w .ron)
-    -- 10 "riichi c"
+    -- 10 "riichi c1"
     ∷ (w .closed && eqb (w .riichi) 1)
-    -- 11 "double riichi c, instead of 10"
+    -- 11 "double riichi c2, instead of 10"
     ∷ (w .closed && eqb (w .riichi) 2)
-    -- 12 "seven pairs c"
+    -- 12 "seven pairs c2"
     ∷ (w .closed && eqb (p .shape) 1)
     -- 13 "same run in three suits"
     ∷ inThreeSuits 0 (p .groups)
@@ -63,7 +63,7 @@ testsOf w p =
     ∷ eqb (kans (p .ways)) 3
     -- 20 "only yaochu"
     ∷ only (w .tally) isYaochu
-    -- 21 "two twin runs (four equal runs too) c, instead of 5"
+    -- 21 "two twin runs (four equal runs too) c3, instead of 5"
     ∷ (w .closed && eqb (twins (p .groups)) 2)
     -- 22 "as 15 with no honour"
     ∷ (outside (p .groups) (p .pair) && not (honourPresent (w .tally)))
