@@ -5,7 +5,7 @@ use mathlib.Core.List.{List, List·Memᴰ as Member}
 use Prim.Native.Nat.{ℕ, _≤_}
 use lib.Dec.{eqb}
 use lib.ListN.{length, getD}
-use Rattle.tiles.specs.Below.{number}
+use Rattle.tiles.specs.Below.{countBelow}
 use Rattle.tiles.specs.Kinds.{inSuit}
 use Rattle.reading.specs.Order.{Lex}
 use Rattle.reading.specs.All.{Each, Pairwise}
@@ -13,7 +13,7 @@ use Rattle.reading_splits.specs.Splits.{Splits}
 
 -- how many of the tiles l are of kind k
 unfoldable pub among : List ℕ → ℕ → ℕ
-among l k = number (length l) (λ i. eqb (getD l i 0) k)
+among l k = countBelow (length l) (λ i. eqb (getD l i 0) k)
 
 -- "every set of 2, 5 or 8 tiles of one suit, at most four of a kind, that splits into one pair and runs or triplets. Tiles stand ascending":
 -- of any size, and any number n of runs and triplets

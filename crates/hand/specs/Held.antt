@@ -4,7 +4,7 @@ use mathlib.Core.Bool.{Bool, _&&_, _||_, cond, not}
 use Prim.Native.Nat.{ℕ, _+_, _-_, _*_, _/_, _%_}
 use lib.Dec.{ltb, leb, eqb}
 use lib.ListN.{getD}
-use Rattle.tiles.specs.Below.{all, any, every, some, sum, number}
+use Rattle.tiles.specs.Below.{all, any, allBelow, anyBelow, sum, countBelow}
 use Rattle.tiles.specs.Kinds.{isRunStart}
 use Rattle.tiles.specs.Groups.{atKind}
 use Rattle.hand.specs.declared.Held.{Held}
@@ -53,7 +53,7 @@ inMelds x k = sum 4 (λ i. cond (ltb i (x .m)) (meldHolds (getD (x .melds) i 0) 
 
 -- how many of kind k among the "13 − 3m other concealed tiles"
 unfoldable pub inOthers : Held → ℕ → ℕ
-inOthers x k = number (others x) (λ i. eqb (getD (x .concealed) i 0) k)
+inOthers x k = countBelow (others x) (λ i. eqb (getD (x .concealed) i 0) k)
 
 -- how many of kind k among melds and concealed tiles together
 unfoldable pub inHeld : Held → ℕ → ℕ
@@ -63,7 +63,7 @@ inHeld x k = inOthers x k + inMelds x k
 
 -- 2: "a tile over 33"
 unfoldable pub tileOver33 : Held → Bool
-tileOver33 x = someMeld x (λ b. ltb 33 (meldTile b)) || some (others x) (λ i. ltb 33 (getD (x .concealed) i 0))
+tileOver33 x = someMeld x (λ b. ltb 33 (meldTile b)) || anyBelow (others x) (λ i. ltb 33 (getD (x .concealed) i 0))
 
 -- 2: "a chi with no run from that tile"
 abbrev pub chiWithoutRun : Held → Bool
@@ -75,14 +75,14 @@ wrongHeld x padding = tileOver33 x || chiWithoutRun x || ltb 0 padding
 
 -- 3: "concealed tiles descend somewhere"
 unfoldable pub descends : Held → Bool
-descends x = some (others x - 1) (λ i. ltb (getD (x .concealed) (i + 1) 0) (getD (x .concealed) i 0))
+descends x = anyBelow (others x - 1) (λ i. ltb (getD (x .concealed) (i + 1) 0) (getD (x .concealed) i 0))
 
 -- 4: "over four of a kind among" tiles of which there are n k of kind k
 unfoldable pub overFour : (ℕ → ℕ) → Bool
-overFour n = some 34 (λ k. ltb 4 (n k))
+overFour n = anyBelow 34 (λ k. ltb 4 (n k))
 
 -- Write's 2: "or an unused place not zero": a meld from m on, a concealed tile from 13 − 3m on
 unfoldable pub unusedNotZero : Held → Bool
 unusedNotZero x =
     not (all 4 (λ i. ltb i (x .m) || eqb (getD (x .melds) i 0) 0))
-    || not (every 13 (λ i. ltb i (others x) || eqb (getD (x .concealed) i 0) 0))
+    || not (allBelow 13 (λ i. ltb i (others x) || eqb (getD (x .concealed) i 0) 0))

@@ -4,7 +4,7 @@ ghost use mathlib.Core.Bool.{cond};
 ghost use Prim.Native.Nat.{ℕ, _+_, _-_, _*_, _/_, _%_, _≤_, _<_};
 ghost use lib.Dec.{eqb};
 ghost use lib.ListN.{getD};
-ghost use Rattle.tiles.specs.Below.{number};
+ghost use Rattle.tiles.specs.Below.{countBelow};
 ghost use Rattle.tiles.specs.Tally.{tallyOf};
 ghost use Rattle.hand.specs.Held.{isClosed, meldHolds, inOthers, inHeld};
 ghost use Rattle.hand.specs.Hand.{concealedTally, handTally};
@@ -60,7 +60,7 @@ pub fn is_closed(x: Held) -> bool
 // The first n tiles.
 fn tally_of(c: [u8; 13], n: usize) -> [u8; 34]
     requires { ⌜ n ≤ 13 ⌝ }
-    ensures { λ r. ⌜ r ≡ tallyOf (λ k. number n (λ i. eqb (getD c i 0) k)) ⌝ }
+    ensures { λ r. ⌜ r ≡ tallyOf (λ k. countBelow n (λ i. eqb (getD c i 0) k)) ⌝ }
 {
     let mut t = [0u8; 34];
     for i in 0..n {

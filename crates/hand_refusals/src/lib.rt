@@ -5,7 +5,7 @@ ghost use mathlib.Core.Bool.{true, false, _&&_, _||_, not};
 ghost use Prim.Native.Nat.{_+_, _-_, _*_, _/_, _%_, _≤_};
 ghost use lib.Dec.{ltb, eqb};
 ghost use lib.ListN.{getD};
-ghost use Rattle.tiles.specs.Below.{every, some};
+ghost use Rattle.tiles.specs.Below.{allBelow, anyBelow};
 ghost use Rattle.tiles.specs.Kinds.{isRunStart};
 ghost use Rattle.tiles.specs.Tally.{tallyOf};
 ghost use Rattle.hand.specs.Held.{tileOver33, chiWithoutRun, wrongHeld, descends as descendsOf, overFour, unusedNotZero, hasKan};
@@ -19,7 +19,7 @@ use hand::Held;
 // A tile over 33 among the first n.
 fn over_33(c: [u8; 13], n: usize) -> bool
     requires { ⌜ n ≤ 13 ⌝ }
-    ensures { λ r. ⌜ r ≡ some n (λ i. ltb 33 (getD c i 0)) ⌝ }
+    ensures { λ r. ⌜ r ≡ anyBelow n (λ i. ltb 33 (getD c i 0)) ⌝ }
 {
     for i in 0..n {
         if 33 < c[i] {
@@ -79,7 +79,7 @@ fn followed(m: u8) -> usize
 // One of the first n tiles is over the one after it.
 fn falls(c: [u8; 13], n: usize) -> bool
     requires { ⌜ n ≤ 12 ⌝ }
-    ensures { λ r. ⌜ r ≡ some n (λ i. ltb (getD c (i + 1) 0) (getD c i 0)) ⌝ }
+    ensures { λ r. ⌜ r ≡ anyBelow n (λ i. ltb (getD c (i + 1) 0) (getD c i 0)) ⌝ }
 {
     for i in 0..n {
         if c[i + 1] < c[i] {
@@ -191,7 +191,7 @@ pub fn refusal(h: Hand, padding: u32) -> u8
 
 // Each place from n on is 0.
 fn zero_from(c: [u8; 13], n: usize) -> bool
-    ensures { λ r. ⌜ r ≡ every 13 (λ i. ltb i n || eqb (getD c i 0) 0) ⌝ }
+    ensures { λ r. ⌜ r ≡ allBelow 13 (λ i. ltb i n || eqb (getD c i 0) 0) ⌝ }
 {
     for i in 0..13 {
         if !((i < n) | (c[i] == 0)) {

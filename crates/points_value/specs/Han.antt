@@ -3,7 +3,7 @@ use mathlib.Core.Bool.{Bool, false, cond}
 use mathlib.Core.List.{List, [], _∷_}
 use Prim.Native.Nat.{ℕ, _+_}
 use lib.ListN.{getD}
-use Rattle.tiles.specs.Below.{total}
+use Rattle.tiles.specs.Below.{sumBelow}
 use Rattle.yaku.specs.Yaku.{yakuOf, valueHanOf}
 use Rattle.yaku.specs.declared.Won.{Won}
 use Rattle.yaku.specs.declared.FullReading.{FullReading}
@@ -19,7 +19,7 @@ openHan = 0 ∷ 0 ∷ 1 ∷ 0 ∷ 0 ∷ 0 ∷ 1 ∷ 1 ∷ 1 ∷ 1 ∷ 0 ∷ 0 �
 
 -- "yaku han" where each yaku n has the han at place n: the sum over the listed ones
 unfoldable pub hanBy : List Bool → List ℕ → ℕ
-hanBy y han = total 37 (λ n. cond (getD y n false) (getD han n 0) 0)
+hanBy y han = sumBelow 37 (λ n. cond (getD y n false) (getD han n 0) 0)
 
 -- "yaku han": closed or open, with what yaku 3 counts
 unfoldable pub yakuHan : List Bool → Bool → ℕ → ℕ

@@ -5,7 +5,7 @@ use mathlib.Core.List.{List, [], _∷_, _++_}
 use Prim.Native.Nat.{ℕ, zero, suc, _+_, _-_, _≤_, _<_}
 use lib.Dec.{leb, eqb}
 use lib.ListN.{length, getD, replicate}
-use Rattle.tiles.specs.Below.{every, number}
+use Rattle.tiles.specs.Below.{allBelow, countBelow}
 use Rattle.tiles.specs.Kinds.{isYaochu}
 use Rattle.tiles.specs.Groups.{isGroup, atKind, uses}
 use Rattle.reading.specs.declared.Reading.{Reading}
@@ -40,12 +40,12 @@ pub record IsRegular (t : List ℕ) (m win : ℕ) (r : Reading) : Type 0 where
 
 -- "seven different kinds": each kind is held twice or not at all, and seven are held
 unfoldable pub isSevenPairs : List ℕ → Bool
-isSevenPairs t = every 34 (λ k. eqb (getD t k 0) 0 || eqb (getD t k 0) 2) && eqb (number 34 (λ k. leb 1 (getD t k 0))) 7
+isSevenPairs t = allBelow 34 (λ k. eqb (getD t k 0) 0 || eqb (getD t k 0) 2) && eqb (countBelow 34 (λ k. leb 1 (getD t k 0))) 7
 
 -- "all 13 yaochu kinds, one twice": each yaochu kind is held once or twice and no other kind, and one is held twice
 unfoldable pub isOrphans : List ℕ → Bool
 isOrphans t =
-    every 34 (λ k. cond (isYaochu k) (eqb (getD t k 0) 1 || eqb (getD t k 0) 2) (eqb (getD t k 0) 0)) && eqb (number 34 (λ k. eqb (getD t k 0) 2)) 1
+    allBelow 34 (λ k. cond (isYaochu k) (eqb (getD t k 0) 1 || eqb (getD t k 0) 2) (eqb (getD t k 0) 0)) && eqb (countBelow 34 (λ k. eqb (getD t k 0) 2)) 1
 
 -- "seven pairs", "thirteen orphans": the reading without pair (34), groups (68) and place, of shape 1 or 2
 abbrev pub ofShape : ℕ → Reading

@@ -4,7 +4,7 @@ use mathlib.Core.Bool.{false}
 use mathlib.Core.List.{List}
 use Prim.Native.Nat.{ℕ, _-_, _≤_, _<_}
 use lib.ListN.{length, replicate}
-use Rattle.tiles.specs.Below.{total}
+use Rattle.tiles.specs.Below.{sumBelow}
 use Rattle.hand.specs.declared.Held.{Held}
 use Rattle.hand.specs.Held.{inOthers, unusedNotZero}
 use Rattle.unfinished.specs.Unfinished.{heldRefusal, heldOf, refusalOf}
@@ -25,7 +25,7 @@ IsReady y = (k : ℕ) × IsWait y k
 
 -- "tiles that must be swapped for others": those of x that y lacks
 unfoldable pub swaps : Held → Held → ℕ
-swaps x y = total 34 (λ k. inOthers x k - inOthers y k)
+swaps x y = sumBelow 34 (λ k. inOthers x k - inOthers y k)
 
 -- y is a ready hand n swaps from x: "The number is the fewest tiles that must be swapped for others", "any one such hand that many swaps away",
 -- "and every other ready hand with those melds needs at least as many swaps"

@@ -2,7 +2,7 @@
 ghost use mathlib.Core.Path.{_≡_};
 ghost use Prim.Native.Nat.{_≤_};
 ghost use lib.ListN.{getD};
-ghost use Rattle.tiles.specs.Below.{total};
+ghost use Rattle.tiles.specs.Below.{sumBelow};
 ghost use Rattle.tiles.specs.Tally.{tallyOf};
 ghost use Rattle.hand.specs.Held.{inMelds};
 ghost use Rattle.ready.specs.Ready.{SameMelds, IsNearest, IsAnswer};
@@ -32,8 +32,8 @@ fn melds_tally(x: Held) -> [u8; 34]
 
 // A tally as tiles in order, zeros after them.
 fn written(u: [u8; 34]) -> [u8; 13]
-    requires { ⌜ total 34 (λ k. getD u k 0) ≤ 13 ⌝ }
-    ensures { λ r. ⌜ Written u 34 0 (total 34 (λ k. getD u k 0)) r ⌝ }
+    requires { ⌜ sumBelow 34 (λ k. getD u k 0) ≤ 13 ⌝ }
+    ensures { λ r. ⌜ Written u 34 0 (sumBelow 34 (λ k. getD u k 0)) r ⌝ }
 {
     let mut r = [0u8; 13];
     let mut k: usize = 0;

@@ -4,7 +4,7 @@ ghost use mathlib.Core.Path.{_≡_};
 ghost use mathlib.Core.Bool.{true};
 ghost use Prim.Native.Nat.{ℕ, _+_, _*_, _<_, _≤_, max};
 ghost use lib.ListN.{length, getD};
-ghost use Rattle.tiles.specs.Below.{total};
+ghost use Rattle.tiles.specs.Below.{sumBelow};
 ghost use Rattle.ready_choices.specs.search.Tallies.{HandTally, MeldsTally, NearestTally};
 ghost use Rattle.tiles.specs.Kinds.{isRunStart};
 ghost use Rattle.ready_choices.specs.search.Moves.{live, most, worth, best};
@@ -232,7 +232,7 @@ fn start(t: &[u8; 34], d: &[u8; 34], m: u8, table: &[u8; 2800]) -> u8
 
 // The hand without a tile that t lacks.
 fn short(t: &[u8; 34], w: [u8; 34]) -> [u8; 34]
-    requires { ⌜ (length (now t) ≡ 34) × (total 34 (λ k. getD (now t) k 0) < total 34 (λ k. getD w k 0)) ⌝ }
+    requires { ⌜ (length (now t) ≡ 34) × (sumBelow 34 (λ k. getD (now t) k 0) < sumBelow 34 (λ k. getD w k 0)) ⌝ }
     ensures { λ r. ⌜ Shorter (now (t .entry)) w r ⌝ }
 {
     let mut u = w;

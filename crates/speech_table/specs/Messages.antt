@@ -5,7 +5,7 @@ use Prim.Native.Nat.{ℕ}
 use lib.Dec.{eqb}
 use lib.IntN.{ℤ, pos}
 use lib.ListN.{getD}
-use Rattle.tiles.specs.Below.{some}
+use Rattle.tiles.specs.Below.{anyBelow}
 use Rattle.position.specs.declared.Position.{Position}
 use Rattle.waits.specs.declared.Waits.{Waits}
 use Rattle.ready.specs.declared.Ready.{Ready}
@@ -31,7 +31,7 @@ SaysScores l g old r new = Answers l 0 (scoresMessage l g) old r new
 
 -- "Waits ..: 79 and the tiles ascending, or 80; 81 where it is in furiten"
 unfoldable pub waitsMessage : Waits → List ℕ
-waitsMessage w = cond (some 34 (λ k. getD (w .waits) k false)) (79 ∷ tileClips (w .waits)) (80 ∷ []) ++ cond (w .furiten) (81 ∷ []) []
+waitsMessage w = cond (anyBelow 34 (λ k. getD (w .waits) k false)) (79 ∷ tileClips (w .waits)) (80 ∷ []) ++ cond (w .furiten) (81 ∷ []) []
 
 -- "Ready ..: 82, or the swaps and 83"
 unfoldable pub readyMessage : ℕ → ℕ → List ℕ

@@ -3,7 +3,7 @@ ghost use mathlib.Core.Path.{_≡_};
 ghost use mathlib.Core.Bool.{false};
 ghost use Prim.Native.Nat.{_≤_};
 ghost use lib.ListN.{length, getD};
-ghost use Rattle.tiles.specs.Below.{some};
+ghost use Rattle.tiles.specs.Below.{anyBelow};
 ghost use Rattle.text.specs.laws.Put.{Put};
 ghost use Rattle.waits.specs.Answer.{waitsOf};
 ghost use Rattle.speech_score.specs.Said.{Answers};
@@ -48,7 +48,7 @@ pub fn say_scores(language: u8, g: Position, buf: &mut [u8]) -> Said
 
 // There is a wait.
 fn any_wait(w: [bool; 34]) -> bool
-    ensures { λ r. ⌜ r ≡ some 34 (λ k. getD w k false) ⌝ }
+    ensures { λ r. ⌜ r ≡ anyBelow 34 (λ k. getD w k false) ⌝ }
 {
     let mut k: usize = 0;
     while k < 34 {

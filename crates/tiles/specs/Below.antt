@@ -30,17 +30,17 @@ tabulate (suc n) i f = f i ∷ tabulate n (suc i) f
 
 -- The same four under names that stay shut until a proof opens them, for ranges such as the 34 kinds.
 -- `all`: p at each k below n
-unfoldable pub every : ℕ → (ℕ → Bool) → Bool
-every n p = all n p
+unfoldable pub allBelow : ℕ → (ℕ → Bool) → Bool
+allBelow n p = all n p
 
 -- `any`: p at some k below n
-unfoldable pub some : ℕ → (ℕ → Bool) → Bool
-some n p = any n p
+unfoldable pub anyBelow : ℕ → (ℕ → Bool) → Bool
+anyBelow n p = any n p
 
 -- `count`: how many k below n have p
-unfoldable pub number : ℕ → (ℕ → Bool) → ℕ
-number n p = count n p
+unfoldable pub countBelow : ℕ → (ℕ → Bool) → ℕ
+countBelow n p = count n p
 
 -- `sum`: the sum of f below n
-unfoldable pub total : ℕ → (ℕ → ℕ) → ℕ
-total n f = sum n f
+unfoldable pub sumBelow : ℕ → (ℕ → ℕ) → ℕ
+sumBelow n f = sum n f

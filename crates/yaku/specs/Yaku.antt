@@ -4,7 +4,7 @@ use mathlib.Core.List.{List, [], _∷_}
 use Prim.Native.Nat.{ℕ, _+_}
 use lib.ListN.{getD}
 use lib.Dec.{eqb, leb, ltb}
-use Rattle.tiles.specs.Below.{any, tabulate, some}
+use Rattle.tiles.specs.Below.{any, tabulate, anyBelow}
 use Rattle.tiles.specs.Kinds.{isHonour, isTerminal, isYaochu, isSimple}
 use Rattle.yaku_tiles.specs.OfTiles.{only, honourPresent, halfFlush, flush, isGreen, gates}
 use Rattle.yaku_basics.specs.Tests.{littleDragons, valueHan, pinfu, twins, inThreeSuits, straight, outside, triplets, concealed, kans, dragons, fourWinds}
@@ -111,4 +111,4 @@ yakuOf w p = listed (testsOf w p)
 
 -- "with a yaku": one is listed
 unfoldable pub hasYaku : List Bool → Bool
-hasYaku y = some 37 (λ n. getD y n false)
+hasYaku y = anyBelow 37 (λ n. getD y n false)

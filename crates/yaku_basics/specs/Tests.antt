@@ -5,7 +5,7 @@ use mathlib.Core.List.{List}
 use Prim.Native.Nat.{ℕ, _+_, _*_, _-_, _%_, _/_}
 use lib.ListN.{getD}
 use lib.Dec.{eqb, leb, ltb}
-use Rattle.tiles.specs.Below.{all, any, count, total}
+use Rattle.tiles.specs.Below.{all, any, count, sumBelow}
 use Rattle.tiles.specs.Kinds.{isYaochu, isDragon, isWind}
 use Rattle.tiles.specs.Groups.{isRun, isTriplet}
 
@@ -49,7 +49,7 @@ held g c = count 4 (λ i. eqb (getD g i 0) c)
 
 -- 5, 21: twin runs. "a run held twice or thrice" is one, "four equal runs" are two
 unfoldable pub twins : List ℕ → ℕ
-twins g = total 27 (λ c. held g c / 2)
+twins g = sumBelow 27 (λ c. held g c / 2)
 
 -- "in three suits": c is of man, whose codes start at low (0 for runs, 34 for triplets), and the same of pin and of sou are among the four
 unfoldable pub inThreeAt : ℕ → List ℕ → ℕ → Bool

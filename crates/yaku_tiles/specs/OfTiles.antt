@@ -4,12 +4,12 @@ use mathlib.Core.List.{List}
 use Prim.Native.Nat.{ℕ, _+_, _*_, _%_}
 use lib.ListN.{getD}
 use lib.Dec.{eqb, leb}
-use Rattle.tiles.specs.Below.{all, any, every}
+use Rattle.tiles.specs.Below.{all, any, allBelow}
 use Rattle.tiles.specs.Kinds.{isNumber, inSuit, isHonour}
 
 -- "all simples", "only yaochu", "honours only": each tile has p
 unfoldable pub only : List ℕ → (ℕ → Bool) → Bool
-only t p = every 34 (λ k. eqb (getD t k 0) 0 || p k)
+only t p = allBelow 34 (λ k. eqb (getD t k 0) 0 || p k)
 
 -- 15 "an honour present": not all are numbers
 abbrev pub honourPresent : List ℕ → Bool

@@ -6,7 +6,7 @@ use native.Mathlib.Nat.{mul-suc}
 use native.Mathlib.Omega.{arith}
 use borrow.Author.Tests.{lt-ltb}
 use lib.ListN.{length, getD, replicate, length-append, length-map}
-use Rattle.tiles.specs.Below.{every}
+use Rattle.tiles.specs.Below.{allBelow}
 use Rattle.tiles.specs.Groups.{isGroup}
 use Rattle.tiles.specs.laws.Tally.{more}
 use Rattle.reading.specs.search.Readings.{isEmpty, less, fits, without}
@@ -31,15 +31,15 @@ abbrev From : ℕ → ℕ
 From a = length (draws 2 7 (9 - a) a (more (replicate 34 0) a 1))
 
 first-0 : From 0 ≡ 334
-unfolding every isGroup more isEmpty less fits without lowest pieceAt splitsInto draw draws
+unfolding allBelow isGroup more isEmpty less fits without lowest pieceAt splitsInto draw draws
 first-0 = refl
 
 first-1 : From 1 ≡ 250
-unfolding every isGroup more isEmpty less fits without lowest pieceAt splitsInto draw draws
+unfolding allBelow isGroup more isEmpty less fits without lowest pieceAt splitsInto draw draws
 first-1 = refl
 
 first-others : (From 2 ≡ 178) × (From 3 ≡ 118) × (From 4 ≡ 70) × (From 5 ≡ 34) × (From 6 ≡ 12) × (From 7 ≡ 0) × (From 8 ≡ 0)
-unfolding every isGroup more isEmpty less fits without lowest pieceAt splitsInto draw draws
+unfolding allBelow isGroup more isEmpty less fits without lowest pieceAt splitsInto draw draws
 first-others = (refl, refl, refl, refl, refl, refl, refl)
 
 -- no kind is left
@@ -79,7 +79,7 @@ eights =
     )
 
 fives : (length (drawn 0 2) ≡ 9) × (length (drawn 0 5) ≡ 135)
-unfolding every isGroup more isEmpty less fits without lowest pieceAt splitsInto draw draws drawn
+unfolding allBelow isGroup more isEmpty less fits without lowest pieceAt splitsInto draw draws drawn
 fives = (refl, refl)
 
 -- ---- each suit

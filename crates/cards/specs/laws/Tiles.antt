@@ -8,7 +8,7 @@ use native.Mathlib.Omega.{arith}
 use borrow.Author.Tests.{lt-ltb, le-ltb, ltb-true, eqb-true, eqb-false, eq-eqb}
 use lib.Dec.{ltb, eqb}
 use lib.ListN.{length, getD}
-use Rattle.tiles.specs.Below.{sum, number, total}
+use Rattle.tiles.specs.Below.{sum, countBelow, sumBelow}
 use Rattle.tiles.specs.Kinds.{inSuit}
 use Rattle.tiles.specs.Groups.{atKind, uses}
 use Rattle.tiles.specs.laws.Below.{and-true, number-total}
@@ -60,7 +60,7 @@ at-or {P} a n k f g = go (eqb a k) refl
     go false e = g (eqb-false a k e) (at-other a n k (eqb-false a k e))
 
 pub among-kind : (l : List ℕ) (k : ℕ) → among l k ≡ ofKind l k
-unfolding among total atKind
+unfolding among sumBelow atKind
 among-kind l k = number-total (λ i. eqb (getD l i 0) k) (length l) ∙ over-places (λ x. atKind x 1 k) l ∙ over-kind l k
 
 pub kind-each : {P : ℕ → Type 0} (l : List ℕ) (k : ℕ) → Each P l → 0 < ofKind l k → P k

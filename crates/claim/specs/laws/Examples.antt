@@ -4,7 +4,7 @@ use mathlib.Core.List.{List, [], _∷_}
 use mathlib.Core.Path.{_≡_, refl, sym, _∙_}
 use Prim.Native.Nat.{ℕ}
 use Rattle.hand.specs.declared.Hand.{Hand}
-use Rattle.tiles.specs.Below.{every, some, number, total}
+use Rattle.tiles.specs.Below.{allBelow, anyBelow, countBelow, sumBelow}
 use Rattle.tiles.specs.Kinds.{doraOf}
 use Rattle.tiles.specs.Groups.{isGroup, atKind, uses}
 use Rattle.tiles.specs.Tally.{tallyOf}
@@ -70,7 +70,7 @@ by hand claim refusal verdict e = record { told = sym (found-is-judged (recordOf
 
 -- claims for hands of the table
 pub worked-claims : Worked
-unfolding widths valuesOf recordOf every some number total doraOf isGroup atKind uses tallyOf meldHolds inMelds inOthers inHeld inConcealed inHand
+unfolding widths valuesOf recordOf allBelow anyBelow countBelow sumBelow doraOf isGroup atKind uses tallyOf meldHolds inMelds inOthers inHeld inConcealed inHand
     concealedTally handTally tileOver33 wrongHeld wrongFields descends inRecord overFour wrongSituation refusalOf headOf meldsOf tilesOf heldIn paddingAfter
     handIn answerBy answerIn readOf holds isSevenPairs isOrphans concatMap isEmpty less fits without passes step splits placedAt placed paired shaped readings
     folded littleDragons valueHan earnsWait pinfu twins inThreeAt inThreeSuits straight hasYaochu outside concealed kans fourWinds only halfFlush flush gates

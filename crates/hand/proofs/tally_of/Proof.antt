@@ -8,7 +8,7 @@ use native.Mathlib.Omega.{arith}
 use lib.Dec.{eqb}
 use lib.ListN.{length, getD, set, length-set, getD-replicate}
 use lib.Seq.{set-out}
-use Rattle.tiles.specs.Below.{number}
+use Rattle.tiles.specs.Below.{countBelow}
 use Rattle.tiles.specs.Groups.{atKind}
 use Rattle.tiles.specs.laws.Below.{number-none, number-more, number-le}
 use Rattle.tiles.specs.laws.Tally.{tally-ext, tally-bound, more, more-adds}
@@ -17,7 +17,7 @@ use Rattle.hand.proofs.tally_of.Tie as tie
 
 -- how many of the first i tiles are of kind k
 abbrev among : List ℕ → ℕ → ℕ → ℕ
-among c i k = number i (λ j. eqb (getD c j 0) k)
+among c i k = countBelow i (λ j. eqb (getD c j 0) k)
 
 abbrev Inv-loop : tie.InvT-loop
 Inv-loop n c t₀ i₀ t i = (i ≤ n) × (length t ≡ 34) × ((k : ℕ) → k < 34 → getD t k 0 ≡ among c i k)

@@ -6,7 +6,7 @@ use native.Mathlib.Omega.{arith}
 use borrow.Author.Tests.{ltb-false}
 use lib.Dec.{ltb}
 use lib.ListN.{getD}
-use Rattle.tiles.specs.Below.{some}
+use Rattle.tiles.specs.Below.{anyBelow}
 use Rattle.tiles.specs.laws.Below.{or-both, some-at}
 use Rattle.hand.specs.declared.Hand.{Hand}
 use Rattle.hand.specs.Held.{someMeld, meldTile, others, tileOver33, chiWithoutRun, wrongHeld, descends, overFour, unusedNotZero}
@@ -49,7 +49,7 @@ kinds-of h p e =
     let x = h .held in
     let q = four (wrongHeld x p) (fieldOver33 f) (fieldOver f) (wrongDiscarder f) e in
     let w = three (tileOver33 x) (chiWithoutRun x) (ltb 0 p) (q .0) in
-    let t = or-both (someMeld x (λ b. ltb 33 (meldTile b))) (some (others x) (λ i. ltb 33 (getD (x .concealed) i 0))) (w .0) .1 in
+    let t = or-both (someMeld x (λ b. ltb 33 (meldTile b))) (anyBelow (others x) (λ i. ltb 33 (getD (x .concealed) i 0))) (w .0) .1 in
     let g = or-both (ltb 33 (f .indicator)) (ltb 33 (f .winning)) (q .1) in
     record {
       indicator = ltb-false 33 (f .indicator) (g .0);

@@ -8,7 +8,7 @@ use Rattle.hand.specs.declared.Hand.{Hand}
 use Rattle.hand.specs.Held.{meldHolds, inMelds, inOthers, inHeld, tileOver33, wrongHeld, descends, overFour}
 use Rattle.hand.specs.Hand.{inHand}
 use Rattle.hand.specs.Refusals.{wrongFields, inRecord, wrongSituation, refusalOf}
-use Rattle.tiles.specs.Below.{every, some, number}
+use Rattle.tiles.specs.Below.{allBelow, anyBelow, countBelow}
 use Rattle.tiles.specs.Groups.{atKind}
 use Rattle.hand_record.specs.Record.{headOf, meldsOf, tilesOf, heldIn, paddingAfter, handIn, soundAs, answerBy, answerIn, readOf, widths, valuesOf}
 use Rattle.hand_record.specs.Record.{recordOf}
@@ -126,7 +126,7 @@ Table =
 
 -- each row reads and writes back
 pub table : Table
-unfolding every some number atKind meldHolds inMelds inOthers inHeld inHand tileOver33 wrongHeld wrongFields descends inRecord overFour wrongSituation
+unfolding allBelow anyBelow countBelow atKind meldHolds inMelds inOthers inHeld inHand tileOver33 wrongHeld wrongFields descends inRecord overFour wrongSituation
     refusalOf headOf meldsOf tilesOf heldIn paddingAfter handIn answerBy answerIn readOf widths valuesOf recordOf
 table = (
   record { read = refl; write = refl },

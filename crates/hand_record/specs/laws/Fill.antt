@@ -8,7 +8,7 @@ use borrow.Author.Tests.{ltb-true, ltb-false, le-ltb, eqb-true, eq-eqb, not-fals
 use lib.Dec.{ltb, eqb}
 use lib.ListN.{length, getD, take, replicate}
 use lib.Seq.{length-take-le, take-at, getD-take, ext-getD, getD-append-add}
-use Rattle.tiles.specs.Below.{all, every}
+use Rattle.tiles.specs.Below.{all, allBelow}
 use Rattle.tiles.specs.laws.Below.{or-both, every-at, every-of}
 use Rattle.bits.specs.Bits.{fill}
 use Rattle.bits.specs.laws.Pack.{length-fill}
@@ -55,7 +55,7 @@ zero-past l m i e h = eqb-true (getD l i 0) 0 (rw (le-ltb i m h) at e)
 
 pub unused-of : (x : Held) → ((i : ℕ) → x .m ≤ i → getD (x .melds) i 0 ≡ 0) → ((i : ℕ) → 13 - 3 * x .m ≤ i → getD (x .concealed) i 0 ≡ 0)
     → unusedNotZero x ≡ false
-unfolding unusedNotZero every
+unfolding unusedNotZero allBelow
 unused-of x zm zt =
     let em = every-of (λ i. ltb i (x .m) || eqb (getD (x .melds) i 0) 0) 4 (λ i g. used-or-zero (x .melds) (x .m) i (zm i)) in
     let et = every-of (λ i. ltb i (13 - 3 * x .m) || eqb (getD (x .concealed) i 0) 0) 13 (λ i g. used-or-zero (x .concealed) (13 - 3 * x .m) i (zt i)) in
@@ -66,7 +66,7 @@ unused-of x zm zt =
 
 pub zeros-of : (x : Held) → unusedNotZero x ≡ false → ((i : ℕ) → i < 4 → x .m ≤ i → getD (x .melds) i 0 ≡ 0)
     × ((i : ℕ) → i < 13 → 13 - 3 * x .m ≤ i → getD (x .concealed) i 0 ≡ 0)
-unfolding unusedNotZero every
+unfolding unusedNotZero allBelow
 zeros-of x e =
     let p = or-both (not (all 4 (λ i. ltb i (x .m) || eqb (getD (x .melds) i 0) 0)))
     (not (all 13 (λ i. ltb i (13 - 3 * x .m) || eqb (getD (x .concealed) i 0) 0))) e in (

@@ -6,13 +6,13 @@ use mathlib.Core.Path.{_≡_, sym}
 use mathlib.Core.Bool.{false}
 use lib.Dec.{ltb}
 use lib.ListN.{getD}
-use Rattle.tiles.specs.Below.{some}
+use Rattle.tiles.specs.Below.{anyBelow}
 use Rattle.tiles.specs.laws.Below.{some-none, some-more, some-stop, some-done}
 use Rattle.hand_refusals.proofs.over_33.Statement.{statement}
 use Rattle.hand_refusals.proofs.over_33.Tie as tie
 
 abbrev Inv-loop : tie.InvT-loop
-Inv-loop n c i₀ i = (i ≤ n) × (some i (λ j. ltb 33 (getD c j 0)) ≡ false)
+Inv-loop n c i₀ i = (i ≤ n) × (anyBelow i (λ j. ltb 33 (getD c j 0)) ≡ false)
 
 abbrev μ-loop : tie.MeasureT-loop
 μ-loop n c i₀ i = n - i

@@ -7,20 +7,20 @@ use native.Mathlib.Omega.{arith}
 use native.Mathlib.Numerals.{add-one}
 use lib.Dec.{ltb}
 use lib.ListN.{getD}
-use Rattle.tiles.specs.Below.{some}
+use Rattle.tiles.specs.Below.{anyBelow}
 use Rattle.tiles.specs.laws.Below.{some-none}
 use Rattle.hand.specs.Held.{overFour}
 use Rattle.hand_refusals.proofs.over_four.Statement.{statement}
 use Rattle.hand_refusals.proofs.over_four.Tie as tie
 
 abbrev Inv-loop : tie.InvT-loop
-Inv-loop t over₀ k₀ over k = (k ≤ 34) × (over ≡ some k (λ j. ltb 4 (getD t j 0)))
+Inv-loop t over₀ k₀ over k = (k ≤ 34) × (over ≡ anyBelow k (λ j. ltb 4 (getD t j 0)))
 
 abbrev μ-loop : tie.MeasureT-loop
 μ-loop t over₀ k₀ over k = 34 - k
 
-next : (p : ℕ → Bool) (k : ℕ) (b : Bool) → b ≡ some k p → (b || p k) ≡ some (k + 1) p
-unfolding some
+next : (p : ℕ → Bool) (k : ℕ) (b : Bool) → b ≡ anyBelow k p → (b || p k) ≡ anyBelow (k + 1) p
+unfolding anyBelow
 next p k b e = rw (add-one, e)
 
 pub over-four-spec : {M : Type 1} → statement M
@@ -33,4 +33,4 @@ over-four-spec =
     (λ c.
     let l = c .before .loop in
     let e : l .k ≡ 34 = omega arith in
-    l .inv .1 ∙ ap (λ (n : ℕ). some n (λ j. ltb 4 (getD (c .before .before .args .t1) j 0))) e))
+    l .inv .1 ∙ ap (λ (n : ℕ). anyBelow n (λ j. ltb 4 (getD (c .before .before .args .t1) j 0))) e))

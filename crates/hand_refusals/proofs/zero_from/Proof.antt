@@ -6,13 +6,13 @@ use mathlib.Core.Path.{_≡_, sym}
 use mathlib.Core.Bool.{true, _||_}
 use lib.Dec.{ltb, eqb}
 use lib.ListN.{getD}
-use Rattle.tiles.specs.Below.{every}
+use Rattle.tiles.specs.Below.{allBelow}
 use Rattle.tiles.specs.laws.Below.{every-none, every-more, every-stop, every-done}
 use Rattle.hand_refusals.proofs.zero_from.Statement.{statement}
 use Rattle.hand_refusals.proofs.zero_from.Tie as tie
 
 abbrev Inv-loop : tie.InvT-loop
-Inv-loop n c i₀ i = (i ≤ 13) × (every i (λ j. ltb j n || eqb (getD c j 0) 0) ≡ true)
+Inv-loop n c i₀ i = (i ≤ 13) × (allBelow i (λ j. ltb j n || eqb (getD c j 0) 0) ≡ true)
 
 abbrev μ-loop : tie.MeasureT-loop
 μ-loop n c i₀ i = 13 - i

@@ -5,7 +5,7 @@ use mathlib.Core.List.{List}
 use Prim.Native.Nat.{ℕ, zero, _+_}
 use native.Mathlib.Omega.{arith}
 use lib.ListN.{getD}
-use Rattle.tiles.specs.Below.{total}
+use Rattle.tiles.specs.Below.{sumBelow}
 use Rattle.yaku_basics.specs.Tests.{pinfu}
 use Rattle.yaku.specs.Yaku.{testsOf, valueHanOf, isYakuman, yakuOf}
 use Rattle.yaku.specs.laws.Common.{listed-all, same-each}
@@ -19,7 +19,7 @@ use Rattle.points_value.specs.search.Common.{hanBefore}
 with-place : (y : List Bool) (han : List ℕ) → hanBy y han ≡ hanBy (anyPlace y) han
     + cond (getD y 4 false) (getD han 4 0) 0 + cond (getD y 18 false) (getD han 18 0) 0 + cond (getD y 19 false) (getD han 19 0) 0
     + cond (getD y 30 false) (getD han 30 0) 0 + cond (getD y 31 false) (getD han 31 0) 0
-unfolding hanBy total anyPlace
+unfolding hanBy sumBelow anyPlace
 with-place y han = omega arith
 
 none : (b : Bool) → cond b 0 0 ≡ zero

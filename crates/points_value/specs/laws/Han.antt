@@ -6,7 +6,7 @@ use Prim.Native.Nat.{ℕ, _+_, _*_, _/_, _%_, _≤_, _<_}
 use borrow.Author.Tests.{eqb-true, leb-true}
 use lib.Dec.{eqb, leb}
 use lib.ListN.{getD}
-use Rattle.tiles.specs.Below.{tabulate, every}
+use Rattle.tiles.specs.Below.{tabulate, allBelow}
 use Rattle.tiles.specs.laws.Below.{every-at, and-true}
 use Rattle.points_value.specs.Han.{closedHan, openHan}
 
@@ -26,6 +26,6 @@ test a b e =
 -- no yaku has over 6 han
 pub han-at : (closed : Bool) (i : ℕ) → i < 37 → (cond closed (getD bothHan i 0 / 16) (getD bothHan i 0 % 16) ≡ getD (hanFor closed) i 0)
     × (getD (hanFor closed) i 0 ≤ 6)
-unfolding every
+unfolding allBelow
 han-at true i h = test _ _ (every-at (λ k. eqb (getD bothHan k 0 / 16) (getD closedHan k 0) && leb (getD closedHan k 0) 6) 37 i refl h)
 han-at false i h = test _ _ (every-at (λ k. eqb (getD bothHan k 0 % 16) (getD openHan k 0) && leb (getD openHan k 0) 6) 37 i refl h)

@@ -8,7 +8,7 @@ use borrow.Author.Tests.{ltb-false, le-ltb, leb-true, le-leb, eqb-true, eqb-fals
 use lib.Dec.{ltb, leb, eqb}
 use lib.IntN.{ℤ, pos, negsuc, _+ℤ_}
 use lib.Signed.{ltZ, leZ}
-use Rattle.tiles.specs.Below.{any, some}
+use Rattle.tiles.specs.Below.{any, anyBelow}
 use Rattle.tiles.specs.laws.Below.{or-both, some-at, some-of}
 use Rattle.score.specs.laws.Z.{up, dn, add-law, part-law, parts-eq, ltZ-false, le-ltZ, Within}
 use Rattle.position.specs.declared.Position.{Position}
@@ -92,7 +92,7 @@ module _ (g : Position) where
   wrongs = any 8 (λ i. wrongFeeder i (feederAt g i))
 
   pub form-of : outOfForm g ≡ false → InForm g
-  unfolding outOfForm some lows wrongs
+  unfolding outOfForm anyBelow lows wrongs
   form-of h =
       let p = eight (ltb 3 (g .dealer)) (ltb 1 (g .wind)) (ltb lastHand (g .hands)) (ltb (g .sticks) (declarations g))
       (ltb (g .hands) (g .counter)) wrongs lows (eqZ (totalOf g) pointsInPlay) h in
@@ -108,7 +108,7 @@ module _ (g : Position) where
       }
 
   pub of-form : InForm g → outOfForm g ≡ false
-  unfolding outOfForm some lows wrongs
+  unfolding outOfForm anyBelow lows wrongs
   of-form f =
       eight-none (ltb 3 (g .dealer)) (ltb 1 (g .wind)) (ltb lastHand (g .hands)) (ltb (g .sticks) (declarations g)) (ltb (g .hands) (g .counter)) wrongs lows
       (eqZ (totalOf g) pointsInPlay)

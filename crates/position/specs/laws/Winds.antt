@@ -10,7 +10,7 @@ use lib.Dec.{ltb, leb, eqb}
 use lib.IntN.{pos}
 use lib.ListN.{length, getD, take, replicate, length-append, length-map}
 use lib.Seq.{length-take-le, getD-take, take-at}
-use Rattle.tiles.specs.Below.{all, count, sum, every, some, number, tabulate}
+use Rattle.tiles.specs.Below.{all, count, sum, allBelow, anyBelow, countBelow, tabulate}
 use Rattle.tiles.specs.Kinds.{isRunStart, isWind, doraOf}
 use Rattle.tiles.specs.Groups.{isGroup, atKind, uses}
 use Rattle.tiles.specs.laws.Below.{and-true, or-both, same-test, any-of, any-counted, number-le, some-at, every-cong}
@@ -58,7 +58,7 @@ yakuman-in y n a b e =
 
 -- all have p where as many as there are have it
 all-counted : (p : ℕ → Bool) (n : ℕ) → all n p ≡ eqb (count n p) n
-unfolding number
+unfolding countBelow
 all-counted p zero = refl
 all-counted p (suc n) = go (all-counted p n) (p n)
   where
@@ -202,7 +202,7 @@ module _ (k : ℕ) (honour : 27 ≤ k) where
   module _ (x : Held) (runs : chiWithoutRun x ≡ false) where
     place-holds : (i : ℕ) → i < 4
         → Within (cond (ltb i (x .m)) (ofTriplet k (meldCode (getD (x .melds) i 0))) 0) (cond (ltb i (x .m)) (meldHolds (getD (x .melds) i 0) k) 0)
-    unfolding meldHolds some
+    unfolding meldHolds anyBelow
     place-holds i l = go (getD (x .melds) i 0) (ltb i (x .m)) (some-at (λ j. ltb j (x .m) && wrong (getD (x .melds) j 0)) 4 i runs l)
       where
         wrong : ℕ → Bool
@@ -289,7 +289,7 @@ module _ (h : Hand) (few : h .held .m ≤ 4) (four : length (h .held .melds) ≡
         ∙ sym (has-number (groupsOf h r) (34 + k))
 
   four-by-tiles : all 4 (λ w. leb 3 (getD (handTally h) (27 + w) 0)) ≡ eqb (winds (groupsOf h r)) 4
-  unfolding every
+  unfolding allBelow
   four-by-tiles =
       every-cong (λ w. leb 3 (getD (handTally h) (27 + w) 0)) (λ w. has (groupsOf h r) (34 + (27 + w))) 4
       (λ w l. three-is-triplet (27 + w) (omega arith) (omega arith))

@@ -6,28 +6,28 @@ use native.Mathlib.Nat.{le-antisymm}
 use native.Mathlib.Numerals.{add-one}
 use native.Mathlib.Omega.{arith}
 use lib.Dec.{eqb}
-use Rattle.tiles.specs.Below.{every, number}
+use Rattle.tiles.specs.Below.{allBelow, countBelow}
 use Rattle.tiles.specs.laws.Below.{every-none, every-more, every-stop}
 
 module _ (p q : ℕ → Bool) where
   -- each number below k has p, and n of them have q
   abbrev pub Counted : ℕ → ℕ → Type 0
-  Counted k n = (every k p ≡ true) × (n ≡ number k q) × (n ≤ k)
+  Counted k n = (allBelow k p ≡ true) × (n ≡ countBelow k q) × (n ≤ k)
 
   pub counted-none : Counted 0 0
-  unfolding number
+  unfolding countBelow
   counted-none = (every-none p, refl, omega arith)
 
   pub counted-one : (k n : ℕ) → Counted k n → p k ≡ true → q k ≡ true → Counted (k + 1) (n + 1)
-  unfolding number
+  unfolding countBelow
   counted-one k n h e f = (every-more p k (h .0) e, rw (add-one k, f, h .1), omega (arith, h .2))
 
   pub counted-skip : (k n : ℕ) → Counted k n → p k ≡ true → q k ≡ false → Counted (k + 1) n
-  unfolding number
+  unfolding countBelow
   counted-skip k n h e f = (every-more p k (h .0) e, rw (add-one k, f, h .1) (omega arith), omega (arith, h .2))
 
-  pub counted-stop : (m k x : ℕ) → k < m → p k ≡ false → false ≡ every m p && eqb (number m q) x
+  pub counted-stop : (m k x : ℕ) → k < m → p k ≡ false → false ≡ allBelow m p && eqb (countBelow m q) x
   counted-stop m k x h e = rw (every-stop p m k h e)
 
-  pub counted-done : (m k n x : ℕ) → k ≤ m → m ≤ k → Counted k n → eqb n x ≡ every m p && eqb (number m q) x
+  pub counted-done : (m k n x : ℕ) → k ≤ m → m ≤ k → Counted k n → eqb n x ≡ allBelow m p && eqb (countBelow m q) x
   counted-done m k n x a b h = rw (le-antisymm b a, h .0, h .1)

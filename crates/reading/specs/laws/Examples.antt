@@ -4,7 +4,7 @@ use mathlib.Core.List.{List, [], _∷_}
 use mathlib.Core.Logic.{inl, inr}
 use Prim.Native.Nat.{ℕ}
 use native.Mathlib.Omega.{arith}
-use Rattle.tiles.specs.Below.{every, number}
+use Rattle.tiles.specs.Below.{allBelow, countBelow}
 use Rattle.tiles.specs.Groups.{isGroup, atKind, uses}
 use Rattle.tiles.specs.Tally.{tallyOf}
 use Rattle.tiles.specs.laws.Tally.{ofKind}
@@ -46,7 +46,7 @@ record Worked : Type 0 where
   twelve : readingsOf (0 ∷ 8 ∷ 9 ∷ 17 ∷ 18 ∷ 26 ∷ 27 ∷ 28 ∷ 29 ∷ 31 ∷ 32 ∷ 33 ∷ 33 ∷ []) 0 33 ≡ []
 
 worked : Worked
-unfolding concatMap isEmpty less fits without passes step splits placedAt placed paired shaped readings holds isSevenPairs isOrphans every number isGroup
+unfolding concatMap isEmpty less fits without passes step splits placedAt placed paired shaped readings holds isSevenPairs isOrphans allBelow countBelow isGroup
     atKind uses ofKind tallyOf
 worked =
     record {

@@ -8,7 +8,7 @@ use native.Mathlib.Omega.{arith}
 use borrow.Author.Tests.{lt-ltb, le-ltb, eqb-true, eqb-false, eq-eqb, ne-eqb}
 use lib.Dec.{eqb}
 use lib.ListN.{length, getD}
-use Rattle.tiles.specs.Below.{every, sum}
+use Rattle.tiles.specs.Below.{allBelow, sum}
 use Rattle.tiles.specs.Groups.{isGroup, atKind, uses}
 use Rattle.tiles.specs.laws.Below.{every-at, same-test}
 use Rattle.tiles.specs.laws.Sums.{sum-cong, sum-add}
@@ -33,7 +33,7 @@ weighed-add f g =
     ∙ sum-add (λ i. sum (suc i) f) (λ i. sum (suc i) g) 9
 
 -- n tiles of a kind, among the nine of a suit
-module _ (n : ℕ) (all : every 9 (λ r. eqb (weighed (atKind r n)) (n * (9 - r))) ≡ true) (a s : ℕ) where
+module _ (n : ℕ) (all : allBelow 9 (λ r. eqb (weighed (atKind r n)) (n * (9 - r))) ≡ true) (a s : ℕ) where
   weight : weighed (λ i. atKind a n (9 * s + i)) ≡ cond (eqb (a / 9) s) (n * (9 - a % 9)) 0
   unfolding atKind
   weight = go (eqb (a / 9) s) refl
@@ -48,16 +48,16 @@ module _ (n : ℕ) (all : every 9 (λ r. eqb (weighed (atKind r n)) (n * (9 - r)
           let q = eqb-false (a / 9) s e in
           weighed-cong (λ i. cond (eqb a (9 * s + i)) n 0) (λ i. 0) (λ i l. rw (ne-eqb a (9 * s + i) (λ z. q (omega arith))))
 
-one-each : every 9 (λ r. eqb (weighed (atKind r 1)) (1 * (9 - r))) ≡ true
-unfolding every atKind
+one-each : allBelow 9 (λ r. eqb (weighed (atKind r 1)) (1 * (9 - r))) ≡ true
+unfolding allBelow atKind
 one-each = refl
 
-two-each : every 9 (λ r. eqb (weighed (atKind r 2)) (2 * (9 - r))) ≡ true
-unfolding every atKind
+two-each : allBelow 9 (λ r. eqb (weighed (atKind r 2)) (2 * (9 - r))) ≡ true
+unfolding allBelow atKind
 two-each = refl
 
-three-each : every 9 (λ r. eqb (weighed (atKind r 3)) (3 * (9 - r))) ≡ true
-unfolding every atKind
+three-each : allBelow 9 (λ r. eqb (weighed (atKind r 3)) (3 * (9 - r))) ≡ true
+unfolding allBelow atKind
 three-each = refl
 
 -- ---- groups weigh threes

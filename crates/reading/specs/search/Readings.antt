@@ -5,7 +5,7 @@ use mathlib.Core.List.{List, [], _∷_, _++_, map}
 use Prim.Native.Nat.{ℕ, zero, suc, _+_, _-_, _%_}
 use lib.Dec.{leb, eqb}
 use lib.ListN.{getD, set, replicate}
-use Rattle.tiles.specs.Below.{every, tabulate}
+use Rattle.tiles.specs.Below.{allBelow, tabulate}
 use Rattle.tiles.specs.Groups.{isRun, isGroup}
 use Rattle.reading.specs.declared.Reading.{Reading}
 use Rattle.reading.specs.Reading.{holds, isSevenPairs, isOrphans, ofShape}
@@ -22,7 +22,7 @@ concatMap f (x ∷ xs) = f x ++ concatMap f xs
 
 -- no tile is left
 unfoldable pub isEmpty : List ℕ → Bool
-isEmpty t = every 34 (λ k. eqb (getD t k 0) 0)
+isEmpty t = allBelow 34 (λ k. eqb (getD t k 0) 0)
 
 -- t with n tiles of kind a less
 unfoldable pub less : List ℕ → ℕ → ℕ → List ℕ

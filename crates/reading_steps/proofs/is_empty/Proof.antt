@@ -6,14 +6,14 @@ use borrow.Author.Needs.{needs}
 use borrow.Author.Tests.{eq-eqb, ne-eqb}
 use lib.Dec.{eqb}
 use lib.ListN.{getD}
-use Rattle.tiles.specs.Below.{every}
+use Rattle.tiles.specs.Below.{allBelow}
 use Rattle.tiles.specs.laws.Below.{every-none, every-more, every-stop, every-done}
 use Rattle.reading.specs.search.Readings.{isEmpty}
 use Rattle.reading_steps.proofs.is_empty.Statement.{statement}
 use Rattle.reading_steps.proofs.is_empty.Tie as tie
 
 abbrev Inv-loop : tie.InvT-loop
-Inv-loop t k₀ k = (k ≤ 34) × (every k (λ j. eqb (getD t j 0) 0) ≡ true)
+Inv-loop t k₀ k = (k ≤ 34) × (allBelow k (λ j. eqb (getD t j 0) 0) ≡ true)
 
 abbrev μ-loop : tie.MeasureT-loop
 μ-loop t k₀ k = 34 - k

@@ -6,7 +6,7 @@ use Prim.Native.Nat.{ℕ, zero, suc, _+_, _-_, _*_, _≤_, _<_}
 use native.Mathlib.Nat.{eq-or-lt-of-le, le-of-suc-le-suc}
 use native.Mathlib.Omega.{arith}
 use lib.ListN.{getD}
-use Rattle.tiles.specs.Below.{total}
+use Rattle.tiles.specs.Below.{sumBelow}
 use Rattle.tiles.specs.Tally.{tallyOf}
 use Rattle.tiles.specs.laws.Tally.{length-tally, getD-tally}
 use Rattle.hand.specs.declared.Held.{Held}
@@ -37,13 +37,13 @@ nearest-hand s e =
 -- ---- no swap
 
 -- a sum of nothing has only nothings
-total-each : (f : ℕ → ℕ) (n : ℕ) → total n f ≡ 0 → (k : ℕ) → k < n → f k ≡ 0
+total-each : (f : ℕ → ℕ) (n : ℕ) → sumBelow n f ≡ 0 → (k : ℕ) → k < n → f k ≡ 0
 total-each f zero e k l = absurd (omega arith)
 total-each f (suc n) e k l =
     ⊎-elim (λ q. rw q (omega (arith, total-suc n f))) (λ i. total-each f n (omega (arith, total-suc n f)) k i) (eq-or-lt-of-le (le-of-suc-le-suc l))
 
 -- terms that are no greater and have the same sum are the same
-total-same : (f g : ℕ → ℕ) (n : ℕ) → ((k : ℕ) → k < n → f k ≤ g k) → total n g ≤ total n f → (k : ℕ) → k < n → f k ≡ g k
+total-same : (f g : ℕ → ℕ) (n : ℕ) → ((k : ℕ) → k < n → f k ≤ g k) → sumBelow n g ≤ sumBelow n f → (k : ℕ) → k < n → f k ≡ g k
 total-same f g zero h e k l = absurd (omega arith)
 total-same f g (suc n) h e k l =
     let a = total-suc n f in
@@ -56,7 +56,7 @@ swaps-self : (x : Held) → swaps x x ≡ 0
 unfolding swaps
 swaps-self x = total-none (λ k. inOthers x k - inOthers x k) 34 (λ k l. omega arith)
 
-tiles-of : (x : Held) → HandTally (tallyOf (inOthers x)) (tallyOf (inMelds x)) (x .m) → total 34 (inOthers x) + 3 * x .m ≡ 13
+tiles-of : (x : Held) → HandTally (tallyOf (inOthers x)) (tallyOf (inMelds x)) (x .m) → sumBelow 34 (inOthers x) + 3 * x .m ≡ 13
 tiles-of x h = omega (arith, h .tiles, total-cong (λ k. getD (tallyOf (inOthers x)) k 0) (inOthers x) 34 (λ k l. getD-tally (inOthers x) k l))
 
 module _ (x : Held) (few : x .m ≤ 4) (b : SameMelds x x) where

@@ -7,7 +7,7 @@ use native.Mathlib.Omega.{arith}
 use borrow.Author.Tests.{le-ltb, eq-eqb, ltb-false}
 use lib.Dec.{ltb, eqb}
 use lib.ListN.{getD}
-use Rattle.tiles.specs.Below.{all, every, some, number}
+use Rattle.tiles.specs.Below.{all, allBelow, anyBelow, countBelow}
 use Rattle.tiles.specs.Tally.{tallyOf}
 use Rattle.tiles.specs.laws.Below.{or-both, some-of, every-of}
 use Rattle.tiles.specs.laws.Tally.{tally-ext, getD-tally}
@@ -49,9 +49,9 @@ module _ (x : Held) (few : x .m ≤ 4) (b : SameMelds x x) where
     unfolding wrongHeld tileOver33 y
     no-wrong =
         let c = or-both (tileOver33 x) (chiWithoutRun x) (or-both (tileOver33 x || chiWithoutRun x) (ltb 0 0) (clean-of x 0 (b .sound) .held) .0) in
-        let o = or-both (someMeld x (λ b. ltb 33 (meldTile b))) (some (others x) (λ i. ltb 33 (getD (x .concealed) i 0))) (c .0) in
+        let o = or-both (someMeld x (λ b. ltb 33 (meldTile b))) (anyBelow (others x) (λ i. ltb 33 (getD (x .concealed) i 0))) (c .0) in
         let k = some-of (λ i. ltb 33 (getD r i 0)) (13 - 3 * x .m) (λ i l. le-ltb 33 (getD r i 0) (omega (arith, w .kinds i (omega (arith, many))))) in
-        join (someMeld x (λ b. ltb 33 (meldTile b))) (some (others x) (λ i. ltb 33 (getD r i 0))) (chiWithoutRun x) (o .0) k (c .1)
+        join (someMeld x (λ b. ltb 33 (meldTile b))) (anyBelow (others x) (λ i. ltb 33 (getD r i 0))) (chiWithoutRun x) (o .0) k (c .1)
       where
         join : (p q c : Bool) → p ≡ false → q ≡ false → c ≡ false → (p || q) || c || ltb 0 0 ≡ false
         join p q c e f g = rw (e, f, g) (le-ltb 0 0 (omega arith))
@@ -72,8 +72,8 @@ module _ (x : Held) (few : x .m ≤ 4) (b : SameMelds x x) where
     unfolding unusedNotZero y
     no-unused =
         let o = or-both (not (all 4 (λ i. ltb i (x .m) || eqb (getD (x .melds) i 0) 0)))
-        (not (every 13 (λ i. ltb i (others x) || eqb (getD (x .concealed) i 0) 0))) (b .unused) in
-        join (not (all 4 (λ i. ltb i (x .m) || eqb (getD (x .melds) i 0) 0))) (every 13 (λ i. ltb i (others x) || eqb (getD r i 0) 0)) (o .0)
+        (not (allBelow 13 (λ i. ltb i (others x) || eqb (getD (x .concealed) i 0) 0))) (b .unused) in
+        join (not (all 4 (λ i. ltb i (x .m) || eqb (getD (x .melds) i 0) 0))) (allBelow 13 (λ i. ltb i (others x) || eqb (getD r i 0) 0)) (o .0)
         (every-of (λ i. ltb i (13 - 3 * x .m) || eqb (getD r i 0) 0) 13 (λ i l. used i (ltb i (13 - 3 * x .m)) refl))
       where
         join : (p q : Bool) → p ≡ false → q ≡ true → p || not q ≡ false

@@ -10,7 +10,7 @@ use borrow.Author.Tests.{ltb-true, ltb-false}
 use lib.Dec.{ltb, eqb}
 use lib.ListN.{length, getD, set, length-set}
 use lib.Seq.{getD-set-same, getD-set-other}
-use Rattle.tiles.specs.Below.{number, total}
+use Rattle.tiles.specs.Below.{countBelow, sumBelow}
 use Rattle.tiles.specs.Groups.{atKind}
 use Rattle.tiles.specs.laws.Below.{cond-le}
 use Rattle.tiles.specs.Tally.{tallyOf}
@@ -28,26 +28,26 @@ use Rattle.ready.specs.Ready.{IsReady, swaps}
 -- ---- how many there are
 
 -- n tiles that are kinds
-number-kinds : (c : List ℕ) (n : ℕ) → ((i : ℕ) → i < n → getD c i 0 ≤ 33) → total 34 (λ k. number n (λ i. eqb (getD c i 0) k)) ≡ n
-unfolding number atKind
+number-kinds : (c : List ℕ) (n : ℕ) → ((i : ℕ) → i < n → getD c i 0 ≤ 33) → sumBelow 34 (λ k. countBelow n (λ i. eqb (getD c i 0) k)) ≡ n
+unfolding countBelow atKind
 number-kinds c zero h = total-none (λ k. 0) 34 (λ k l. refl)
 number-kinds c (suc n) h =
-    total-add (λ k. number n (λ i. eqb (getD c i 0) k)) (atKind (getD c n 0) 1) 34
+    total-add (λ k. countBelow n (λ i. eqb (getD c i 0) k)) (atKind (getD c n 0) 1) 34
     ∙ omega (arith, number-kinds c n (λ i l. h i (omega arith)), total-at (getD c n 0) 1 34 (omega (arith, h n (omega arith))))
 
-at-few : (a c : ℕ) → total 34 (atKind a c) ≤ c
+at-few : (a c : ℕ) → sumBelow 34 (atKind a c) ≤ c
 at-few a c = go (ltb a 34) refl
   where
-    go : (b : Bool) → ltb a 34 ≡ b → total 34 (atKind a c) ≤ c
+    go : (b : Bool) → ltb a 34 ≡ b → sumBelow 34 (atKind a c) ≤ c
     go true e = omega (arith, total-at a c 34 (ltb-true a 34 e))
     go false e = let g = ltb-false a 34 e in omega (arith, total-none (atKind a c) 34 (λ k l. at-other a c k (omega arith)))
 
 -- a meld has four tiles at most
-meld-few : (b : ℕ) → total 34 (meldHolds b) ≤ 4
+meld-few : (b : ℕ) → sumBelow 34 (meldHolds b) ≤ 4
 unfolding meldHolds
 meld-few b = go (eqb (meldKind b) 0) (eqb (meldKind b) 1)
   where
-    go : (p q : Bool) → total 34 (λ k. cond p (atKind (meldTile b) 1 k + atKind (meldTile b + 1) 1 k + atKind (meldTile b + 2) 1 k)
+    go : (p q : Bool) → sumBelow 34 (λ k. cond p (atKind (meldTile b) 1 k + atKind (meldTile b + 1) 1 k + atKind (meldTile b + 2) 1 k)
         (cond q (atKind (meldTile b) 3 k) (atKind (meldTile b) 4 k))) ≤ 4
     go true q =
         let t = meldTile b in
@@ -66,14 +66,14 @@ meld-few b = go (eqb (meldKind b) 0) (eqb (meldKind b) 1)
 abbrev one : Held → ℕ → ℕ → ℕ
 one x i k = cond (ltb i (x .m)) (meldHolds (getD (x .melds) i 0) k) 0
 
-one-few : (x : Held) (i : ℕ) → total 34 (one x i) ≤ cond (ltb i (x .m)) 4 0
+one-few : (x : Held) (i : ℕ) → sumBelow 34 (one x i) ≤ cond (ltb i (x .m)) 4 0
 one-few x i = go (ltb i (x .m))
   where
-    go : (b : Bool) → total 34 (λ k. cond b (meldHolds (getD (x .melds) i 0) k) 0) ≤ cond b 4 0
+    go : (b : Bool) → sumBelow 34 (λ k. cond b (meldHolds (getD (x .melds) i 0) k) 0) ≤ cond b 4 0
     go true = meld-few (getD (x .melds) i 0)
     go false = omega (arith, total-none (λ k. 0) 34 (λ k l. refl))
 
-melds-few : (x : Held) → total 34 (inMelds x) ≤ 4 * x .m
+melds-few : (x : Held) → sumBelow 34 (inMelds x) ≤ 4 * x .m
 unfolding inMelds
 melds-few x =
     omega (
@@ -82,7 +82,7 @@ melds-few x =
       total-add (λ k. one x 0 k + one x 1 k + one x 2 k) (one x 3) 34,
       total-add (λ k. one x 0 k + one x 1 k) (one x 2) 34,
       total-add (one x 0) (one x 1) 34,
-      few (x .m) (total 34 (one x 0)) (total 34 (one x 1)) (total 34 (one x 2)) (total 34 (one x 3)) (one-few x 0) (one-few x 1) (one-few x 2) (one-few x 3),
+      few (x .m) (sumBelow 34 (one x 0)) (sumBelow 34 (one x 1)) (sumBelow 34 (one x 2)) (sumBelow 34 (one x 3)) (one-few x 0) (one-few x 1) (one-few x 2) (one-few x 3),
     )
   where
     few : (m a b c d : ℕ) → a ≤ cond (ltb 0 m) 4 0 → b ≤ cond (ltb 1 m) 4 0 → c ≤ cond (ltb 2 m) 4 0 → d ≤ cond (ltb 3 m) 4 0 → a + b + c + d ≤ 4 * m

@@ -11,7 +11,7 @@ use borrow.Author.Tests.{ne-eqb}
 use lib.Dec.{eqb}
 use lib.ListN.{length, getD, set, replicate, length-set, List·getD-eq-default}
 use lib.Seq.{getD-set-same, getD-set-other}
-use Rattle.tiles.specs.Below.{number, total}
+use Rattle.tiles.specs.Below.{countBelow, sumBelow}
 use Rattle.tiles.specs.Groups.{atKind}
 use Rattle.tiles.specs.laws.Below.{number-more}
 use Rattle.reading.specs.laws.Groups.{at-same, at-other}
@@ -21,13 +21,13 @@ use Rattle.ready.specs.search.Written.{inFirst, Written}
 
 -- ---- how many places have a kind
 
-number-cong : (p q : ℕ → Bool) (n : ℕ) → ((i : ℕ) → i < n → p i ≡ q i) → number n p ≡ number n q
-unfolding number
+number-cong : (p q : ℕ → Bool) (n : ℕ) → ((i : ℕ) → i < n → p i ≡ q i) → countBelow n p ≡ countBelow n q
+unfolding countBelow
 number-cong p q zero h = refl
 number-cong p q (suc n) h = rw (number-cong p q n (λ i l. h i (omega arith)), h n (omega arith))
 
-number-false : (p : ℕ → Bool) (n : ℕ) → ((i : ℕ) → i < n → p i ≡ false) → number n p ≡ 0
-unfolding number
+number-false : (p : ℕ → Bool) (n : ℕ) → ((i : ℕ) → i < n → p i ≡ false) → countBelow n p ≡ 0
+unfolding countBelow
 number-false p zero h = refl
 number-false p (suc n) h = rw (number-false p n (λ i l. h i (omega arith)), h n (omega arith))
 
@@ -45,7 +45,7 @@ in-first-more r i k q h =
 -- ---- written so far
 
 pub written-none : (u : List ℕ) → Written u 0 0 0 (replicate 13 0)
-unfolding number
+unfolding countBelow
 written-none u = record {
   long = refl;
   many = omega (arith, total-zero (λ q. getD u q 0));
@@ -96,19 +96,19 @@ module _ (u : List ℕ) (k j i : ℕ) (r : List ℕ) (w : Written u k j i r) whe
       }
 
   -- there is room for it
-  pub written-room : k < 34 → j < getD u k 0 → total 34 (λ q. getD u q 0) ≤ 13 → i < 13
+  pub written-room : k < 34 → j < getD u k 0 → sumBelow 34 (λ q. getD u q 0) ≤ 13 → i < 13
   written-room l g h = omega (arith, w .many, total-suc k (λ q. getD u q 0), total-mono (λ q. getD u q 0) (suc k) 34 (omega arith))
 
-  pub written-done : length u ≡ 34 → k ≤ 34 → 34 ≤ k → j ≤ getD u k 0 → Written u 34 0 (total 34 (λ q. getD u q 0)) r
+  pub written-done : length u ≡ 34 → k ≤ 34 → 34 ≤ k → j ≤ getD u k 0 → Written u 34 0 (sumBelow 34 (λ q. getD u q 0)) r
   written-done l a b g =
       let e : k ≡ 34 = omega arith in
       let z : j ≡ 0 = omega (arith, g, List·getD-eq-default u 0 {n = k} (omega arith)) in
-      let n : i ≡ total 34 (λ q. getD u q 0) = rw (← e) (omega (arith, w .many)) in
+      let n : i ≡ sumBelow 34 (λ q. getD u q 0) = rw (← e) (omega (arith, w .many)) in
       rw (← n, ← z, ← e) w
 
 -- ---- a tally of 13 tiles at most can be written
 
-module _ (u : List ℕ) (h : total 34 (λ q. getD u q 0) ≤ 13) where
+module _ (u : List ℕ) (h : sumBelow 34 (λ q. getD u q 0) ≤ 13) where
   kind-written : (k i : ℕ) (r : List ℕ) → k < 34 → Written u k 0 i r → (j : ℕ) → j ≤ getD u k 0 → (i : ℕ) × (r : List ℕ) × Written u k j i r
   kind-written k i r l w zero g = (i, r, w)
   kind-written k i r l w (suc j) g =

@@ -4,7 +4,7 @@ use mathlib.Core.List.{List}
 use Prim.Native.Nat.{ℕ, _+_, _≤_, _<_}
 use lib.Dec.{eqb}
 use lib.ListN.{length, getD}
-use Rattle.tiles.specs.Below.{total, number}
+use Rattle.tiles.specs.Below.{sumBelow, countBelow}
 use Rattle.hand.specs.declared.Held.{Held}
 
 -- the hand of the concealed tiles c beside the melds of x
@@ -13,12 +13,12 @@ sameMeldsWith x c = record { m = x .m; melds = x .melds; concealed = c }
 
 -- how many of the first i places of r have the kind q
 abbrev pub inFirst : List ℕ → ℕ → ℕ → ℕ
-inFirst r i q = number i (λ p. eqb (getD r p 0) q)
+inFirst r i q = countBelow i (λ p. eqb (getD r p 0) q)
 
 -- the tiles of the tally u below the kind k, and j of k, stand at the first i places of r in order, zeros after them
 pub record Written (u : List ℕ) (k j i : ℕ) (r : List ℕ) : Type 0 where
   pub long : length r ≡ 13
-  pub many : i ≡ total k (λ q. getD u q 0) + j
+  pub many : i ≡ sumBelow k (λ q. getD u q 0) + j
   pub before : (q : ℕ) → q < k → inFirst r i q ≡ getD u q 0
   pub here : inFirst r i k ≡ j
   pub kinds : (p : ℕ) → p < i → getD r p 0 < 34

@@ -7,7 +7,7 @@ use native.Mathlib.Omega.{arith}
 use borrow.Author.Tests.{leb-true, leb-false}
 use lib.Dec.{leb}
 use lib.ListN.{getD}
-use Rattle.tiles.specs.Below.{total}
+use Rattle.tiles.specs.Below.{sumBelow}
 use Rattle.ready_choices.specs.search.Tallies.{MeldsTally}
 use Rattle.ready_choices.specs.search.Moves.{gOf, pOf, xOf, yOf, zOf, state, place, tetra, triangle, taken, next, fine, ended, best}
 use Rattle.ready_choices.specs.laws.Sums.{total-suc}
@@ -20,16 +20,16 @@ unfoldable pub free : List ℕ → ℕ → ℕ → ℕ
 free d zero k = 0
 free d (suc n) k = cond (leb (getD d k 0) 1) 1 0 + free d n (suc k)
 
-free-many : (d : List ℕ) (n k : ℕ) → 2 * n + total k (λ j. getD d j 0) ≤ 2 * free d n k + total (k + n) (λ j. getD d j 0)
+free-many : (d : List ℕ) (n k : ℕ) → 2 * n + sumBelow k (λ j. getD d j 0) ≤ 2 * free d n k + sumBelow (k + n) (λ j. getD d j 0)
 unfolding free
 free-many d zero k = let q : k + 0 ≡ k = omega arith in rw q (omega arith)
 free-many d (suc n) k =
     let q : k + suc n ≡ suc k + n = omega arith in
     rw q (go (leb (getD d k 0) 1) refl (free-many d n (suc k)) (total-suc k (λ j. getD d j 0)))
   where
-    go : (b : Bool) → leb (getD d k 0) 1 ≡ b → 2 * n + total (suc k) (λ j. getD d j 0) ≤ 2 * free d n (suc k) + total (suc k + n) (λ j. getD d j 0) →
-        total (suc k) (λ j. getD d j 0) ≡ total k (λ j. getD d j 0) + getD d k 0 →
-        2 * suc n + total k (λ j. getD d j 0) ≤ 2 * (cond b 1 0 + free d n (suc k)) + total (suc k + n) (λ j. getD d j 0)
+    go : (b : Bool) → leb (getD d k 0) 1 ≡ b → 2 * n + sumBelow (suc k) (λ j. getD d j 0) ≤ 2 * free d n (suc k) + sumBelow (suc k + n) (λ j. getD d j 0) →
+        sumBelow (suc k) (λ j. getD d j 0) ≡ sumBelow k (λ j. getD d j 0) + getD d k 0 →
+        2 * suc n + sumBelow k (λ j. getD d j 0) ≤ 2 * (cond b 1 0 + free d n (suc k)) + sumBelow (suc k + n) (λ j. getD d j 0)
     go true e h t = omega arith
     go false e h t = omega (arith, leb-false (getD d k 0) 1 e)
 
@@ -96,5 +96,5 @@ exists t d four (suc n) k g p hg hp h =
 -- with few melds there is a complete hand
 pub complete-exists : (t d : List ℕ) (m : ℕ) → ((k : ℕ) → getD d k 0 ≤ 4) → MeldsTally d m → 1 ≤ best t d 34 0 (state 0 0 (4 - m) 1)
 complete-exists t d m four h =
-    let f : 2 * 34 + total 0 (λ j. getD d j 0) ≤ 2 * free d 34 0 + total 34 (λ j. getD d j 0) = free-many d 34 0 in
+    let f : 2 * 34 + sumBelow 0 (λ j. getD d j 0) ≤ 2 * free d 34 0 + sumBelow 34 (λ j. getD d j 0) = free-many d 34 0 in
     exists t d four 34 0 (4 - m) 1 (omega arith) (omega arith) (omega (arith, h .few, h .tiles))

@@ -7,7 +7,7 @@ use borrow.Author.Tests.{lt-ltb, le-ltb, leb-true, eqb-true, eqb-false, not-true
 use lib.Dec.{leb, eqb}
 use Rattle.tiles.specs.Kinds.{isRunStart, isYaochu}
 use Rattle.tiles.specs.laws.Below.{and-true, every-at}
-use Rattle.tiles.specs.Below.{every}
+use Rattle.tiles.specs.Below.{allBelow}
 use Rattle.ready_choices.specs.declared.Begun.{Begun}
 use Rattle.ready_choices.specs.declared.Move.{Move}
 use Rattle.ready_choices.specs.search.Moves.{aOf, bOf, gOf, pOf, xOf, yOf, zOf, state, may, fine, kept}
@@ -78,8 +78,8 @@ pairs-one s e h =
 low-choice : ℕ → Bool
 low-choice e = leb (xOf e) 4 && (leb (yOf e) 1 && leb (zOf e) 1)
 
-low-choices : every 10 low-choice ≡ true
-unfolding every low-choice xOf yOf zOf
+low-choices : allBelow 10 low-choice ≡ true
+unfolding allBelow low-choice xOf yOf zOf
 low-choices = refl
 
 -- a choice has four runs, one triplet, one pair at most

@@ -9,7 +9,7 @@ use borrow.Author.Tests.{le-ltb, eqb-true, eqb-false}
 use lib.Dec.{eqb}
 use lib.ListN.{length, getD, length-set}
 use lib.Seq.{ext-getD}
-use Rattle.tiles.specs.Below.{total}
+use Rattle.tiles.specs.Below.{sumBelow}
 use Rattle.tiles.specs.Groups.{isGroup, atKind, uses}
 use Rattle.tiles.specs.laws.Tally.{more, getD-more, at-le}
 use Rattle.reading.specs.declared.Reading.{Reading}
@@ -30,7 +30,7 @@ uses-three : (g k : ℕ) → 34 ≤ g → uses g k ≡ atKind (g - 34) 3 k
 unfolding uses
 uses-three g k r = rw (le-ltb g 34 r)
 
-group-total : (g : ℕ) → isGroup g ≡ true → total 34 (uses g) ≡ 3
+group-total : (g : ℕ) → isGroup g ≡ true → sumBelow 34 (uses g) ≡ 3
 group-total g e =
     run-or g
     (λ r.
@@ -46,14 +46,14 @@ group-total g e =
     ))
     (λ r. total-cong (uses g) (atKind (g - 34) 3) 34 (λ k l. uses-three g k r) ∙ total-at (g - 34) 3 34 (omega (arith, triplet-in g e r)))
 
-groups-total : (gs : List ℕ) → AllGroups gs → total 34 (usedBy gs) ≡ 3 * length gs
+groups-total : (gs : List ℕ) → AllGroups gs → sumBelow 34 (usedBy gs) ≡ 3 * length gs
 unfolding usedBy
 groups-total [] a = total-none (λ k. 0) 34 (λ k l. refl)
 groups-total (g ∷ gs) a = omega (arith, total-add (uses g) (usedBy gs) 34, group-total g (a .0), groups-total gs (a .1))
 
 -- ---- complete hands
 pub record Whole (w : List ℕ) (m : ℕ) : Type 0 where
-  pub size : total 34 (λ k. getD w k 0) + 3 * m ≡ 14
+  pub size : sumBelow 34 (λ k. getD w k 0) + 3 * m ≡ 14
   pub reads : (win : ℕ) → 1 ≤ getD w win 0 → Reads w m win
 
 -- where the choices for a complete hand begin
@@ -77,7 +77,7 @@ unfolding gOf
 regular-whole m d w h l r =
     let b = built (4 - m) d w 34 0 (omega arith) (omega arith) r in
     let q : b .q ≡ 1 = omega (arith, b .one) in
-    let c : total 34 (λ k. getD w k 0) ≡ total 34 (λ k. atKind (b .pair) 2 k + usedBy (b .codes) k) =
+    let c : sumBelow 34 (λ k. getD w k 0) ≡ sumBelow 34 (λ k. atKind (b .pair) 2 k + usedBy (b .codes) k) =
     total-cong (λ k. getD w k 0) (λ k. atKind (b .pair) 2 k + usedBy (b .codes) k) 34 (λ k i. rw q at (b .tiles k i)) in
     let n : length (b .codes) ≡ 4 - m = omega (arith, b .size) in
     record {
@@ -140,7 +140,7 @@ reading-came m win d w r four (orphans p) =
     record { start = 79; from = thirteen (p .closed) refl; end = 78; reach = orphans-reach d w four (p .kinds); done = refl }
 
 -- ---- swaps and tiles kept
-swaps-kept : (t u : List ℕ) → swapsOf t u + total 34 (both t u) ≡ total 34 (λ k. getD t k 0)
+swaps-kept : (t u : List ℕ) → swapsOf t u + sumBelow 34 (both t u) ≡ sumBelow 34 (λ k. getD t k 0)
 unfolding swapsOf
 swaps-kept t u =
     sym (total-add (λ k. getD t k 0 - getD u k 0) (both t u) 34)
@@ -161,7 +161,7 @@ ready-needs t d v m h r =
     let four : (j : ℕ) → j < 34 → getD w j 0 + getD d j 0 ≤ 4 = λ j l. go k (r .wait .below) (r .hand .four) j l (at-w j l) (eqb k j) refl in
     let c = reading-came m k d w (r .wait .reading) four (r .wait .reads) in
     let kw = reach-kept (c .start) t d w (c .end) (c .reach) (c .done) in
-    let le : total 34 (both t v) ≤ total 34 (both t w) = total-le-of (both t v) (both t w) 34 (λ j l. omega (arith, at-w j l)) in
+    let le : sumBelow 34 (both t v) ≤ sumBelow 34 (both t w) = total-le-of (both t v) (both t w) 34 (λ j l. omega (arith, at-w j l)) in
     record { start = c .start; from = c .from; swapped = omega (arith, swaps-kept t v, h .tiles, kw, le) }
   where
     go : (k : ℕ) → getD v k 0 + getD d k 0 < 4 → ((j : ℕ) → j < 34 → getD v j 0 + getD d j 0 ≤ 4) → (j : ℕ) → j < 34
@@ -176,7 +176,7 @@ unfolding more
 more-long t k n = rw length-set
 
 module _ (t d w : List ℕ) (m j x : ℕ) (ht : HandTally t d m) (lw : length w ≡ 34) (h : Whole w m) (four : (k : ℕ) → k < 34 → getD w k 0 + getD d k 0 ≤ 4)
-    (v : total 34 (both t w) + 1 ≡ x) (lj : j < 34) (lack : getD t j 0 < getD w j 0) where
+    (v : sumBelow 34 (both t w) + 1 ≡ x) (lj : j < 34) (lack : getD t j 0 < getD w j 0) where
   u : List ℕ
   u = less w j 1
 
@@ -188,7 +188,7 @@ module _ (t d w : List ℕ) (m j x : ℕ) (ht : HandTally t d m) (lw : length w 
   unfolding u
   long = less-long w j 1 lw
 
-  one-less : total 34 (λ k. getD w k 0) ≡ 1 + total 34 (λ k. getD u k 0)
+  one-less : sumBelow 34 (λ k. getD w k 0) ≡ 1 + sumBelow 34 (λ k. getD u k 0)
   one-less =
       total-cong (λ k. getD w k 0) (λ k. atKind j 1 k + getD u k 0) 34 (λ k l. begun k)
       ∙ omega (arith, total-add (atKind j 1) (λ k. getD u k 0) 34, total-at j 1 34 lj)

@@ -7,7 +7,7 @@ use Prim.Native.Nat.{ℕ, zero, suc, _+_, _-_, _≤_, _<_, min}
 use native.Mathlib.Nat.{eq-or-lt-of-le, le-of-suc-le-suc}
 use native.Mathlib.Omega.{arith}
 use lib.ListN.{getD}
-use Rattle.tiles.specs.Below.{total}
+use Rattle.tiles.specs.Below.{sumBelow}
 use Rattle.tiles.specs.laws.Below.{and-true}
 use borrow.Author.Tests.{leb-true, le-leb}
 use lib.Dec.{leb}
@@ -42,8 +42,8 @@ best-suc t d n k s e h = most-ge (worth (getD t k 0) (4 - getD d k 0) (best t d 
 -- one choice more
 module _ (start : ℕ) (t d w : List ℕ) (k s r n e : ℕ) where
   further : e < 10 → fine (4 - getD d k 0) k s e ≡ true → getD w k 0 ≡ taken k s e → r ≡ next s e → 1 ≤ best t d n (suc k) r →
-      (1 ≤ best t d (suc n) k s → total k (both t w) + best t d (suc n) k s ≤ best t d 34 0 start) →
-      total (suc k) (both t w) + best t d n (suc k) r ≤ best t d 34 0 start
+      (1 ≤ best t d (suc n) k s → sumBelow k (both t w) + best t d (suc n) k s ≤ best t d 34 0 start) →
+      sumBelow (suc k) (both t w) + best t d n (suc k) r ≤ best t d 34 0 start
   further l f u q h p =
       let b : 1 ≤ best t d n (suc k) (next s e) = rw q at h in
       let v = worth-fine (getD t k 0) (4 - getD d k 0) (best t d n (suc k)) k s e f b in
@@ -53,12 +53,12 @@ module _ (start : ℕ) (t d w : List ℕ) (k s r n e : ℕ) where
 module _ (start : ℕ) (t d w : List ℕ) where
   -- no choices keep more than the best
   pub reach-best : (k s n : ℕ) → Reach start d w k s → k + n ≡ 34 → 1 ≤ best t d n k s →
-      total k (both t w) + best t d n k s ≤ best t d 34 0 start
+      sumBelow k (both t w) + best t d n k s ≤ best t d 34 0 start
   reach-best _ _ n begin e h = let q : n ≡ 34 = omega arith in rw (q, total-zero (both t w)) (omega arith)
   reach-best _ _ n (move {k} {s} {r} p e l f u q) g h = further start t d w k s r n e l f u q h (λ i. reach-best k s (suc n) p (omega arith) i)
 
   -- a hand that takes choices to an end keeps no more than the best
-  pub reach-kept : (s : ℕ) → Reach start d w 34 s → ended s ≡ true → total 34 (both t w) + 1 ≤ best t d 34 0 start
+  pub reach-kept : (s : ℕ) → Reach start d w 34 s → ended s ≡ true → sumBelow 34 (both t w) + 1 ≤ best t d 34 0 start
   unfolding best
   reach-kept s r e =
       let q : best t d 0 34 s ≡ 1 = rw e in

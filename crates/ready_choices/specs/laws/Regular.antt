@@ -8,7 +8,7 @@ use native.Mathlib.Omega.{arith}
 use borrow.Author.Tests.{lt-ltb, le-ltb, le-leb, eq-eqb, ltb-true, leb-true, eqb-true, eqb-false}
 use lib.Dec.{ltb, leb, eqb}
 use lib.ListN.{length, getD}
-use Rattle.tiles.specs.Below.{total}
+use Rattle.tiles.specs.Below.{sumBelow}
 use Rattle.tiles.specs.Kinds.{isRunStart}
 use Rattle.tiles.specs.Groups.{isGroup, atKind, uses}
 use Rattle.tiles.specs.laws.Below.{and-true}
@@ -32,8 +32,8 @@ pub record Shape (G : ℕ) (w : List ℕ) : Type 0 where
   pub z : ℕ → ℕ
   pub runs : (k : ℕ) → k < 34 → 0 < x k → isRunStart k ≡ true
   pub tiles : (k : ℕ) → k < 34 → getD w k 0 ≡ x k + back x k + back (back x) k + 3 * y k + 2 * z k
-  pub groups : total 34 (λ k. x k + y k) ≡ G
-  pub pair : total 34 z ≡ 1
+  pub groups : sumBelow 34 (λ k. x k + y k) ≡ G
+  pub pair : sumBelow 34 z ≡ 1
 
 or-right : (a b : Bool) → b ≡ true → a || b ≡ true
 or-right true b e = refl
@@ -80,10 +80,10 @@ state-cong e1 e2 e3 e4 = rw (e1, e2, e3, e4)
 module _ (G : ℕ) (d w : List ℕ) (g4 : G ≤ 4) (four : (k : ℕ) → k < 34 → getD w k 0 + getD d k 0 ≤ 4) (h : Shape G w) where
   -- the state before the kind k
   unfoldable pub before : ℕ → ℕ
-  before k = state (back (h .x) k) (back (back (h .x)) k) (G - total k (λ j. h .x j + h .y j)) (1 - total k (h .z))
+  before k = state (back (h .x) k) (back (back (h .x)) k) (G - sumBelow k (λ j. h .x j + h .y j)) (1 - sumBelow k (h .z))
 
   -- runs begun before are among the groups begun
-  pub runs-among : (k : ℕ) → back (h .x) k + back (back (h .x)) k ≤ total k (λ j. h .x j + h .y j)
+  pub runs-among : (k : ℕ) → back (h .x) k + back (back (h .x)) k ≤ sumBelow k (λ j. h .x j + h .y j)
   unfolding back
   runs-among zero = omega arith
   runs-among (suc zero) = let q = total-suc 0 (λ j. h .x j + h .y j) in omega arith
@@ -92,7 +92,7 @@ module _ (G : ℕ) (d w : List ℕ) (g4 : G ≤ 4) (four : (k : ℕ) → k < 34 
       let r = total-suc k (λ j. h .x j + h .y j) in
       omega arith
 
-  pub before-read : (k : ℕ) → k ≤ 34 → Read (back (h .x) k) (back (back (h .x)) k) (G - total k (λ j. h .x j + h .y j)) (1 - total k (h .z)) (before k)
+  pub before-read : (k : ℕ) → k ≤ 34 → Read (back (h .x) k) (back (back (h .x)) k) (G - sumBelow k (λ j. h .x j + h .y j)) (1 - sumBelow k (h .z)) (before k)
   unfolding before
   before-read k l =
       state-read _ _ _ _ (omega (arith, runs-among k, h .groups, total-mono (λ j. h .x j + h .y j) k 34 l)) (omega arith)
@@ -131,10 +131,10 @@ module _ (G : ℕ) (d w : List ℕ) (g4 : G ≤ 4) (four : (k : ℕ) → k < 34 
   reach-one k l r =
       let s = before k in
       let q = before-read k (omega arith) in
-      let ts : total (suc k) (h .z) ≡ total k (h .z) + h .z k = total-suc k (h .z) in
-      let tg : total (suc k) (λ j. h .x j + h .y j) ≡ total k (λ j. h .x j + h .y j) + (h .x k + h .y k) = total-suc k (λ j. h .x j + h .y j) in
-      let mz : total (suc k) (h .z) ≤ 1 = omega (arith, h .pair, total-mono (h .z) (suc k) 34 l) in
-      let mg : total (suc k) (λ j. h .x j + h .y j) ≤ G = omega (arith, h .groups, total-mono (λ j. h .x j + h .y j) (suc k) 34 l) in
+      let ts : sumBelow (suc k) (h .z) ≡ sumBelow k (h .z) + h .z k = total-suc k (h .z) in
+      let tg : sumBelow (suc k) (λ j. h .x j + h .y j) ≡ sumBelow k (λ j. h .x j + h .y j) + (h .x k + h .y k) = total-suc k (λ j. h .x j + h .y j) in
+      let mz : sumBelow (suc k) (h .z) ≤ 1 = omega (arith, h .pair, total-mono (h .z) (suc k) 34 l) in
+      let mg : sumBelow (suc k) (λ j. h .x j + h .y j) ≤ G = omega (arith, h .groups, total-mono (λ j. h .x j + h .y j) (suc k) 34 l) in
       let tl : getD w k 0 ≡ h .x k + back (h .x) k + back (back (h .x)) k + 3 * h .y k + 2 * h .z k = h .tiles k l in
       let fw : getD w k 0 + getD d k 0 ≤ 4 = four k l in
       let c = chosen (h .x k) (h .y k) (h .z k) (omega arith) (omega arith) in
@@ -149,9 +149,9 @@ module _ (G : ℕ) (d w : List ℕ) (g4 : G ≤ 4) (four : (k : ℕ) → k < 34 
       let qp = q .pairs in
       let same : getD w k 0 ≡ taken k s e = omega arith in
       let fit : taken k s e ≤ 4 - getD d k 0 = under (taken k s e) (getD w k 0) (getD d k 0) same fw in
-      let (enough, left-g) = leaves G (total k (λ j. h .x j + h .y j)) (total (suc k) (λ j. h .x j + h .y j)) (gOf s) (xOf e + yOf e) (h .x k + h .y k) qg tg
+      let (enough, left-g) = leaves G (sumBelow k (λ j. h .x j + h .y j)) (sumBelow (suc k) (λ j. h .x j + h .y j)) (gOf s) (xOf e + yOf e) (h .x k + h .y k) qg tg
       (sum-cong ex ey) mg in
-      let (paired, left-p) = leaves 1 (total k (h .z)) (total (suc k) (h .z)) (pOf s) (zOf e) (h .z k) qp ts ez mz in
+      let (paired, left-p) = leaves 1 (sumBelow k (h .z)) (sumBelow (suc k) (h .z)) (pOf s) (zOf e) (h .z k) qp ts ez mz in
       move r e (c .low)
       (fine-of (4 - getD d k 0) k s e (live-regular k s (q .low) (rw qa (allow-a k l)) (rw qb (allow-b k l)))
       (may-regular k s e (q .low) enough paired (rw ex (allow-x k l))) fit)
@@ -168,8 +168,8 @@ module _ (G : ℕ) (d w : List ℕ) (g4 : G ≤ 4) (four : (k : ℕ) → k < 34 
   before-end =
       let a : h .x 33 ≡ 0 = no-run 33 refl (omega arith) in
       let b : h .x 32 ≡ 0 = no-run 32 refl (omega arith) in
-      let c : G - total 34 (λ j. h .x j + h .y j) ≡ 0 = omega (arith, h .groups) in
-      let e : 1 - total 34 (h .z) ≡ 0 = omega (arith, h .pair) in
+      let c : G - sumBelow 34 (λ j. h .x j + h .y j) ≡ 0 = omega (arith, h .groups) in
+      let e : 1 - sumBelow 34 (h .z) ≡ 0 = omega (arith, h .pair) in
       rw (a, b, c, e)
     where
       no-run : (j : ℕ) → isRunStart j ≡ false → j < 34 → h .x j ≡ 0
@@ -179,8 +179,8 @@ module _ (G : ℕ) (d w : List ℕ) (g4 : G ≤ 4) (four : (k : ℕ) → k < 34 
   pub shape-reach : Reach (state 0 0 G 1) d w 34 0
   unfolding back before
   shape-reach =
-      let g : G - total 0 (λ j. h .x j + h .y j) ≡ G = omega (arith, total-zero (λ j. h .x j + h .y j)) in
-      let p : 1 - total 0 (h .z) ≡ 1 = omega (arith, total-zero (h .z)) in
+      let g : G - sumBelow 0 (λ j. h .x j + h .y j) ≡ G = omega (arith, total-zero (λ j. h .x j + h .y j)) in
+      let p : 1 - sumBelow 0 (h .z) ≡ 1 = omega (arith, total-zero (h .z)) in
       let a : before 0 ≡ state 0 0 G 1 = state-cong refl refl g p in
       subst (λ (s : ℕ). Reach s d w 34 0) a (subst (λ (s : ℕ). Reach (before 0) d w 34 s) before-end (reaches 34 (omega arith)))
 
@@ -269,12 +269,12 @@ groups-tiles (g ∷ gs) c k o l =
     omega (arith, groups-tiles gs g k (o .2) l, group-tiles g k (o .1) l, back-ofKind g gs k, back-back-ofKind g gs k, cons g gs k, cons g gs (34 + k))
 
 -- each group begins once
-begin-once : (g : ℕ) → isGroup g ≡ true → total 34 (atKind g 1) + total 34 (λ k. atKind g 1 (34 + k)) ≡ 1
+begin-once : (g : ℕ) → isGroup g ≡ true → sumBelow 34 (atKind g 1) + sumBelow 34 (λ k. atKind g 1 (34 + k)) ≡ 1
 begin-once g e =
     run-or g
     (λ r. omega (arith, total-at g 1 34 r, total-none (λ k. atKind g 1 (34 + k)) 34 (λ k l. at-other g 1 (34 + k) (omega arith))))
     (λ r.
-    let s : total 34 (λ k. atKind g 1 (34 + k)) ≡ total 34 (atKind (g - 34) 1) =
+    let s : sumBelow 34 (λ k. atKind g 1 (34 + k)) ≡ sumBelow 34 (atKind (g - 34) 1) =
     total-cong (λ k. atKind g 1 (34 + k)) (atKind (g - 34) 1) 34 (λ k l. same r k (eqb (g - 34) k) refl) in
     omega (arith, total-none (atKind g 1) 34 (λ k l. at-other g 1 k (omega arith)), s, total-at (g - 34) 1 34 (omega (arith, triplet-in g e r))))
   where
@@ -289,7 +289,7 @@ begin-once g e =
         let i : g - 34 ≡ k → ⊥ = eqb-false (g - 34) k q in
         at-other g 1 (34 + k) (λ o. i (omega arith)) ∙ sym (at-other (g - 34) 1 k i)
 
-groups-begin : (gs : List ℕ) (c : ℕ) → Ascends c gs → total 34 (ofKind gs) + total 34 (λ k. ofKind gs (34 + k)) ≡ length gs
+groups-begin : (gs : List ℕ) (c : ℕ) → Ascends c gs → sumBelow 34 (ofKind gs) + sumBelow 34 (λ k. ofKind gs (34 + k)) ≡ length gs
 unfolding ofKind
 groups-begin [] c o = omega (arith, total-none (λ k. 0) 34 (λ k l. refl))
 groups-begin (g ∷ gs) c o =

@@ -9,7 +9,7 @@ use native.Mathlib.Omega.{arith}
 use borrow.Author.Tests.{lt-ltb, le-ltb, le-leb, eq-eqb, ne-eqb, leb-true, eqb-true}
 use lib.Dec.{leb, eqb}
 use lib.ListN.{getD}
-use Rattle.tiles.specs.Below.{total, every, number}
+use Rattle.tiles.specs.Below.{sumBelow, allBelow, countBelow}
 use Rattle.tiles.specs.Kinds.{isYaochu}
 use Rattle.tiles.specs.laws.Below.{and-true, every-at, every-of, number-total}
 use Rattle.reading.specs.Reading.{isSevenPairs, isOrphans}
@@ -72,40 +72,40 @@ pair-two n true b e f o = let q : n ≡ 0 = eqb-true n 0 e in rw q (refl, omega 
 pair-two n false true e f o = let q : n ≡ 2 = eqb-true n 2 f in rw q (refl, omega arith)
 pair-two n false false e f o = absurd (mathlib.Core.Bool.false≢true o)
 
-module _ (d w : List ℕ) (four : (k : ℕ) → k < 34 → getD w k 0 + getD d k 0 ≤ 4) (each : (k : ℕ) → k < 34 → paired w k ≡ true) (seven : total 34 (held w) ≡ 7) where
-  pairs-one : (k : ℕ) → k < 34 → Reach 77 d w k (77 - total k (held w)) → Reach 77 d w (suc k) (77 - total (suc k) (held w))
+module _ (d w : List ℕ) (four : (k : ℕ) → k < 34 → getD w k 0 + getD d k 0 ≤ 4) (each : (k : ℕ) → k < 34 → paired w k ≡ true) (seven : sumBelow 34 (held w) ≡ 7) where
+  pairs-one : (k : ℕ) → k < 34 → Reach 77 d w k (77 - sumBelow k (held w)) → Reach 77 d w (suc k) (77 - sumBelow (suc k) (held w))
   pairs-one k l r =
       let t = total-suc k (held w) in
       let u = total-mono (held w) (suc k) 34 l in
       let (p, q) = pair-two (getD w k 0) (eqb (getD w k 0) 0) (eqb (getD w k 0) 2) refl refl (each k l) in
-      let s = 77 - total k (held w) in
+      let s = 77 - sumBelow k (held w) in
       let e = held w k in
       let lo : 70 ≤ s = omega arith in
       let hi : s < 78 = omega arith in
       let tk : getD w k 0 ≡ taken k s e = p ∙ sym (taken-pairs k s e lo hi) in
-      let nx : 77 - total (suc k) (held w) ≡ next s e = omega (arith, next-special k s e lo) in
+      let nx : 77 - sumBelow (suc k) (held w) ≡ next s e = omega (arith, next-special k s e lo) in
       let el : e < 10 = omega arith in
       let mp : e ≤ s - 70 = omega arith in
       move r e el
       (fine-of (4 - getD d k 0) k s e (live-special k s e lo) (may-pairs k s e lo hi q mp) (under (taken k s e) (getD w k 0) (getD d k 0) tk (four k l)))
       tk nx
 
-  pairs-all : (k : ℕ) → k ≤ 34 → Reach 77 d w k (77 - total k (held w))
-  pairs-all zero l = let q : 77 - total 0 (held w) ≡ 77 = omega (arith, total-zero (held w)) in rw q begin
+  pairs-all : (k : ℕ) → k ≤ 34 → Reach 77 d w k (77 - sumBelow k (held w))
+  pairs-all zero l = let q : 77 - sumBelow 0 (held w) ≡ 77 = omega (arith, total-zero (held w)) in rw q begin
   pairs-all (suc k) l = pairs-one k l (pairs-all k (omega arith))
 
 pub seven-reach : (d w : List ℕ) → ((k : ℕ) → k < 34 → getD w k 0 + getD d k 0 ≤ 4) → isSevenPairs w ≡ true → Reach 77 d w 34 70
 unfolding isSevenPairs
 seven-reach d w four e =
-    let p = and-true (every 34 (paired w)) (eqb (number 34 (λ k. leb 1 (getD w k 0))) 7) e in
-    let n : total 34 (held w) ≡ 7 = sym (number-total (λ k. leb 1 (getD w k 0)) 34) ∙ eqb-true (number 34 (λ k. leb 1 (getD w k 0))) 7 (p .1) in
-    let q : 77 - total 34 (held w) ≡ 70 = omega arith in
+    let p = and-true (allBelow 34 (paired w)) (eqb (countBelow 34 (λ k. leb 1 (getD w k 0))) 7) e in
+    let n : sumBelow 34 (held w) ≡ 7 = sym (number-total (λ k. leb 1 (getD w k 0)) 34) ∙ eqb-true (countBelow 34 (λ k. leb 1 (getD w k 0))) 7 (p .1) in
+    let q : 77 - sumBelow 34 (held w) ≡ 70 = omega arith in
     subst (λ (s : ℕ). Reach 77 d w 34 s) q (pairs-all d w four (λ k l. every-at (paired w) 34 k (p .0) l) n 34 (omega arith))
 
 record Pairs (k s : ℕ) (w : List ℕ) : Type 0 where
   low : 70 ≤ s
   high : s < 78
-  count : total k (held w) + s ≡ 77
+  count : sumBelow k (held w) + s ≡ 77
   each : (j : ℕ) → j < k → paired w j ≡ true
 
 two-pair : (n e : ℕ) → e ≤ 1 → n ≡ 2 * e → (eqb n 0 || eqb n 2 ≡ true) × (cond (leb 1 n) 1 0 ≡ e)
@@ -120,7 +120,7 @@ pairs-more k s e r d w p f u n =
     let m : r ≡ s - e = n ∙ next-special k s e (p .low) in
     let pl : 70 ≤ s = p .low in
     let ph : s < 78 = p .high in
-    let pc : total k (held w) + s ≡ 77 = p .count in
+    let pc : sumBelow k (held w) + s ≡ 77 = p .count in
     let t = total-suc k (held w) in
     record {
       low = omega arith;
@@ -137,8 +137,8 @@ pub reach-seven : (d w : List ℕ) → Reach 77 d w 34 70 → isSevenPairs w ≡
 unfolding isSevenPairs
 reach-seven d w r =
     let p = pairs-of d w 34 70 r in
-    let n : number 34 (λ k. leb 1 (getD w k 0)) ≡ 7 = number-total (λ k. leb 1 (getD w k 0)) 34 ∙ omega (arith, p .count) in
-    rw (every-of (paired w) 34 (p .each), eq-eqb (number 34 (λ k. leb 1 (getD w k 0))) 7 n)
+    let n : countBelow 34 (λ k. leb 1 (getD w k 0)) ≡ 7 = number-total (λ k. leb 1 (getD w k 0)) 34 ∙ omega (arith, p .count) in
+    rw (every-of (paired w) 34 (p .each), eq-eqb (countBelow 34 (λ k. leb 1 (getD w k 0))) 7 n)
 
 -- ---- thirteen orphans
 abbrev proper : List ℕ → ℕ → Bool
@@ -155,39 +155,39 @@ orphan-two n true false true e f o = let q : n ≡ 2 = eqb-true n 2 f in rw q (r
 orphan-two n true false false e f o = absurd (mathlib.Core.Bool.false≢true o)
 orphan-two n false a b e f o = let q : n ≡ 0 = eqb-true n 0 o in rw q (refl, omega arith, refl)
 
-module _ (d w : List ℕ) (four : (k : ℕ) → k < 34 → getD w k 0 + getD d k 0 ≤ 4) (each : (k : ℕ) → k < 34 → proper w k ≡ true) (one : total 34 (twice w) ≡ 1) where
-  orphans-one : (k : ℕ) → k < 34 → Reach 79 d w k (79 - total k (twice w)) → Reach 79 d w (suc k) (79 - total (suc k) (twice w))
+module _ (d w : List ℕ) (four : (k : ℕ) → k < 34 → getD w k 0 + getD d k 0 ≤ 4) (each : (k : ℕ) → k < 34 → proper w k ≡ true) (one : sumBelow 34 (twice w) ≡ 1) where
+  orphans-one : (k : ℕ) → k < 34 → Reach 79 d w k (79 - sumBelow k (twice w)) → Reach 79 d w (suc k) (79 - sumBelow (suc k) (twice w))
   orphans-one k l r =
       let t = total-suc k (twice w) in
       let u = total-mono (twice w) (suc k) 34 l in
       let (p, q, y) = orphan-two (getD w k 0) (isYaochu k) (eqb (getD w k 0) 1) (eqb (getD w k 0) 2) refl refl (each k l) in
-      let s = 79 - total k (twice w) in
+      let s = 79 - sumBelow k (twice w) in
       let e = twice w k in
       let lo : 78 ≤ s = omega arith in
       let lw : 70 ≤ s = omega arith in
       let tk : getD w k 0 ≡ taken k s e = p ∙ sym (taken-orphans k s e lw lo) in
-      let nx : 79 - total (suc k) (twice w) ≡ next s e = omega (arith, next-special k s e lw) in
+      let nx : 79 - sumBelow (suc k) (twice w) ≡ next s e = omega (arith, next-special k s e lw) in
       let el : e < 10 = omega arith in
       let mp : e ≤ s - 78 = omega arith in
       move r e el
       (fine-of (4 - getD d k 0) k s e (live-special k s e lw) (may-orphans k s e lw lo q mp y) (under (taken k s e) (getD w k 0) (getD d k 0) tk (four k l)))
       tk nx
 
-  orphans-all : (k : ℕ) → k ≤ 34 → Reach 79 d w k (79 - total k (twice w))
-  orphans-all zero l = let q : 79 - total 0 (twice w) ≡ 79 = omega (arith, total-zero (twice w)) in rw q begin
+  orphans-all : (k : ℕ) → k ≤ 34 → Reach 79 d w k (79 - sumBelow k (twice w))
+  orphans-all zero l = let q : 79 - sumBelow 0 (twice w) ≡ 79 = omega (arith, total-zero (twice w)) in rw q begin
   orphans-all (suc k) l = orphans-one k l (orphans-all k (omega arith))
 
 pub orphans-reach : (d w : List ℕ) → ((k : ℕ) → k < 34 → getD w k 0 + getD d k 0 ≤ 4) → isOrphans w ≡ true → Reach 79 d w 34 78
 unfolding isOrphans
 orphans-reach d w four e =
-    let p = and-true (every 34 (proper w)) (eqb (number 34 (λ k. eqb (getD w k 0) 2)) 1) e in
-    let n : total 34 (twice w) ≡ 1 = sym (number-total (λ k. eqb (getD w k 0) 2) 34) ∙ eqb-true (number 34 (λ k. eqb (getD w k 0) 2)) 1 (p .1) in
-    let q : 79 - total 34 (twice w) ≡ 78 = omega arith in
+    let p = and-true (allBelow 34 (proper w)) (eqb (countBelow 34 (λ k. eqb (getD w k 0) 2)) 1) e in
+    let n : sumBelow 34 (twice w) ≡ 1 = sym (number-total (λ k. eqb (getD w k 0) 2) 34) ∙ eqb-true (countBelow 34 (λ k. eqb (getD w k 0) 2)) 1 (p .1) in
+    let q : 79 - sumBelow 34 (twice w) ≡ 78 = omega arith in
     subst (λ (s : ℕ). Reach 79 d w 34 s) q (orphans-all d w four (λ k l. every-at (proper w) 34 k (p .0) l) n 34 (omega arith))
 
 record Orphans (k s : ℕ) (w : List ℕ) : Type 0 where
   low : 78 ≤ s
-  count : total k (twice w) + s ≡ 79
+  count : sumBelow k (twice w) + s ≡ 79
   each : (j : ℕ) → j < k → proper w j ≡ true
 
 two-orphan : (n e : ℕ) (y : Bool) → e ≤ 1 → eqb e 0 || y ≡ true → n ≡ cond y (1 + e) 0
@@ -205,7 +205,7 @@ orphans-more k s e r d w p f u n =
     let (a, b, c) = may-orphans-begun k s e lw pl (fine-begun (4 - getD d k 0) k s e f .1) in
     let (x, y) = two-orphan (getD w k 0) e (isYaochu k) a c (u ∙ taken-orphans k s e lw pl) in
     let m : r ≡ s - e = n ∙ next-special k s e lw in
-    let pc : total k (twice w) + s ≡ 79 = p .count in
+    let pc : sumBelow k (twice w) + s ≡ 79 = p .count in
     let t = total-suc k (twice w) in
     record {
       low = omega arith;
@@ -221,8 +221,8 @@ pub reach-orphans : (d w : List ℕ) → Reach 79 d w 34 78 → isOrphans w ≡ 
 unfolding isOrphans
 reach-orphans d w r =
     let p = orphans-of d w 34 78 r in
-    let n : number 34 (λ k. eqb (getD w k 0) 2) ≡ 1 = number-total (λ k. eqb (getD w k 0) 2) 34 ∙ omega (arith, p .count) in
-    rw (every-of (proper w) 34 (p .each), eq-eqb (number 34 (λ k. eqb (getD w k 0) 2)) 1 n)
+    let n : countBelow 34 (λ k. eqb (getD w k 0) 2) ≡ 1 = number-total (λ k. eqb (getD w k 0) 2) 34 ∙ omega (arith, p .count) in
+    rw (every-of (proper w) 34 (p .each), eq-eqb (countBelow 34 (λ k. eqb (getD w k 0) 2)) 1 n)
 
 -- the end of each
 pub seven-end : (d w : List ℕ) (s : ℕ) → Reach 77 d w 34 s → (70 ≤ s) × (s < 78)
@@ -232,12 +232,12 @@ pub orphans-end : (d w : List ℕ) (s : ℕ) → Reach 79 d w 34 s → 78 ≤ s
 orphans-end d w s r = orphans-of d w 34 s r .low
 
 -- how many tiles they have
-pub seven-total : (w : List ℕ) → isSevenPairs w ≡ true → total 34 (λ k. getD w k 0) ≡ 14
+pub seven-total : (w : List ℕ) → isSevenPairs w ≡ true → sumBelow 34 (λ k. getD w k 0) ≡ 14
 unfolding isSevenPairs
 seven-total w e =
-    let p = and-true (every 34 (paired w)) (eqb (number 34 (λ k. leb 1 (getD w k 0))) 7) e in
-    let n : total 34 (held w) ≡ 7 = sym (number-total (λ k. leb 1 (getD w k 0)) 34) ∙ eqb-true (number 34 (λ k. leb 1 (getD w k 0))) 7 (p .1) in
-    let c : total 34 (λ k. getD w k 0) ≡ total 34 (λ k. held w k + held w k) =
+    let p = and-true (allBelow 34 (paired w)) (eqb (countBelow 34 (λ k. leb 1 (getD w k 0))) 7) e in
+    let n : sumBelow 34 (held w) ≡ 7 = sym (number-total (λ k. leb 1 (getD w k 0)) 34) ∙ eqb-true (countBelow 34 (λ k. leb 1 (getD w k 0))) 7 (p .1) in
+    let c : sumBelow 34 (λ k. getD w k 0) ≡ sumBelow 34 (λ k. held w k + held w k) =
     total-cong (λ k. getD w k 0) (λ k. held w k + held w k) 34
     (λ k l. omega (arith, pair-two (getD w k 0) (eqb (getD w k 0) 0) (eqb (getD w k 0) 2) refl refl (every-at (paired w) 34 k (p .0) l) .0)) in
     omega (arith, c, total-add (held w) (held w) 34)
@@ -245,8 +245,8 @@ seven-total w e =
 abbrev yaochu : ℕ → ℕ
 yaochu k = cond (isYaochu k) 1 0
 
-yaochu-total : total 34 yaochu ≡ 13
-unfolding total
+yaochu-total : sumBelow 34 yaochu ≡ 13
+unfolding sumBelow
 yaochu-total = refl
 
 orphan-begun : (n c : ℕ) (y : Bool) → n ≡ cond y (1 + c) 0 → eqb c 0 || y ≡ true → n ≡ cond y 1 0 + c
@@ -254,12 +254,12 @@ orphan-begun n c true e o = e
 orphan-begun n zero false e o = e
 orphan-begun n (suc c) false e o = absurd (mathlib.Core.Bool.false≢true (rw (ne-eqb (suc c) 0 (omega arith)) at o))
 
-pub orphans-total : (w : List ℕ) → isOrphans w ≡ true → total 34 (λ k. getD w k 0) ≡ 14
+pub orphans-total : (w : List ℕ) → isOrphans w ≡ true → sumBelow 34 (λ k. getD w k 0) ≡ 14
 unfolding isOrphans
 orphans-total w e =
-    let p = and-true (every 34 (proper w)) (eqb (number 34 (λ k. eqb (getD w k 0) 2)) 1) e in
-    let n : total 34 (twice w) ≡ 1 = sym (number-total (λ k. eqb (getD w k 0) 2) 34) ∙ eqb-true (number 34 (λ k. eqb (getD w k 0) 2)) 1 (p .1) in
-    let c : total 34 (λ k. getD w k 0) ≡ total 34 (λ k. yaochu k + twice w k) =
+    let p = and-true (allBelow 34 (proper w)) (eqb (countBelow 34 (λ k. eqb (getD w k 0) 2)) 1) e in
+    let n : sumBelow 34 (twice w) ≡ 1 = sym (number-total (λ k. eqb (getD w k 0) 2) 34) ∙ eqb-true (countBelow 34 (λ k. eqb (getD w k 0) 2)) 1 (p .1) in
+    let c : sumBelow 34 (λ k. getD w k 0) ≡ sumBelow 34 (λ k. yaochu k + twice w k) =
     total-cong (λ k. getD w k 0) (λ k. yaochu k + twice w k) 34
     (λ k l.
     let (a, b, f) = orphan-two (getD w k 0) (isYaochu k) (eqb (getD w k 0) 1) (eqb (getD w k 0) 2) refl refl (every-at (proper w) 34 k (p .0) l) in

@@ -6,7 +6,7 @@ use native.Mathlib.Omega.{arith}
 use borrow.Author.Tests.{leb-true, ltb-true, eqb-true, le-leb}
 use lib.Dec.{leb, ltb, eqb}
 use lib.ListN.{getD}
-use Rattle.tiles.specs.Below.{every}
+use Rattle.tiles.specs.Below.{allBelow}
 use Rattle.tiles.specs.laws.Below.{every-at, and-true}
 use Rattle.ready_choices.specs.search.Moves.{begun, tetra, triangle, place, aOf, bOf, gOf, pOf, state, xOf, yOf, zOf}
 
@@ -17,15 +17,15 @@ placed a b g =
     (ltb (place a b g) 35
     && (eqb (getD begun (place a b g) 0 % 5) a && (eqb (getD begun (place a b g) 0 / 5 % 5) b && eqb (getD begun (place a b g) 0 / 25) g))) true
 
-placed-all : every 125 (λ c. placed (c / 25) (c / 5 % 5) (c % 5)) ≡ true
-unfolding every placed place tetra triangle
+placed-all : allBelow 125 (λ c. placed (c / 25) (c / 5 % 5) (c % 5)) ≡ true
+unfolding allBelow placed place tetra triangle
 placed-all = refl
 
 small : ℕ → Bool
 small i = leb (getD begun i 0 % 5 + getD begun i 0 / 5 % 5 + getD begun i 0 / 25) 4
 
-small-all : every 35 small ≡ true
-unfolding every small
+small-all : allBelow 35 small ≡ true
+unfolding allBelow small
 small-all = refl
 
 -- what a state has comes to 4 at most

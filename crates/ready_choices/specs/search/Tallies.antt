@@ -4,7 +4,7 @@ use mathlib.Core.Path.{_≡_}
 use mathlib.Core.List.{List}
 use Prim.Native.Nat.{ℕ, _+_, _-_, _*_, _≤_, _<_}
 use lib.ListN.{length, getD}
-use Rattle.tiles.specs.Below.{total}
+use Rattle.tiles.specs.Below.{sumBelow}
 use Rattle.tiles.specs.laws.Tally.{more}
 use Rattle.reading.specs.declared.Reading.{Reading}
 use Rattle.reading.specs.Reading.{IsReading}
@@ -12,7 +12,7 @@ use Rattle.reading.specs.Reading.{IsReading}
 -- "13 − 3m tiles" beside the melds, and "no kind over four held"
 pub record HandTally (u d : List ℕ) (m : ℕ) : Type 0 where
   pub kinds : length u ≡ 34
-  pub tiles : total 34 (λ k. getD u k 0) + 3 * m ≡ 13
+  pub tiles : sumBelow 34 (λ k. getD u k 0) + 3 * m ≡ 13
   pub four : (k : ℕ) → k < 34 → getD u k 0 + getD d k 0 ≤ 4
 
 -- S-1: "kinds that give a reading when added, yaku or not. A kind already held four times is never among them"
@@ -30,12 +30,12 @@ pub record ReadyTally (u d : List ℕ) (m : ℕ) : Type 0 where
 
 -- "tiles that must be swapped for others": those of t that u lacks
 unfoldable pub swapsOf : List ℕ → List ℕ → ℕ
-swapsOf t u = total 34 (λ k. getD t k 0 - getD u k 0)
+swapsOf t u = sumBelow 34 (λ k. getD t k 0 - getD u k 0)
 
 -- the tally of m melds: of 3 or 4 tiles each
 pub record MeldsTally (d : List ℕ) (m : ℕ) : Type 0 where
   pub few : m ≤ 4
-  pub tiles : total 34 (λ k. getD d k 0) ≤ 4 * m
+  pub tiles : sumBelow 34 (λ k. getD d k 0) ≤ 4 * m
 
 -- "The number is the fewest", "0 means ready"; "It comes with any one such hand that many swaps away, and every other ready hand with those
 -- melds needs at least as many swaps"

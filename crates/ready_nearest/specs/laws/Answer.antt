@@ -4,7 +4,7 @@ use mathlib.Core.List.{List}
 use Prim.Native.Nat.{ℕ, _-_, _*_, _≤_, _<_}
 use native.Mathlib.Omega.{arith}
 use lib.ListN.{length, getD}
-use Rattle.tiles.specs.Below.{total}
+use Rattle.tiles.specs.Below.{sumBelow}
 use Rattle.tiles.specs.laws.Tally.{tally-bound}
 use Rattle.ready_choices.specs.search.Tallies.{HandTally, MeldsTally, NearestTally}
 use Rattle.ready_choices.specs.search.Moves.{state, best}
@@ -32,7 +32,7 @@ module _ (t d : List ℕ) (m : ℕ) (h : HandTally t d m) (ld : length d ≡ 34)
       whole = reach-whole m d w s (q .end) (g .few) (q .long) (p .from) (q .reach) (q .done)
 
       -- a complete hand has a tile more
-      pub tile-more : total 34 (λ k. getD t k 0) < total 34 (λ k. getD w k 0)
+      pub tile-more : sumBelow 34 (λ k. getD t k 0) < sumBelow 34 (λ k. getD w k 0)
       tile-more = omega (arith, whole .size, h .tiles)
 
       -- the hand of the best choices, with one tile less
@@ -50,7 +50,7 @@ module _ (t d : List ℕ) (m : ℕ) (h : HandTally t d m) (ld : length d ≡ 34)
         pub value-low : getD table s 0 ≤ 14 - 3 * m
         value-low =
             let a = value in
-            let b : total 34 (both t w) ≤ total 34 (λ k. getD t k 0) = total-le-of (both t w) (λ k. getD t k 0) 34 (λ k l. omega arith) in
+            let b : sumBelow 34 (both t w) ≤ sumBelow 34 (λ k. getD t k 0) = total-le-of (both t w) (λ k. getD t k 0) 34 (λ k l. omega arith) in
             omega (arith, q .keeps, h .tiles)
 
         pub answer : (u : List ℕ) → Shorter t w u → NearestTally t d m (14 - 3 * m - getD table s 0) u

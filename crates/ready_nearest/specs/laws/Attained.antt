@@ -8,7 +8,7 @@ use borrow.Author.Tests.{ltb-true, ltb-false, leb-true, leb-false, eqb-true, eqb
 use lib.Dec.{ltb, leb, eqb}
 use lib.ListN.{length, getD, set, replicate, length-set}
 use lib.Seq.{getD-set-same, getD-set-other}
-use Rattle.tiles.specs.Below.{total}
+use Rattle.tiles.specs.Below.{sumBelow}
 use Rattle.reading.specs.search.Readings.{less}
 use Rattle.ready_choices.specs.search.Tallies.{HandTally, MeldsTally, NearestTally}
 use Rattle.ready_choices.specs.search.Moves.{most, state, taken, next, fine, ended, kept, worth, best}
@@ -32,12 +32,12 @@ most-some f (suc n) h = go (λ i. most-some f n i) (leb (most n f) (f n)) refl
     go r false q = let l = leb-false (most n f) (f n) q in let (e, i, v) = r (omega arith) in (e, omega arith, omega arith)
 
 -- where a sum is less a term is
-lesser : (f g : ℕ → ℕ) (n : ℕ) → total n f < total n g → (k : ℕ) × (k < n) × (f k < g k)
+lesser : (f g : ℕ → ℕ) (n : ℕ) → sumBelow n f < sumBelow n g → (k : ℕ) × (k < n) × (f k < g k)
 lesser f g zero h = absurd (omega (arith, total-zero f, total-zero g))
 lesser f g (suc n) h = go (λ i. lesser f g n i) (ltb (f n) (g n)) refl (total-suc n f) (total-suc n g)
   where
-    go : (total n f < total n g → (k : ℕ) × (k < n) × (f k < g k)) → (b : Bool) → ltb (f n) (g n) ≡ b → total (suc n) f ≡ total n f + f n
-        → total (suc n) g ≡ total n g + g n
+    go : (sumBelow n f < sumBelow n g → (k : ℕ) × (k < n) × (f k < g k)) → (b : Bool) → ltb (f n) (g n) ≡ b → sumBelow (suc n) f ≡ sumBelow n f + f n
+        → sumBelow (suc n) g ≡ sumBelow n g + g n
         → (k : ℕ) × (k < suc n) × (f k < g k)
     go r true q x y = (n, omega arith, ltb-true (f n) (g n) q)
     go r false q x y = let l = ltb-false (f n) (g n) q in let (k, i, v) = r (omega arith) in (k, omega arith, v)
@@ -59,7 +59,7 @@ module _ (t d : List ℕ) (start : ℕ) where
     long : length w ≡ 34
     reach : Reach start d w k s
     more : 1 ≤ best t d (34 - k) k s
-    keeps : total k (both t w) + best t d (34 - k) k s ≡ best t d 34 0 start
+    keeps : sumBelow k (both t w) + best t d (34 - k) k s ≡ best t d 34 0 start
 
   made-more : (k s : ℕ) (w : List ℕ) → k < 34 → Made k s w → (r : ℕ) × (v : List ℕ) × Made (suc k) r v
   unfolding best
@@ -67,7 +67,7 @@ module _ (t d : List ℕ) (start : ℕ) where
       let n = 34 - suc k in
       let i : 34 - k ≡ suc n = omega arith in
       let a : 1 ≤ best t d (suc n) k s = rw i at (h .more) in
-      let c : total k (both t w) + best t d (suc n) k s ≡ best t d 34 0 start = rw i at (h .keeps) in
+      let c : sumBelow k (both t w) + best t d (suc n) k s ≡ best t d 34 0 start = rw i at (h .keeps) in
       let f = worth (getD t k 0) (4 - getD d k 0) (best t d n (suc k)) k s in
       let (e, g, q) = most-some f 10 a in
       let (z, o) = worth-begun (getD t k 0) (4 - getD d k 0) (best t d n (suc k)) k s e (omega arith) in
@@ -76,7 +76,7 @@ module _ (t d : List ℕ) (start : ℕ) where
       let here : getD v k 0 ≡ taken k s e = getD-set-same w k (taken k s e) 0 (omega (arith, h .long)) in
       let earlier : (j : ℕ) → j < k → getD v j 0 ≡ getD w j 0 = λ j u. getD-set-other w k j (taken k s e) 0 (omega arith) in
       let b : both t v k ≡ min (getD t k 0) (taken k s e) = ap (λ x. min (getD t k 0) x) here in
-      let p : total k (both t v) ≡ total k (both t w) = total-cong (both t v) (both t w) k (λ j u. rw (earlier j u)) in (
+      let p : sumBelow k (both t v) ≡ sumBelow k (both t w) = total-cong (both t v) (both t w) k (λ j u. rw (earlier j u)) in (
         next s e,
         v,
         record {
@@ -96,7 +96,7 @@ module _ (t d : List ℕ) (start : ℕ) where
   walked h =
       let (s, w, m) = made h 34 (omega arith) in
       let o : ended s ≡ true = yes (ended s) (m .more) in
-      let k : total 34 (both t w) + cond (ended s) 1 0 ≡ best t d 34 0 start = m .keeps in
+      let k : sumBelow 34 (both t w) + cond (ended s) 1 0 ≡ best t d 34 0 start = m .keeps in
       (w, record { long = m .long; end = s; reach = m .reach; done = o; keeps = rw o at k })
     where
       yes : (b : Bool) → 1 ≤ cond b 1 0 → b ≡ true

@@ -16,7 +16,7 @@ use Rattle.ready_choices.specs.laws.Reach.{kept-more, fine-of}
 use Rattle.ready_choices.specs.laws.Makes.{kept-zero}
 use Rattle.ready_choices.specs.laws.Built.{may-begun}
 use Rattle.tiles.specs.Kinds.{isRunStart}
-use Rattle.tiles.specs.Below.{every}
+use Rattle.tiles.specs.Below.{allBelow}
 use Rattle.tiles.specs.laws.Below.{every-at}
 
 module _ (have room : ℕ) (later : ℕ → ℕ) (k s : ℕ) where
@@ -139,8 +139,8 @@ module _ (have room : ℕ) (later : ℕ → ℕ) (k s : ℕ) where
 more-groups : ℕ → Bool
 more-groups c = cond (leb (choices (c / 10)) (c % 10)) (ltb (c / 10) (xOf (c % 10) + yOf (c % 10))) true
 
-more-all : every 50 more-groups ≡ true
-unfolding every more-groups choices xOf yOf
+more-all : allBelow 50 more-groups ≡ true
+unfolding allBelow more-groups choices xOf yOf
 more-all = refl
 
 pub over-groups : (g e : ℕ) → g ≤ 4 → e < 10 → choices g ≤ e → g < xOf e + yOf e
@@ -155,8 +155,8 @@ over-groups g e h l i =
 begins : ℕ → Bool
 begins e = cond (leb 3 e) (ltb 0 (xOf e)) true
 
-begins-all : every 10 begins ≡ true
-unfolding every begins xOf
+begins-all : allBelow 10 begins ≡ true
+unfolding allBelow begins xOf
 begins-all = refl
 
 pub begins-run : (e : ℕ) → e < 10 → 3 ≤ e → 0 < xOf e

@@ -10,7 +10,7 @@ use borrow.Author.Tests.{eqb-true, eqb-false, ne-eqb, ltb-true, ltb-false}
 use lib.Dec.{eqb, ltb}
 use lib.ListN.{length, getD, set, length-set, replicate}
 use lib.Seq.{getD-set-same, getD-set-other}
-use Rattle.tiles.specs.Below.{total}
+use Rattle.tiles.specs.Below.{sumBelow}
 use Rattle.ready_nearest.specs.declared.Choice.{Choice}
 use Rattle.ready_choices.specs.search.Moves.{may, taken, next, fine, ended, most, kept, worth, best, state, aOf, gOf, pOf, xOf, yOf, zOf}
 use Rattle.ready_nearest.specs.search.Found.{Got, Chose, after, bestAt, Small, Fours, Filled, Walked, Topmost}
@@ -210,7 +210,7 @@ pub record Walking (t d : List ℕ) (start k s : ℕ) (w : List ℕ) : Type 0 wh
   pub state-low : s < 80
   pub reach : Reach start d w k s
   pub more : 1 ≤ best t d (34 - k) k s
-  pub keeps : total k (both t w) + best t d (34 - k) k s ≡ best t d 34 0 start
+  pub keeps : sumBelow k (both t w) + best t d (34 - k) k s ≡ best t d 34 0 start
 
 pub walking-begin : (t d w : List ℕ) (start : ℕ) → length w ≡ 34 → start < 80 → 1 ≤ best t d 34 0 start → Walking t d start 0 start w
 walking-begin t d w start g l h = record { low = omega arith; long = g; state-low = l; reach = begin; more = h; keeps = omega (arith, total-zero (both t w)) }
@@ -251,8 +251,8 @@ module _ (t d table w : List ℕ) (start k s : ℕ) (c : Choice) (l : k < 34) (f
       let a = later in
       let b : c .value ≡ after table k (next s (g .e)) + min (getD t k 0) (taken k s (g .e)) = g .value in
       let e : both t v k ≡ min (getD t k 0) (taken k s (g .e)) = ap (λ x. min (getD t k 0) x) (here ∙ g .tiles) in
-      let o : total k (both t v) ≡ total k (both t w) = total-cong (both t v) (both t w) k (λ j i. rw (earlier j i)) in
-      let u : total (k + 1) (both t v) ≡ total k (both t v) + both t v k = rw add-one (total-suc k (both t v)) in
+      let o : sumBelow k (both t v) ≡ sumBelow k (both t w) = total-cong (both t v) (both t w) k (λ j i. rw (earlier j i)) in
+      let u : sumBelow (k + 1) (both t v) ≡ sumBelow k (both t v) + both t v k = rw add-one (total-suc k (both t v)) in
       record {
         low = omega arith;
         long = rw length-set (h .long);
@@ -267,7 +267,7 @@ unfolding best
 walking-done t d w start k s e h =
     let q : 34 - k ≡ 0 = omega arith in
     let m : 1 ≤ cond (ended s) 1 0 = rw q at (h .more) in
-    let p : total 34 (both t w) + cond (ended s) 1 0 ≡ best t d 34 0 start = rw (q, e) at (h .keeps) in
+    let p : sumBelow 34 (both t w) + cond (ended s) 1 0 ≡ best t d 34 0 start = rw (q, e) at (h .keeps) in
     let r : Reach start d w 34 s = rw e at (h .reach) in
     let o : ended s ≡ true = yes (ended s) m in
     record { long = h .long; end = s; reach = r; done = o; keeps = rw o at p }

@@ -4,7 +4,7 @@ use mathlib.Core.Bool.{true}
 use mathlib.Core.List.{List}
 use Prim.Native.Nat.{ℕ, _+_, _-_, _*_, _/_, _%_, _≤_, _<_, min}
 use lib.ListN.{length, getD}
-use Rattle.tiles.specs.Below.{total}
+use Rattle.tiles.specs.Below.{sumBelow}
 use Rattle.reading.specs.search.Readings.{less}
 use Rattle.ready_nearest.specs.declared.Choice.{Choice}
 use Rattle.ready_choices.specs.search.Moves.{xOf, yOf, zOf, taken, next, fine, ended, most, worth, best}
@@ -61,7 +61,7 @@ pub record Walked (t d : List ℕ) (start : ℕ) (w : List ℕ) : Type 0 where
   pub end : ℕ
   pub reach : Reach start d w 34 end
   pub done : ended end ≡ true
-  pub keeps : total 34 (both t w) + 1 ≡ best t d 34 0 start
+  pub keeps : sumBelow 34 (both t w) + 1 ≡ best t d 34 0 start
 
 -- no start is better than s
 pub record Topmost (t d : List ℕ) (m s : ℕ) : Type 0 where

@@ -7,7 +7,7 @@ use native.Mathlib.Omega.{arith}
 use borrow.Author.Tests.{ltb-true, ltb-false}
 use lib.Dec.{eqb, ltb}
 use lib.ListN.{length, getD, List·getD-eq-default}
-use Rattle.tiles.specs.Below.{number}
+use Rattle.tiles.specs.Below.{countBelow}
 use Rattle.tiles.specs.Kinds.{doraOf, isYaochu}
 use Rattle.tiles.specs.Groups.{atKind, isTriplet}
 use Rattle.tiles.specs.Tally.{tallyOf}
@@ -39,7 +39,7 @@ one-le : (b : Bool) → cond b 1 0 ≤ 1
 one-le b = cond-le b 1 0 1 (omega arith) (omega arith)
 
 dragons-le : (g : List ℕ) → dragons g ≤ 3
-unfolding number
+unfolding countBelow
 dragons-le g = number-le (λ d. has g (65 + d)) 3
 
 value-han-le : (g : List ℕ) (round own : ℕ) (little : Bool) → valueHan g round own little ≤ 5

@@ -9,7 +9,7 @@ use native.Mathlib.Omega.{arith}
 use borrow.Author.Tests.{ltb-false}
 use lib.Dec.{leb, ltb}
 use lib.ListN.{getD}
-use Rattle.tiles.specs.Below.{some}
+use Rattle.tiles.specs.Below.{anyBelow}
 use Rattle.tiles.specs.laws.Below.{cond-le, some-at, some-of}
 use Rattle.reading.specs.declared.Reading.{Reading}
 use Rattle.reading.specs.Order.{Lex}
@@ -114,7 +114,7 @@ module _ (w : Won) (dora : ℕ) (s : Seats) (paid : 0 < gain s (w .ron) 8000) wh
 -- ---- a yakuman is a yaku
 
 no-yakuman : (y : List Bool) → hasYaku y ≡ false → isYakuman y ≡ false
-unfolding hasYaku isYakuman some
+unfolding hasYaku isYakuman anyBelow
 no-yakuman y e = some-of (λ i. getD y (26 + i) false) 11 (λ i l. some-at (λ n. getD y n false) 37 (26 + i) e (omega arith))
 
 pub yakuman-yaku : (worth : Reading → Value) (x : Reading) → withYakuman worth x ≡ true → withYaku worth x ≡ true

@@ -3,7 +3,7 @@ use mathlib.Core.Path.{_≡_, refl, sym, ap, _∙_}
 use mathlib.Core.List.{[], _∷_}
 use Prim.Native.Nat.{ℕ}
 use Rattle.hand.specs.declared.Hand.{Hand}
-use Rattle.tiles.specs.Below.{every, some, number, total}
+use Rattle.tiles.specs.Below.{allBelow, anyBelow, countBelow, sumBelow}
 use Rattle.tiles.specs.Kinds.{doraOf}
 use Rattle.tiles.specs.Groups.{isGroup, atKind, uses}
 use Rattle.tiles.specs.Tally.{tallyOf}
@@ -50,7 +50,7 @@ tries hand n e = record { tried = ap (λ (x : Scored). x .tried) (sym (found-is-
 
 -- hands whose readings are counted
 pub counts : Counts
-unfolding widths valuesOf recordOf every some number total doraOf isGroup atKind uses tallyOf meldHolds inMelds inOthers inHeld inConcealed inHand
+unfolding widths valuesOf recordOf allBelow anyBelow countBelow sumBelow doraOf isGroup atKind uses tallyOf meldHolds inMelds inOthers inHeld inConcealed inHand
     concealedTally handTally tileOver33 wrongHeld wrongFields descends inRecord overFour wrongSituation refusalOf headOf meldsOf tilesOf heldIn paddingAfter
     handIn answerBy answerIn readOf holds isSevenPairs isOrphans concatMap isEmpty less fits without passes step splits placedAt placed paired shaped readings
     folded littleDragons valueHan earnsWait pinfu twins inThreeAt inThreeSuits straight hasYaochu outside concealed kans fourWinds only halfFlush flush gates

@@ -4,7 +4,7 @@ use mathlib.Core.List.{List}
 use Prim.Native.Nat.{ℕ}
 use lib.IntN.{ℤ}
 use Rattle.hand.specs.declared.Hand.{Hand}
-use Rattle.tiles.specs.Below.{every, some, number, total}
+use Rattle.tiles.specs.Below.{allBelow, anyBelow, countBelow, sumBelow}
 use Rattle.tiles.specs.Kinds.{doraOf}
 use Rattle.tiles.specs.Groups.{isGroup, atKind, uses}
 use Rattle.tiles.specs.Tally.{tallyOf}
@@ -35,7 +35,7 @@ line : (hand : Hand) (refusal h fu : ℕ) (items : List ℕ) (changes : List ℤ
 line hand refusal h fu items changes e = record { told = ap toldOf (sym (found-is-score (recordOf hand) 0 0)) ∙ e }
 
 pub lines : Lines
-unfolding widths valuesOf recordOf every some number total doraOf isGroup atKind uses tallyOf meldHolds inMelds inOthers inHeld inConcealed inHand
+unfolding widths valuesOf recordOf allBelow anyBelow countBelow sumBelow doraOf isGroup atKind uses tallyOf meldHolds inMelds inOthers inHeld inConcealed inHand
     concealedTally handTally tileOver33 wrongHeld wrongFields descends inRecord overFour wrongSituation refusalOf headOf meldsOf tilesOf heldIn paddingAfter
     handIn answerBy answerIn readOf holds isSevenPairs isOrphans concatMap isEmpty less fits without passes step splits placedAt placed paired shaped readings
     folded littleDragons valueHan earnsWait pinfu twins inThreeAt inThreeSuits straight hasYaochu outside concealed kans fourWinds only halfFlush flush gates

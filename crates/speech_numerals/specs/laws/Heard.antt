@@ -7,7 +7,7 @@ use native.Mathlib.Nat.{zero-mul}
 use native.Mathlib.Omega.{arith}
 use borrow.Author.Tests.{eqb-true, eqb-false, ne-eqb}
 use lib.Dec.{ltb, eqb}
-use Rattle.tiles.specs.Below.{every}
+use Rattle.tiles.specs.Below.{allBelow}
 use Rattle.tiles.specs.laws.Below.{every-at, and-true}
 use Rattle.speech_numerals.specs.Numerals.{placeOf, underHundred, threeOf, scaledThree, englishOf, thousandsOf, hundredsOf, tensOf, onesOf, fourOf}
 use Rattle.speech_numerals.specs.Numerals.{scaledFour, easternOf, numeral}
@@ -116,25 +116,25 @@ module _ (clip : ℕ → ℕ) (f : ℕ) where
   said : {a b c : Bool} → a || (b && c) ≡ true → a ≡ false → (b ≡ true) × (c ≡ true)
   said {a} {b} {c} e h = and-true b c (rw h at e)
 
-  row-means : every 10 row ≡ true → (d : ℕ) → d < 10 → (d ≡ 0 → ⊥) → Means (clip d) (f * d)
+  row-means : allBelow 10 row ≡ true → (d : ℕ) → d < 10 → (d ≡ 0 → ⊥) → Means (clip d) (f * d)
   row-means t d h z =
       let r = said (every-at row 10 d t h) (ne-eqb d 0 z) in
       (eqb-true (scaleOf (clip d)) 0 (r .0), eqb-true (valueOf (clip d)) (f * d) (r .1))
 
-thousands-row : every 10 (row (λ d. 27 + d) 1000) ≡ true
-unfolding every scaleOf valueOf
+thousands-row : allBelow 10 (row (λ d. 27 + d) 1000) ≡ true
+unfolding allBelow scaleOf valueOf
 thousands-row = refl
 
-hundreds-row : every 10 (row (λ d. 18 + d) 100) ≡ true
-unfolding every scaleOf valueOf
+hundreds-row : allBelow 10 (row (λ d. 18 + d) 100) ≡ true
+unfolding allBelow scaleOf valueOf
 hundreds-row = refl
 
-tens-row : every 10 (row (λ d. 9 + d) 10) ≡ true
-unfolding every scaleOf valueOf
+tens-row : allBelow 10 (row (λ d. 9 + d) 10) ≡ true
+unfolding allBelow scaleOf valueOf
 tens-row = refl
 
-ones-row : every 10 (row (λ d. d) 1) ≡ true
-unfolding every scaleOf valueOf
+ones-row : allBelow 10 (row (λ d. d) 1) ≡ true
+unfolding allBelow scaleOf valueOf
 ones-row = refl
 
 special : (Means 39 1000) × (Means 40 10) × (Means 41 2)
@@ -234,8 +234,8 @@ heard-sum l p =
     ap (heardFrom 0 0) (sym (append-nil l)) ∙ adds-sum l p .adds 0 0 [] ∙ e
 
 -- every group of three digits is heard as it is: computed
-three-heard : every 1000 (λ g. plain (threeOf g) && eqb (heard (threeOf g)) g) ≡ true
-unfolding every plain threeOf underHundred placeOf heard heardFrom scaleOf valueOf
+three-heard : allBelow 1000 (λ g. plain (threeOf g) && eqb (heard (threeOf g)) g) ≡ true
+unfolding allBelow plain threeOf underHundred placeOf heard heardFrom scaleOf valueOf
 three-heard = refl
 
 adds-three : (g : ℕ) → g < 1000 → Adds (threeOf g) g

@@ -4,14 +4,14 @@ use mathlib.Core.Bool.{false}
 use Prim.Native.Nat.{_-_, _≤_}
 use native.Mathlib.Omega.{arith}
 use lib.ListN.{getD}
-use Rattle.tiles.specs.Below.{some}
+use Rattle.tiles.specs.Below.{anyBelow}
 use Rattle.tiles.specs.laws.Below.{some-none, some-more, some-stop, some-done}
 use borrow.Author.Needs.{needs}
 use Rattle.speech_table.proofs.any_wait.Statement.{statement}
 use Rattle.speech_table.proofs.any_wait.Tie as tie
 
 abbrev Inv-loop : tie.InvT-loop
-Inv-loop w k₀ k = (k ≤ 34) × (some k (λ j. getD w j false) ≡ false)
+Inv-loop w k₀ k = (k ≤ 34) × (anyBelow k (λ j. getD w j false) ≡ false)
 
 abbrev μ-loop : tie.MeasureT-loop
 μ-loop w k₀ k = 34 - k

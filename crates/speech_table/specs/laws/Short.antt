@@ -7,7 +7,7 @@ use native.Mathlib.Omega.{arith}
 use lib.Dec.{eqb}
 use lib.IntN.{pos, natAbs}
 use lib.ListN.{length, getD, length-append}
-use Rattle.tiles.specs.Below.{some}
+use Rattle.tiles.specs.Below.{anyBelow}
 use Rattle.position.specs.declared.Position.{Position}
 use Rattle.waits.specs.declared.Waits.{Waits}
 use Rattle.speech_numerals.specs.Numerals.{numeral}
@@ -44,14 +44,14 @@ module _ (w : Waits) where
       rw length-append
       (omega (
         arith,
-        either (some 34 (λ k. getD (w .waits) k false)) (79 ∷ tileClips (w .waits)) (80 ∷ []) 35 (omega (arith, tiles-short (w .waits))) (omega arith),
+        either (anyBelow 34 (λ k. getD (w .waits) k false)) (79 ∷ tileClips (w .waits)) (80 ∷ []) 35 (omega (arith, tiles-short (w .waits))) (omega arith),
         either (w .furiten) (81 ∷ []) [] 1 (omega arith) (omega arith),
       ))
 
   pub waits-has : (l : ℕ) → Has l (waitsMessage w)
   unfolding waitsMessage isPhrase
   waits-has l =
-      has-then (has-cond l (some 34 (λ k. getD (w .waits) k false)) (has-more 79 refl (has-tiles l (w .waits))) (has-more 80 refl (has-none l)))
+      has-then (has-cond l (anyBelow 34 (λ k. getD (w .waits) k false)) (has-more 79 refl (has-tiles l (w .waits))) (has-more 80 refl (has-none l)))
       (has-cond l (w .furiten) (has-more 81 refl (has-none l)) (has-none l))
 
 module _ (l swaps : ℕ) (h : swaps < 4294967296) where

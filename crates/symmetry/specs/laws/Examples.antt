@@ -7,7 +7,7 @@ use native.Mathlib.Omega.{arith}
 use lib.IntN.{ℤ, pos, negsuc}
 use lib.ListN.{getD}
 use Rattle.hand.specs.declared.Hand.{Hand}
-use Rattle.tiles.specs.Below.{every, some, number, total}
+use Rattle.tiles.specs.Below.{allBelow, anyBelow, countBelow, sumBelow}
 use Rattle.tiles.specs.Kinds.{doraOf}
 use Rattle.tiles.specs.Groups.{isGroup, atKind, uses}
 use Rattle.tiles.specs.Tally.{tallyOf}
@@ -59,7 +59,7 @@ told s changes e = ap (λ (x : Scored). x .changes) (sym (found-is-score s 0 0))
 
 -- "provided the hand is all green (yaku 34) neither before nor after": without this the score may differ
 pub green-differs : GreenDiffers
-unfolding renamed renamedMeld put inOrder renamedHeld renamedRecord widths valuesOf recordOf every some number total doraOf isGroup atKind uses tallyOf
+unfolding renamed renamedMeld put inOrder renamedHeld renamedRecord widths valuesOf recordOf allBelow anyBelow countBelow sumBelow doraOf isGroup atKind uses tallyOf
     meldHolds inMelds inOthers inHeld inConcealed inHand concealedTally handTally tileOver33 wrongHeld wrongFields descends inRecord overFour wrongSituation
     refusalOf headOf meldsOf tilesOf heldIn paddingAfter handIn answerBy answerIn readOf holds isSevenPairs isOrphans concatMap isEmpty less fits without
     passes step splits placedAt placed paired shaped readings folded littleDragons valueHan earnsWait pinfu twins inThreeAt inThreeSuits straight hasYaochu

@@ -10,7 +10,7 @@ use borrow.Author.Tests.{ltb-true, ltb-false, lt-ltb, le-ltb, eq-eqb, eqb-true, 
 use lib.Dec.{ltb, eqb}
 use lib.ListN.{length, getD, take, replicate, length-map, List·getD-append}
 use lib.Seq.{length-take-le, getD-take}
-use Rattle.tiles.specs.Below.{sum, some, number, total}
+use Rattle.tiles.specs.Below.{sum, anyBelow, countBelow, sumBelow}
 use Rattle.tiles.specs.Kinds.{isRunStart}
 use Rattle.tiles.specs.Groups.{atKind}
 use Rattle.tiles.specs.laws.Below.{or-both, some-at, some-of, number-total}
@@ -47,8 +47,8 @@ all-map P f (suc n) [] h = tt
 all-map P f (suc n) (x ∷ l) h = (h 0 (omega arith), all-map P f n l (λ i g. h (suc i) (omega arith)))
 
 -- how many of the first n of a list are of a kind
-first-kinds : (l : List ℕ) (k n : ℕ) → n ≤ length l → number n (λ i. eqb (getD l i 0) k) ≡ sumOver (λ x. atKind x 1 k) (take n l)
-unfolding total atKind
+first-kinds : (l : List ℕ) (k n : ℕ) → n ≤ length l → countBelow n (λ i. eqb (getD l i 0) k) ≡ sumOver (λ x. atKind x 1 k) (take n l)
+unfolding sumBelow atKind
 first-kinds l k n h =
     number-total (λ i. eqb (getD l i 0) k) n
     ∙ sum-cong (λ i. atKind (getD l i 0) 1 k) (λ i. atKind (getD (take n l) i 0) 1 k) n (λ i g. ap (λ (x : ℕ). atKind x 1 k) (sym (getD-take n l i 0 g)))
@@ -59,11 +59,11 @@ first-kinds l k n h =
 
 module _ (x : Held) (p : ℕ → Bool) where
   no-meld : x .m ≤ 4 → someMeld x p ≡ false → (i : ℕ) → i < x .m → p (getD (x .melds) i 0) ≡ false
-  unfolding some
+  unfolding anyBelow
   no-meld f e i h = rw (lt-ltb i (x .m) h) at (some-at (λ i. ltb i (x .m) && p (getD (x .melds) i 0)) 4 i e (omega arith))
 
   meld-none : ((i : ℕ) → i < x .m → p (getD (x .melds) i 0) ≡ false) → someMeld x p ≡ false
-  unfolding some
+  unfolding anyBelow
   meld-none h = some-of (λ i. ltb i (x .m) && p (getD (x .melds) i 0)) 4 (λ i l. go i (ltb i (x .m)) refl)
     where
       go : (i : ℕ) (b : Bool) → ltb i (x .m) ≡ b → b && p (getD (x .melds) i 0) ≡ false
@@ -118,7 +118,7 @@ module _ (u : Renaming) (h : Hand) (y : Accepted h) (i : IsHand h) where
 
   melds-low : someMeld x₀ (λ b. ltb 33 (meldTile b)) ≡ false
   unfolding tileOver33
-  melds-low = or-both (someMeld x₀ (λ b. ltb 33 (meldTile b))) (some n (λ i. ltb 33 (getD (x₀ .concealed) i 0))) (parts .0) .0
+  melds-low = or-both (someMeld x₀ (λ b. ltb 33 (meldTile b))) (anyBelow n (λ i. ltb 33 (getD (x₀ .concealed) i 0))) (parts .0) .0
 
   good : (j : ℕ) → j < x₀ .m → IsMeld (getD (x₀ .melds) j 0)
   good j l = (

@@ -6,7 +6,7 @@ use mathlib.Core.List.{List}
 use native.Mathlib.Omega.{arith}
 use lib.Dec.{leb, eqb}
 use lib.ListN.{getD}
-use Rattle.tiles.specs.Below.{all, any, every, number, total}
+use Rattle.tiles.specs.Below.{all, any, allBelow, countBelow, sumBelow}
 use Rattle.tiles.specs.Kinds.{isNumber, inSuit, isHonour, isYaochu}
 use Rattle.tiles.specs.laws.Below.{every-at, every-of, number-total, both-ways, any-at, any-of}
 use Rattle.reading.specs.Reading.{isSevenPairs, isOrphans}
@@ -26,16 +26,16 @@ module _ (u : Renaming) where
       (λ z. let (s, l, y) = any-at p 3 z in any-of q 3 (u .to s) (u .to-lt s l) (e s l ∙ y))
 
   -- the kinds, or the numbers alone
-  pub total-kinds : (n : ℕ) → 27 ≤ n → (h g : ℕ → ℕ) → ((k : ℕ) → k < n → g (f k) ≡ h k) → total n g ≡ total n h
+  pub total-kinds : (n : ℕ) → 27 ≤ n → (h g : ℕ → ℕ) → ((k : ℕ) → k < n → g (f k) ≡ h k) → sumBelow n g ≡ sumBelow n h
   total-kinds n l = total-moved n f (renamed (u .from)) (λ k. lt-stays u n k l) (λ k. lt-stays (back u) n k l) (there-back u) (there-back (back u))
 
   module _ (p q : ℕ → Bool) (e : (k : ℕ) → k < 34 → q (f k) ≡ p k) where
-    number-kinds : number 34 q ≡ number 34 p
+    number-kinds : countBelow 34 q ≡ countBelow 34 p
     number-kinds = number-total q 34 ∙ total-kinds 34 (omega arith) (λ k. cond (p k) 1 0) (λ k. cond (q k) 1 0) (λ k l. rw (e k l)) ∙ sym (number-total p 34)
 
-    every-kinds : every 34 q ≡ every 34 p
+    every-kinds : allBelow 34 q ≡ allBelow 34 p
     every-kinds =
-        both-ways (every 34 q) (every 34 p)
+        both-ways (allBelow 34 q) (allBelow 34 p)
         (λ z. every-of p 34 (λ k l. sym (e k l) ∙ every-at q 34 (f k) z (lt-stays u 34 k (omega arith) l)))
         (λ z. every-of q 34 (λ k l.
         let m = lt-stays (back u) 34 k (omega arith) l in

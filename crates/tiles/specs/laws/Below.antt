@@ -8,7 +8,7 @@ use native.Mathlib.Numerals.{add-one}
 use native.Mathlib.Omega.{arith}
 use borrow.Author.Tests.{ltb-true, ltb-false, lt-ltb, le-ltb, eqb-true, eqb-false, eq-eqb, ne-eqb}
 use lib.Dec.{ltb, eqb}
-use Rattle.tiles.specs.Below.{all, any, count, every, some, number, total}
+use Rattle.tiles.specs.Below.{all, any, count, allBelow, anyBelow, countBelow, sumBelow}
 
 pub or-both : (a b : Bool) → a || b ≡ false → (a ≡ false) × (b ≡ false)
 or-both true b e = absurd (mathlib.Core.Bool.false≢true (sym e))
@@ -33,32 +33,32 @@ both-ways false true f g = g refl
 both-ways false false f g = refl
 
 module _ (p : ℕ → Bool) where
-  pub every-none : every 0 p ≡ true
-  unfolding every
+  pub every-none : allBelow 0 p ≡ true
+  unfolding allBelow
   every-none = refl
 
-  pub every-more : (i : ℕ) → every i p ≡ true → p i ≡ true → every (i + 1) p ≡ true
-  unfolding every
+  pub every-more : (i : ℕ) → allBelow i p ≡ true → p i ≡ true → allBelow (i + 1) p ≡ true
+  unfolding allBelow
   every-more i h e = rw (add-one, h, e)
 
-  pub every-stop : (n i : ℕ) → i < n → p i ≡ false → every n p ≡ false
-  unfolding every
+  pub every-stop : (n i : ℕ) → i < n → p i ≡ false → allBelow n p ≡ false
+  unfolding allBelow
   every-stop zero i h e = absurd (not-suc-le-zero h)
   every-stop (suc n) i h e =
       ⊎-elim (λ q. rw (← q, e) (and-false (all i p))) (λ l. rw (every-stop n i l e)) (eq-or-lt-of-le (le-of-suc-le-suc h))
 
-  pub every-done : (n i : ℕ) → i ≤ n → n ≤ i → every i p ≡ true → every n p ≡ true
+  pub every-done : (n i : ℕ) → i ≤ n → n ≤ i → allBelow i p ≡ true → allBelow n p ≡ true
   every-done n i a b h = rw (le-antisymm b a) h
 
-  pub every-at : (n i : ℕ) → every n p ≡ true → i < n → p i ≡ true
-  unfolding every
+  pub every-at : (n i : ℕ) → allBelow n p ≡ true → i < n → p i ≡ true
+  unfolding allBelow
   every-at zero i t h = absurd (not-suc-le-zero h)
   every-at (suc n) i t h =
       let both = and-true (all n p) (p n) t in
       ⊎-elim (λ q. rw q (both .1)) (λ l. every-at n i (both .0) l) (eq-or-lt-of-le (le-of-suc-le-suc h))
 
-  pub every-of : (n : ℕ) → ((i : ℕ) → i < n → p i ≡ true) → every n p ≡ true
-  unfolding every
+  pub every-of : (n : ℕ) → ((i : ℕ) → i < n → p i ≡ true) → allBelow n p ≡ true
+  unfolding allBelow
   every-of zero h = refl
   every-of (suc n) h = rw (every-of n (λ i l. h i (omega arith)), h n (omega arith))
 
@@ -67,32 +67,32 @@ or-true true = refl
 or-true false = refl
 
 module _ (p : ℕ → Bool) where
-  pub some-none : some 0 p ≡ false
-  unfolding some
+  pub some-none : anyBelow 0 p ≡ false
+  unfolding anyBelow
   some-none = refl
 
-  pub some-more : (i : ℕ) → some i p ≡ false → p i ≡ false → some (i + 1) p ≡ false
-  unfolding some
+  pub some-more : (i : ℕ) → anyBelow i p ≡ false → p i ≡ false → anyBelow (i + 1) p ≡ false
+  unfolding anyBelow
   some-more i h e = rw (add-one, h, e)
 
-  pub some-stop : (n i : ℕ) → i < n → p i ≡ true → some n p ≡ true
-  unfolding some
+  pub some-stop : (n i : ℕ) → i < n → p i ≡ true → anyBelow n p ≡ true
+  unfolding anyBelow
   some-stop zero i h e = absurd (not-suc-le-zero h)
   some-stop (suc n) i h e =
       ⊎-elim (λ q. rw (← q, e) (or-true (any i p))) (λ l. rw (some-stop n i l e)) (eq-or-lt-of-le (le-of-suc-le-suc h))
 
-  pub some-done : (n i : ℕ) → i ≤ n → n ≤ i → some i p ≡ false → some n p ≡ false
+  pub some-done : (n i : ℕ) → i ≤ n → n ≤ i → anyBelow i p ≡ false → anyBelow n p ≡ false
   some-done n i a b h = rw (le-antisymm b a) h
 
-  pub some-at : (n i : ℕ) → some n p ≡ false → i < n → p i ≡ false
-  unfolding some
+  pub some-at : (n i : ℕ) → anyBelow n p ≡ false → i < n → p i ≡ false
+  unfolding anyBelow
   some-at zero i t h = absurd (not-suc-le-zero h)
   some-at (suc n) i t h =
       let both = or-both (any n p) (p n) t in
       ⊎-elim (λ q. rw q (both .1)) (λ l. some-at n i (both .0) l) (eq-or-lt-of-le (le-of-suc-le-suc h))
 
-  pub some-of : (n : ℕ) → ((i : ℕ) → i < n → p i ≡ false) → some n p ≡ false
-  unfolding some
+  pub some-of : (n : ℕ) → ((i : ℕ) → i < n → p i ≡ false) → anyBelow n p ≡ false
+  unfolding anyBelow
   some-of zero h = refl
   some-of (suc n) h = rw (some-of n (λ i l. h i (omega arith)), h n (omega arith))
 
@@ -106,54 +106,54 @@ any-at p (suc n) e = go (λ q. any-at p n q) (any n p) (p n) refl refl e
     go h false false q r z = absurd (mathlib.Core.Bool.false≢true z)
 
 pub any-of : (p : ℕ → Bool) (n i : ℕ) → i < n → p i ≡ true → any n p ≡ true
-unfolding some
+unfolding anyBelow
 any-of p n i h e = some-stop p n i h e
 
 -- the same test at each number gives the same
-pub every-cong : (p q : ℕ → Bool) (n : ℕ) → ((i : ℕ) → i < n → p i ≡ q i) → every n p ≡ every n q
-unfolding every
+pub every-cong : (p q : ℕ → Bool) (n : ℕ) → ((i : ℕ) → i < n → p i ≡ q i) → allBelow n p ≡ allBelow n q
+unfolding allBelow
 every-cong p q zero h = refl
 every-cong p q (suc n) h = rw (every-cong p q n (λ i l. h i (omega arith)), h n (omega arith))
 
-pub some-cong : (p q : ℕ → Bool) (n : ℕ) → ((i : ℕ) → i < n → p i ≡ q i) → some n p ≡ some n q
-unfolding some
+pub some-cong : (p q : ℕ → Bool) (n : ℕ) → ((i : ℕ) → i < n → p i ≡ q i) → anyBelow n p ≡ anyBelow n q
+unfolding anyBelow
 some-cong p q zero h = refl
 some-cong p q (suc n) h = rw (some-cong p q n (λ i l. h i (omega arith)), h n (omega arith))
 
 module _ (f : ℕ → ℕ) where
-  pub total-none : 0 ≡ total 0 f
-  unfolding total
+  pub total-none : 0 ≡ sumBelow 0 f
+  unfolding sumBelow
   total-none = refl
 
-  pub total-more : (i n x : ℕ) → n ≡ total i f → x ≡ f i → n + x ≡ total (i + 1) f
-  unfolding total
+  pub total-more : (i n x : ℕ) → n ≡ sumBelow i f → x ≡ f i → n + x ≡ sumBelow (i + 1) f
+  unfolding sumBelow
   total-more i n x e h = rw (add-one, e, h)
 
-  pub total-done : (n i s : ℕ) → i ≤ n → n ≤ i → s ≡ total i f → s ≡ total n f
+  pub total-done : (n i s : ℕ) → i ≤ n → n ≤ i → s ≡ sumBelow i f → s ≡ sumBelow n f
   total-done n i s a b h = rw (le-antisymm b a) h
 
-  pub total-le : (b n : ℕ) → ((i : ℕ) → i < n → f i ≤ b) → total n f ≤ b * n
-  unfolding total
+  pub total-le : (b n : ℕ) → ((i : ℕ) → i < n → f i ≤ b) → sumBelow n f ≤ b * n
+  unfolding sumBelow
   total-le b zero h = omega arith
   total-le b (suc n) h = rw mul-suc (omega (arith, total-le b n (λ i l. h i (omega arith)), h n (omega arith)))
 
 -- how many have p is a sum of ones
-pub number-total : (p : ℕ → Bool) (n : ℕ) → number n p ≡ total n (λ i. cond (p i) 1 0)
-unfolding number total
+pub number-total : (p : ℕ → Bool) (n : ℕ) → countBelow n p ≡ sumBelow n (λ i. cond (p i) 1 0)
+unfolding countBelow sumBelow
 number-total p zero = refl
 number-total p (suc n) = rw (number-total p n)
 
 module _ (p : ℕ → Bool) where
-  pub number-none : number 0 p ≡ 0
-  unfolding number
+  pub number-none : countBelow 0 p ≡ 0
+  unfolding countBelow
   number-none = refl
 
-  pub number-more : (i : ℕ) → number (i + 1) p ≡ number i p + cond (p i) 1 0
-  unfolding number
+  pub number-more : (i : ℕ) → countBelow (i + 1) p ≡ countBelow i p + cond (p i) 1 0
+  unfolding countBelow
   number-more i = rw add-one
 
-  pub number-le : (n : ℕ) → number n p ≤ n
-  unfolding number
+  pub number-le : (n : ℕ) → countBelow n p ≤ n
+  unfolding countBelow
   number-le zero = omega arith
   number-le (suc n) = go (number-le n) (p n)
     where

@@ -8,7 +8,7 @@ use native.Mathlib.Omega.{arith}
 use borrow.Author.Tests.{eqb-true, eqb-false, eq-eqb, ne-eqb}
 use lib.Dec.{eqb}
 use lib.ListN.{length, getD}
-use Rattle.tiles.specs.Below.{sum, total}
+use Rattle.tiles.specs.Below.{sum, sumBelow}
 use Rattle.tiles.specs.Groups.{atKind}
 use Rattle.tiles.specs.laws.Tally.{ofKind}
 use Rattle.tiles.specs.laws.Below.{same-test}
@@ -83,8 +83,8 @@ module _ (n : ℕ) (to from : ℕ → ℕ) (to-lt : (k : ℕ) → k < n → to k
       go k true q = ap g (sym (eqb-true (to j) k q)) ∙ e j l
       go k false q = refl
 
-  pub total-moved : total n g ≡ total n h
-  unfolding total
+  pub total-moved : sumBelow n g ≡ sumBelow n h
+  unfolding sumBelow
   total-moved =
       sym (sum-cong (λ k. sum n (one k)) g n rows) ∙ sum-swap one n n ∙ sum-cong (λ j. sum n (λ k. one k j)) h n columns
 

@@ -7,7 +7,7 @@ use native.Mathlib.Omega.{arith}
 use borrow.Author.Tests.{ltb-false}
 use lib.Dec.{ltb}
 use lib.ListN.{length, getD, drop, length-replicate}
-use Rattle.tiles.specs.Below.{some}
+use Rattle.tiles.specs.Below.{anyBelow}
 use Rattle.tiles.specs.laws.Below.{or-both, some-at, cond-le}
 use Rattle.bits.specs.Bits.{bitsOf, eights}
 use Rattle.bits.specs.laws.Pack.{length-fill, length-unpack}
@@ -50,7 +50,7 @@ module _ (x : Held) (p : ℕ) (c : Clean x p) where
   unfolding wrongHeld tileOver33
   are-kinds i l =
       let t = or-both (tileOver33 x) (chiWithoutRun x) (or-both (tileOver33 x || chiWithoutRun x) (ltb 0 p) (c .held) .0) .0 in
-      let o = or-both (someMeld x (λ b. ltb 33 (meldTile b))) (some (others x) (λ i. ltb 33 (getD (x .concealed) i 0))) t .1 in
+      let o = or-both (someMeld x (λ b. ltb 33 (meldTile b))) (anyBelow (others x) (λ i. ltb 33 (getD (x .concealed) i 0))) t .1 in
       ltb-false 33 (getD (x .concealed) i 0) (some-at (λ j. ltb 33 (getD (x .concealed) j 0)) (13 - 3 * x .m) i o l)
 
   pub at-most-four : (k : ℕ) → k < 34 → inHeld x k ≤ 4

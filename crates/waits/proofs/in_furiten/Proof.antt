@@ -8,14 +8,14 @@ use mathlib.Core.List.{List}
 use native.Mathlib.Omega.{arith}
 use lib.Dec.{ltb}
 use lib.ListN.{length, getD}
-use Rattle.tiles.specs.Below.{some}
+use Rattle.tiles.specs.Below.{anyBelow}
 use Rattle.tiles.specs.laws.Below.{some-none, some-more, some-stop, some-done, some-at}
 use Rattle.waits.specs.search.Found.{someIn}
 use Rattle.waits.proofs.in_furiten.Statement.{statement}
 use Rattle.waits.proofs.in_furiten.Tie as tie
 
 abbrev Inv-loop : tie.InvT-loop
-Inv-loop d w i₀ i-end i = (i ≤ length d) × (i-end ≡ length d) × (some i (λ j. getD w (getD d j 0) false) ≡ false)
+Inv-loop d w i₀ i-end i = (i ≤ length d) × (i-end ≡ length d) × (anyBelow i (λ j. getD w (getD d j 0) false) ≡ false)
 
 abbrev μ-loop : tie.MeasureT-loop
 μ-loop d w i₀ i-end i = i-end - i

@@ -6,13 +6,13 @@ use mathlib.Core.Path.{_≡_, sym}
 use mathlib.Core.Bool.{false}
 use lib.Dec.{ltb}
 use lib.ListN.{length, getD}
-use Rattle.tiles.specs.Below.{some}
+use Rattle.tiles.specs.Below.{anyBelow}
 use Rattle.tiles.specs.laws.Below.{some-none, some-more, some-stop, some-done}
 use Rattle.waits.proofs.over_33.Statement.{statement}
 use Rattle.waits.proofs.over_33.Tie as tie
 
 abbrev Inv-loop : tie.InvT-loop
-Inv-loop d i₀ i-end i = (i ≤ length d) × (i-end ≡ length d) × (some i (λ j. ltb 33 (getD d j 0)) ≡ false)
+Inv-loop d i₀ i-end i = (i ≤ length d) × (i-end ≡ length d) × (anyBelow i (λ j. ltb 33 (getD d j 0)) ≡ false)
 
 abbrev μ-loop : tie.MeasureT-loop
 μ-loop d i₀ i-end i = i-end - i

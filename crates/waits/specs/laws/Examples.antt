@@ -3,7 +3,7 @@ use mathlib.Core.Path.{_≡_, refl, sym, _∙_}
 use mathlib.Core.Bool.{true, _||_}
 use mathlib.Core.List.{[], _∷_}
 use lib.Dec.{eqb}
-use Rattle.tiles.specs.Below.{every, some, number, tabulate}
+use Rattle.tiles.specs.Below.{allBelow, anyBelow, countBelow, tabulate}
 use Rattle.tiles.specs.Groups.{atKind, isGroup}
 use Rattle.tiles.specs.Tally.{tallyOf}
 use Rattle.hand.specs.Held.{meldHolds, inMelds, inOthers, inHeld, tileOver33, wrongHeld, descends, overFour}
@@ -20,7 +20,7 @@ use Rattle.waits.specs.laws.Exact.{found}
 -- what the code finds of the hand below
 two-sided : foundOf (32 ∷ 34 ∷ 10 ∷ 49 ∷ 69 ∷ 24 ∷ 105 ∷ 203 ∷ 176 ∷ []) (30 ∷ 25 ∷ 3 ∷ [])
     ≡ record { refusal = 0; waits = tabulate 34 0 (λ k. eqb k 22 || eqb k 25); furiten = true }
-unfolding every some number atKind isGroup tallyOf meldHolds inMelds inOthers inHeld tileOver33 wrongHeld descends overFour meldsOf tilesOf heldIn
+unfolding allBelow anyBelow countBelow atKind isGroup tallyOf meldHolds inMelds inOthers inHeld tileOver33 wrongHeld descends overFour meldsOf tilesOf heldIn
     paddingAfter countIn heldRefusal refusalOf isSevenPairs isOrphans isEmpty less fits without lowest pieceAt splitsInto withOne reads isWait waitSet foundOf
 two-sided = refl
 

@@ -9,7 +9,7 @@ use borrow.Author.Tests.{ltb-true, ltb-false, lt-ltb, eqb-true, eqb-false, eq-eq
 use lib.Dec.{ltb, eqb}
 use lib.ListN.{length, getD, set, length-set, List·getD-eq-default}
 use lib.Seq.{getD-set-same, getD-set-other, ext-getD}
-use Rattle.tiles.specs.Below.{some}
+use Rattle.tiles.specs.Below.{anyBelow}
 use Rattle.tiles.specs.Groups.{atKind}
 use Rattle.tiles.specs.Tally.{tallyOf}
 use Rattle.tiles.specs.laws.Below.{and-true, any-at, any-of}
@@ -130,7 +130,7 @@ at-member (x ∷ l) zero h = List·Memᴰ·head refl
 at-member (x ∷ l) (suc i) h = List·Memᴰ·tail (at-member l i (omega arith))
 
 pub some-in-exactly : (l : List ℕ) (p : ℕ → Bool) → (someIn l p ≡ true) ↔ ((d : ℕ) × Member d l × (p d ≡ true))
-unfolding some
+unfolding anyBelow
 some-in-exactly l p = (
   λ e. let r = any-at (λ i. p (getD l i 0)) (length l) e in (getD l (r .0) 0, at-member l (r .0) (r .1), r .2),
   λ d. let r = member-at l (d .0) (d .1) in any-of (λ i. p (getD l i 0)) (length l) (r .0) (r .1) (rw (r .2) (d .2)),

@@ -5,7 +5,7 @@ use mathlib.Core.List.{List}
 use Prim.Native.Nat.{ℕ, suc, _-_}
 use lib.Dec.{ltb, eqb}
 use lib.ListN.{length, getD}
-use Rattle.tiles.specs.Below.{some, tabulate}
+use Rattle.tiles.specs.Below.{anyBelow, tabulate}
 use Rattle.hand.specs.declared.Held.{Held}
 use Rattle.hand.specs.Held.{inHeld}
 use Rattle.reading.specs.Reading.{isSevenPairs, isOrphans}
@@ -28,7 +28,7 @@ waitSet x = tabulate 34 0 (isWait x)
 
 -- p of one of a list
 abbrev pub someIn : List ℕ → (ℕ → Bool) → Bool
-someIn l p = some (length l) (λ i. p (getD l i 0))
+someIn l p = anyBelow (length l) (λ i. p (getD l i 0))
 
 -- the answer
 unfoldable pub foundOf : List ℕ → List ℕ → Waits

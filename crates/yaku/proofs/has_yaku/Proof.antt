@@ -6,24 +6,24 @@ use lib.ListN.{getD}
 use native.Mathlib.Numerals.{add-one}
 use native.Mathlib.Omega.{arith}
 use borrow.Author.Needs.{needs}
-use Rattle.tiles.specs.Below.{some}
+use Rattle.tiles.specs.Below.{anyBelow}
 use Rattle.tiles.specs.laws.Below.{some-none}
 use Rattle.yaku.specs.Yaku.{hasYaku}
 use Rattle.yaku.proofs.has_yaku.Statement.{statement}
 use Rattle.yaku.proofs.has_yaku.Tie as tie
 
 abbrev Inv-loop : tie.InvT-loop
-Inv-loop y b₀ n₀ b n = (n ≤ 37) × (b ≡ some n (λ i. getD y i false))
+Inv-loop y b₀ n₀ b n = (n ≤ 37) × (b ≡ anyBelow n (λ i. getD y i false))
 
 abbrev μ-loop : tie.MeasureT-loop
 μ-loop y b₀ n₀ b n = 37 - n
 
-next : (p : ℕ → Bool) (b : Bool) (n : ℕ) → b ≡ some n p → b || p n ≡ some (n + 1) p
-unfolding some
+next : (p : ℕ → Bool) (b : Bool) (n : ℕ) → b ≡ anyBelow n p → b || p n ≡ anyBelow (n + 1) p
+unfolding anyBelow
 next p b n e = rw (add-one, e)
 
-whole : (p : ℕ → Bool) (b : Bool) (n : ℕ) → n ≡ 37 → b ≡ some n p → b ≡ some 37 p
-whole p b n q e = e ∙ ap (λ (k : ℕ). some k p) q
+whole : (p : ℕ → Bool) (b : Bool) (n : ℕ) → n ≡ 37 → b ≡ anyBelow n p → b ≡ anyBelow 37 p
+whole p b n q e = e ∙ ap (λ (k : ℕ). anyBelow k p) q
 
 pub has-yaku-spec : {M : Type 1} → statement M
 unfolding hasYaku

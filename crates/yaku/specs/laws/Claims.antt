@@ -4,7 +4,7 @@ use mathlib.Core.Bool.{true, false, _&&_, not}
 use Prim.Native.Nat.{ℕ, _<_}
 use borrow.Author.Tests.{not-true}
 use lib.ListN.{getD}
-use Rattle.tiles.specs.Below.{all, every}
+use Rattle.tiles.specs.Below.{all, allBelow}
 use Rattle.tiles.specs.laws.Below.{every-at}
 use Rattle.yaku_basics.specs.Tests.{twins, pinfu}
 use Rattle.yaku.specs.Yaku.{closedOnly, testsOf, isYakuman, listed, yakuOf}
@@ -26,5 +26,5 @@ module _ (w : Won) (p : FullReading) where
   not-both-riichi = not-both (w .closed) (w .riichi) 1 2 refl
 
   pub yakuman-alone : isYakuman (testsOf w p) ≡ true → (n : ℕ) → n < 26 → getD (yakuOf w p) n false ≡ false
-  unfolding yakuOf listed every
+  unfolding yakuOf listed allBelow
   yakuman-alone e n h = not-true _ (every-at (λ i. not (getD (yakuOf w p) i false)) 26 n (rw e) h)

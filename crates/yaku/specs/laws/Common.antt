@@ -6,7 +6,7 @@ use Prim.Native.Nat.{ℕ, zero, suc, _+_}
 use native.Mathlib.Omega.{arith}
 use lib.Dec.{leb}
 use lib.ListN.{getD}
-use Rattle.tiles.specs.Below.{any, some, tabulate}
+use Rattle.tiles.specs.Below.{any, anyBelow, tabulate}
 use Rattle.tiles.specs.laws.Below.{any-at, any-of}
 use Rattle.yaku.specs.Yaku.{testsOf, isYakuman, listed, hasYaku}
 use Rattle.yaku.specs.declared.Won.{Won}
@@ -27,7 +27,7 @@ parted p q (suc n) =
 
 module _ (y : List Bool) where
   pub any-part : hasYaku y ≡ hasYaku (anyPlace y) || (getD y 4 false || getD y 18 false || getD y 19 false || getD y 30 false || getD y 31 false)
-  unfolding hasYaku some anyPlace
+  unfolding hasYaku anyBelow anyPlace
   any-part = parted (λ n. getD y n false) byPlace 37 ∙ simp or-false
 
   pub yakuman-part : isYakuman y ≡ isYakuman (anyPlace y) || (getD y 30 false || getD y 31 false)
@@ -38,7 +38,7 @@ module _ (y : List Bool) where
   alone = tabulate 37 0 (λ n. leb 26 n && getD y n false)
 
   some-yakuman : isYakuman y ≡ true → hasYaku y ≡ true
-  unfolding isYakuman hasYaku some
+  unfolding isYakuman hasYaku anyBelow
   some-yakuman e =
       let i = any-at (λ i. getD y (26 + i) false) 11 e in
       any-of (λ n. getD y n false) 37 (26 + i .0) (omega (arith, i .1)) (i .2)
@@ -49,7 +49,7 @@ module _ (y : List Bool) where
   yakuman-by false = refl
 
   any-by : (b : Bool) → isYakuman y ≡ b → hasYaku (cond b alone y) ≡ hasYaku y
-  unfolding isYakuman hasYaku some
+  unfolding isYakuman hasYaku anyBelow
   any-by true e = e ∙ sym (some-yakuman e)
   any-by false e = refl
 

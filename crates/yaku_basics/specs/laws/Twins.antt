@@ -6,7 +6,7 @@ use native.Mathlib.Nat.{zero-add}
 use native.Mathlib.Omega.{arith}
 use borrow.Author.Tests.{lt-ltb, le-ltb, ltb-true, ltb-false, eqb-true, eqb-false}
 use lib.Dec.{eqb, ltb}
-use Rattle.tiles.specs.Below.{total}
+use Rattle.tiles.specs.Below.{sumBelow}
 
 -- where each k counts h k, and then x once more
 module _ (h : ℕ → ℕ) (x : ℕ) where
@@ -17,8 +17,8 @@ module _ (h : ℕ → ℕ) (x : ℕ) where
   one-more n false true p q = rw (lt-ltb x (suc n) (omega (arith, ltb-true x n q))) (omega arith)
   one-more n false false p q = rw (le-ltb x (suc n) (omega (arith, eqb-false x n p, ltb-false x n q))) (omega arith)
 
-  pairs-one-more : (n : ℕ) → total n (λ k. (h k + cond (eqb x k) 1 0) / 2) ≡ total n (λ k. h k / 2) + cond (ltb x n) (h x % 2) 0
-  unfolding total
+  pairs-one-more : (n : ℕ) → sumBelow n (λ k. (h k + cond (eqb x k) 1 0) / 2) ≡ sumBelow n (λ k. h k / 2) + cond (ltb x n) (h x % 2) 0
+  unfolding sumBelow
   pairs-one-more zero = rw (le-ltb x 0 (omega arith))
   pairs-one-more (suc n) = omega (arith, pairs-one-more n, one-more n (eqb x n) (ltb x n) refl refl)
 
@@ -26,14 +26,14 @@ none : (b : Bool) → cond b 0 0 ≡ zero
 none true = refl
 none false = refl
 
-nothing : total 27 (λ k. 0 / 2) ≡ 0
-unfolding total
+nothing : sumBelow 27 (λ k. 0 / 2) ≡ 0
+unfolding sumBelow
 nothing = refl
 
 -- twins of the groups a, b, c, d
 module _ (a b c d : ℕ) where
   pub pairs-in-turn :
-      total 27 (λ k. (0 + cond (eqb a k) 1 0 + cond (eqb b k) 1 0 + cond (eqb c k) 1 0 + cond (eqb d k) 1 0) / 2)
+      sumBelow 27 (λ k. (0 + cond (eqb a k) 1 0 + cond (eqb b k) 1 0 + cond (eqb c k) 1 0 + cond (eqb d k) 1 0) / 2)
       ≡ cond (ltb b 27) (cond (eqb a b) 1 0 % 2) 0
       + cond (ltb c 27) ((cond (eqb a c) 1 0 + cond (eqb b c) 1 0) % 2) 0
       + cond (ltb d 27) ((cond (eqb a d) 1 0 + cond (eqb b d) 1 0 + cond (eqb c d) 1 0) % 2) 0

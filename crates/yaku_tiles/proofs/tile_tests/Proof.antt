@@ -2,7 +2,7 @@
 use borrow.Author.Needs.{needs}
 use mathlib.Core.Bool.{_||_}
 use mathlib.Core.Path.{refl, _∙_}
-use Rattle.tiles.specs.Below.{every}
+use Rattle.tiles.specs.Below.{allBelow}
 use Rattle.tiles.specs.Kinds.{inSuit, isNumber, isHonour, isTerminal, isYaochu, isSimple}
 use Rattle.yaku_tiles.specs.OfTiles.{isGreen, halfFlush, flush}
 use Rattle.yaku_tiles.specs.search.TileTests.{tileTestsOf}
@@ -12,7 +12,7 @@ use Rattle.yaku_tiles.proofs.tile_tests.Tie as tie
 
 -- the suits that are given to `gates`
 suits : tie.Need-gates-requires
-unfolding every
+unfolding allBelow
 suits c κs =
     let number = c .before .before .before .before .before .before .before .before in
     let sou = number .before in
@@ -27,7 +27,7 @@ suits c κs =
     )
 
 returns : tie.Need-returns
-unfolding tileTestsOf halfFlush flush every
+unfolding tileTestsOf halfFlush flush allBelow
 returns c =
     let green = c .before in
     let terminal = green .before in

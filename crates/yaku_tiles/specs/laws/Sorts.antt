@@ -7,7 +7,7 @@ use native.Mathlib.Omega.{arith}
 use borrow.Author.Tests.{lt-ltb, ltb-true, eqb-true, ne-eqb}
 use lib.ListN.{getD}
 use lib.Dec.{eqb, ltb}
-use Rattle.tiles.specs.Below.{all, any, every}
+use Rattle.tiles.specs.Below.{all, any, allBelow}
 use Rattle.tiles.specs.laws.Below.{and-true, every-at, every-of, every-cong, any-at, both-ways}
 use Rattle.yaku_tiles.specs.OfTiles.{only}
 use Rattle.yaku_tiles.specs.search.Sorts.{sorts, anyOf, sortsIn, within}
@@ -96,17 +96,17 @@ at-kind q k (j ∷ ks) a e = pick (at-kind q k ks (and-true (q j) (allOf ks q) a
     pick later false f = later (rw f at e)
 
 -- each kind of a sort is below 34, and each kind below 34 is of a sort
-below : every 9 (λ j. allOf (getD sorts j []) (λ k. ltb k 34)) ≡ true
-unfolding every
+below : allBelow 9 (λ j. allOf (getD sorts j []) (λ k. ltb k 34)) ≡ true
+unfolding allBelow
 below = refl
 
-each : every 34 (λ k. any 9 (λ j. not (allOf (getD sorts j []) (λ i. not (eqb i k))))) ≡ true
-unfolding every
+each : allBelow 34 (λ k. any 9 (λ j. not (allOf (getD sorts j []) (λ i. not (eqb i k))))) ≡ true
+unfolding allBelow
 each = refl
 
-by-sorts : (q : ℕ → Bool) → every 34 q ≡ every 9 (λ j. allOf (getD sorts j []) q)
+by-sorts : (q : ℕ → Bool) → allBelow 34 q ≡ allBelow 9 (λ j. allOf (getD sorts j []) q)
 by-sorts q =
-    both-ways (every 34 q) (every 9 (λ j. allOf (getD sorts j []) q))
+    both-ways (allBelow 34 q) (allBelow 9 (λ j. allOf (getD sorts j []) q))
     (λ e.
     every-of (λ j. allOf (getD sorts j []) q) 9
     (λ j l.
@@ -130,9 +130,9 @@ setOf p = map (λ (ks : List ℕ). p (getD ks 0 0)) sorts
 
 -- THE SET: a test that has one answer for each sort
 pub only-within : (t : List ℕ) (x : List Bool) (p : ℕ → Bool) → x ≡ sortsIn t
-    → every 9 (λ j. allOf (getD sorts j []) (λ k. alike (p k) (getD (setOf p) j false))) ≡ true
+    → allBelow 9 (λ j. allOf (getD sorts j []) (λ k. alike (p k) (getD (setOf p) j false))) ≡ true
     → within x (setOf p) ≡ only t p
-unfolding only every
+unfolding only allBelow
 only-within t x p s e =
     ap (λ (l : List Bool). within l (setOf p)) s
     ∙ sym

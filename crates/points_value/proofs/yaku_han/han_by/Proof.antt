@@ -5,7 +5,7 @@ use mathlib.Core.Bool.{false, cond}
 use lib.ListN.{getD}
 use borrow.Author.Needs.{needs}
 use native.Mathlib.Omega.{arith}
-use Rattle.tiles.specs.Below.{total}
+use Rattle.tiles.specs.Below.{sumBelow}
 use Rattle.tiles.specs.laws.Below.{cond-le, total-none, total-more, total-done}
 use Rattle.points_value.specs.Han.{hanBy}
 use Rattle.points_value.specs.laws.Han.{hanFor, han-at}
@@ -13,7 +13,7 @@ use Rattle.points_value.proofs.yaku_han.han_by.Statement.{statement}
 use Rattle.points_value.proofs.yaku_han.han_by.Tie as tie
 
 abbrev Inv-loop : tie.InvT-loop
-Inv-loop closed y each n₀ i₀ n i = (i ≤ 37) × (n ≤ 6 * i) × (n ≡ total i (λ j. cond (getD y j false) (getD (hanFor closed) j 0) 0))
+Inv-loop closed y each n₀ i₀ n i = (i ≤ 37) × (n ≤ 6 * i) × (n ≡ sumBelow i (λ j. cond (getD y j false) (getD (hanFor closed) j 0) 0))
 
 abbrev μ-loop : tie.MeasureT-loop
 μ-loop closed y each n₀ i₀ n i = 37 - i
