@@ -4,7 +4,8 @@
  * Lengths are size_t, of 32 or 64 bits; every other number is as wide on every target. A game and a position have no bytes between their
  * members, so that their bytes are the same on every little-endian target. On a big-endian one, none of which was tried, their numbers
  * would lie the other way round: to move a game there, store it member by member.
- * Bytes between members (padding): in HbWritten, HbScored, HbCards, HbNextEntry. What a call leaves in them is not determined: compare
+ * Bytes between members (padding): in HbWritten, HbScored, HbReading, HbReadingCount, HbCards,
+ * HbNextEntry. What a call leaves in them is not determined: compare
  * such structs member by member, never by memcmp. No other struct has any.
  *
  * Every call takes all input. A refused call gives its number with all else zero and changes
@@ -273,6 +274,33 @@ typedef struct {
     int32_t changes[4];  /* points of seats 0 to 3, summing to 0; sticks and counters left out */
 } HbScored;
 
+/* What Reading gives: a refusal with all else zero, or 0 and one reading with what it is worth. One without a yaku cannot win: its h is its
+ * dora, its fu and items are counted, and nobody pays. */
+typedef struct {
+    uint32_t count;      /* how many readings the tiles have */
+    uint32_t basic;      /* A: "fu times 2 to the (h + 2)", or the limit; 8,000 with a yakuman; 0 without a yaku */
+    uint32_t gain;       /* what the payments give the winner, sticks and counters left out; 0 without a yaku */
+    int32_t changes[4];  /* points of seats 0 to 3, summing to 0 */
+    uint16_t h;          /* han of the yaku plus dora; 0 with a yakuman */
+    uint16_t dora;       /* how many of h are dora */
+    uint16_t han[37];    /* the han of each listed yaku as it counts, open or closed; yaku n at index n; 0 with a yakuman */
+    uint8_t refusal;
+    uint8_t shape;       /* 0 regular, 1 seven pairs, 2 thirteen orphans */
+    uint8_t pair;        /* kind of the pair; 34 without one */
+    uint8_t groups[4];   /* the 4 - m groups sorted by code ("run: lowest kind; triplet: 34 + kind"), then 68 */
+    uint8_t place;       /* what the winning tile completes: 0 the pair, i + 1 the group at i */
+    bool reported;       /* it is the one that Score reports */
+    uint8_t fu;          /* 0 with a yakuman */
+    HbItems items;       /* of that fu */
+    bool yaku[37];       /* yaku n at index n; index 0 is unused */
+} HbReading;
+
+/* How many readings: a refusal and 0, or 0 and their number. */
+typedef struct {
+    uint32_t count;
+    uint8_t refusal;
+} HbReadingCount;
+
 /* What Waits gives: a refusal with all else zero, or 0, the waits and furiten. */
 typedef struct {
     uint8_t refusal;
@@ -367,6 +395,14 @@ HbWritten hb_write(HbHand hand, uint8_t *buf, size_t buf_len);
 
 /* Score. The reported reading of a record, for a dealer and round wind; refusals 8, 1 to 7 in order. */
 HbScored hb_score(const uint8_t *record, size_t record_len, uint8_t dealer, uint8_t wind);
+
+/* Reading. The n-th reading of a record's tiles, from 1, in the order of document 01 ("regular before seven pairs. Regular ones compare by
+ * pair kind, then groups sorted by code .. as a list, then place (pair first)"), with what it is worth for a dealer and round wind. Readings
+ * without a yaku are among them, and nothing ends at a yakuman. Refusals 8, 1 to 5, 8 in order, the last where n is 0 or over their number. */
+HbReading hb_reading(const uint8_t *record, size_t record_len, uint8_t dealer, uint8_t wind, uint32_t n);
+
+/* How many readings a record's tiles have; 0 where they have none. Refusals 8, 1 to 5 in order. */
+HbReadingCount hb_reading_count(const uint8_t *record, size_t record_len, uint8_t dealer, uint8_t wind);
 
 /* A slip "to paste in the club book": what Score gives, six lines of 24 characters and a line feed at the start of page, no zero byte
  * after them. "Each line has a label, left in 10 columns, and a value, right in 14. Labels are HAN, FU, SEAT 0, SEAT 1, SEAT 2, SEAT 3";

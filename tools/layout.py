@@ -1,12 +1,13 @@
 #!/usr/bin/env python3
 """Checks include/herbassolh.h against the Rattle sources, and prints a C file of assertions that makes the compiler check the rest.
 
-From the signature of every `pub extern "C"` function it takes the structs that C sees, and those in their fields. Each is `#[repr(C)]` and has
-a partner in the header, Hb and its name, with the same fields in the same order. The C file asserts, by the layout that C gives the Rattle
-struct on a target with lengths of 64 bits and on one of 32: the offset and exact type (array length too) of each field, and the size and alignment of each struct; and it declares every exported
-call again from its Rattle signature, so that another type in the header does not compile. A slice is a pointer and a length, `&Struct` a
-pointer. A struct or call in one of the two and not in the other, a field added, gone or moved, or a struct with bytes between its members that
-the header does not name for that, is a fault: a line each, and exit status 1."""
+From the signature of every `pub extern "C"` function it takes the structs that C sees, and those in their fields. Each is `#[repr(C)]` and has a
+partner in the header, Hb and its name (or the name in PARTNER), with the same fields in the same order; a struct of one nameless number is that number there. The C file
+asserts, by the layout that C gives the Rattle struct on a target with lengths of 64 bits and on one of 32: the offset and exact type (array length
+too) of each field, and the size and alignment of each struct; and it declares every exported call again from its Rattle signature, so that another
+type in the header does not compile. A slice is a pointer and a length, `&Struct` a pointer. A struct or call in one of the two and not in the other,
+a field added, gone or moved, or a struct with bytes between its members that the header does not name for that, is a fault: a line each, and exit
+status 1."""
 import os
 import re
 import sys
@@ -16,6 +17,13 @@ import tree
 HEADER = os.path.join(tree.ROOT, "include", "herbassolh.h")
 PRIMITIVE = {"u8": ("uint8_t", 1), "i8": ("int8_t", 1), "bool": ("bool", 1), "u16": ("uint16_t", 2), "i16": ("int16_t", 2),
              "u32": ("uint32_t", 4), "i32": ("int32_t", 4), "u64": ("uint64_t", 8), "i64": ("int64_t", 8)}
+
+
+PARTNER = {"NthReading": "HbReading"}  # C has no other reading; in Rattle a reading is without its worth
+
+
+def partner(name):
+    return PARTNER.get(name, "Hb" + name)
 
 
 class Fault(Exception):
@@ -64,9 +72,11 @@ class Layout:
             raise Fault(f"{file.path}: {text}: no struct that C can see")
         newtype = re.fullmatch(r"(?:pub )?struct \w+\((?:pub )?(\w+)\);", item.code[0])
         if newtype:
+            if not item.repr_c:
+                raise Fault(f"{item.where()}: {item.name} is given to C without #[repr(C)]")
             return self.type_of(newtype.group(1), item.file)
         _, size, align = self.struct(item)
-        return "Hb" + item.name, None, size, align
+        return partner(item.name), None, size, align
 
     def struct(self, item):
         if item.name in self.structs:
@@ -140,15 +150,15 @@ def faults_of(layouts):
     structs, calls = header()
     layout, said = layouts[8], []
     for name, (fields, _, _) in layout.structs.items():
-        here, there = [f[0] for f in fields], structs.get("Hb" + name)
+        here, there = [f[0] for f in fields], structs.get(partner(name))
         if there is None:
-            said.append(f"include/herbassolh.h: no struct Hb{name} ({', '.join(here)})")
+            said.append(f"include/herbassolh.h: no struct {partner(name)} ({', '.join(here)})")
         elif here != there:
-            said.append(f"include/herbassolh.h: Hb{name} has {', '.join(there)}; {name} has {', '.join(here)}")
-    said += [f"include/herbassolh.h: {n}: no such struct is given to C" for n in structs if n[2:] not in layout.structs]
+            said.append(f"include/herbassolh.h: {partner(name)} has {', '.join(there)}; {name} has {', '.join(here)}")
+    said += [f"include/herbassolh.h: {n}: no such struct is given to C" for n in structs if n not in set(map(partner, layout.structs))]
     said += [f"include/herbassolh.h: no {declaration}" for n, declaration in layout.calls.items() if n not in calls]
     said += [f"include/herbassolh.h: {n}: no such exported call" for n in sorted(calls - set(layout.calls))]
-    padded = {"Hb" + name for one in layouts.values() for name in one.padded}
+    padded = {partner(name) for one in layouts.values() for name in one.padded}
     if padded != padding():
         said.append(f"include/herbassolh.h: bytes between members are in {', '.join(sorted(padded))}; it names {', '.join(sorted(padding())) or 'none'}")
     return said
@@ -156,7 +166,7 @@ def faults_of(layouts):
 
 def assertions(layout):
     for name, (fields, size, align) in layout.structs.items():
-        c = "Hb" + name
+        c = partner(name)
         yield f'_Static_assert(sizeof({c}) == {size} && _Alignof({c}) == {align}, "{c}: size {size}, alignment {align}");'
         for field, kind, length, at in fields:
             wanted = f"{kind} *" if length is None else f"{kind} (*)[{length}]"

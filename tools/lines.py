@@ -9,6 +9,7 @@ ends and line ends left out.
 Not counted: proofs under a statement, specs/laws/ and specs/search/, the kit's own names, attributes. Given apart: comment lines at what is
 counted, and import lines of the files of specs/ that hold any of it.
 
+The row `papers` counts what documents 01 and 02 ask for, without what is said and every reading; `total` counts all.
 Then it lists names of specs/laws/ and specs/search/ through which meaning passes (they are not followed), files of specs/ that import
 specs/search/, imports that name nothing, and the definitions of specs/ that nothing exported or claimed reaches, with who cites them: they may
 go. Exit status 1 where one of the first three is found. With --each, every counted item too."""
@@ -19,15 +20,19 @@ import sys
 import tree
 
 KINDS = {"definition": "definitions", "type": "definitions", "theorem": "statements", "function": "contracts", "struct": "structs"}
+BESIDE = ("speech_", "score_readings")  # what is said, and every reading: no document of the two asks for them
 COLUMNS = ("definitions", "statements", "contracts", "structs")
 
 
 class Count:
     """What is reached from the contracts and theorems of a tree."""
 
-    def __init__(self, t):
+    def __init__(self, t, papers=False):
+        """With `papers`, from what documents 01 and 02 ask for alone: without what is said and without every reading."""
         self.tree = t
         self.roots = [i for i in t.items("src") if i.exported] + [i for i in t.items("specs") if i.kind == "theorem" and i.public]
+        if papers:
+            self.roots = [i for i in self.roots if not i.file.crate.startswith(BESIDE) and not i.name.startswith(("hb_say", "hb_reading"))]
         self.reached, self.through = {}, {}
         todo = list(self.roots)
         while todo:
@@ -102,13 +107,18 @@ def totals(count):
     return sum(row[c] for row in rows for c in COLUMNS), sum(row["characters"] for row in rows)
 
 
+def added(rows):
+    return {c: sum(r[c] for r in rows.values()) for c in COLUMNS + ("characters", "comments", "imports")}
+
+
 def main():
     count = Count(tree.Tree())
     if "--each" in sys.argv[1:]:
         for i in count.items:
             print(len(i.code), sum(map(len, i.code)), i.name, i.where())
     rows = count.rows()
-    rows["total"] = {c: sum(r[c] for r in rows.values()) for c in COLUMNS + ("characters", "comments", "imports")}
+    rows["papers"] = added(Count(count.tree, papers=True).rows())
+    rows["total"] = added({n: r for n, r in rows.items() if n != "papers"})
     print(f"{'crate':12}{'lines':>7}{'characters':>12}" + "".join(f"{c:>13}" for c in COLUMNS) + f"{'comments':>11}{'imports':>9}")
     for name, row in rows.items():
         lines = sum(row[c] for c in COLUMNS)

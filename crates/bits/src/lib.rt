@@ -4,8 +4,7 @@ ghost use mathlib.Core.Path.{_≡_};
 ghost use Prim.Native.Nat.{_+_, _-_, _*_, _/_, _%_, _^_, _<_, _≤_};
 ghost use lib.ListN.{length, getD, take, drop, replicate};
 ghost use lib.Seq.{sets};
-ghost use Rattle.bits.specs.laws.Bytes.{joined};
-ghost use Rattle.bits.specs.Bits.{digits, val, pack, unpack, widthOf, EachBelow, bitsOf};
+ghost use Rattle.bits.specs.Bits.{joined, digits, val, pack, unpack, widthOf, EachBelow, bitsOf};
 
 // The number that the n bits from `at` on are, up to 8 of them.
 fn gather(b: &[u8], at: usize, n: usize) -> u8

@@ -2,10 +2,9 @@
 ghost use mathlib.Core.Path.{_≡_};
 ghost use Prim.Native.Nat.{_+_, _-_, _≤_};
 ghost use lib.ListN.{length, take};
-ghost use Rattle.card_writer.specs.Call.{refusedCards, answerOf, cardBuffer};
-ghost use Rattle.text.specs.laws.Put.{Put};
-ghost use Rattle.card_writer.specs.laws.Put.{written};
-ghost use Rattle.card_writer.specs.laws.Call.{countOf};
+ghost use Rattle.card_writer.specs.Call.{isSize, refusedCards, answerOf, cardBuffer};
+ghost use Rattle.text.specs.Put.{Put};
+ghost use Rattle.card_writer.specs.search.Written.{written, counted};
 
 // What the call says: refusal 19, or the number of sets.
 #[repr(C)]
@@ -61,20 +60,34 @@ fn draw(
     e
 }
 
-// How many cards of so many tiles there are, and 0 for another size.
-fn count_of(size: u8) -> u16
-    ensures { λ r. ⌜ (r ≡ countOf size) × (r ≤ 996) ⌝ }
+// How many cards begin with the tiles drawn so far: the draw without its buffer.
+fn count(left: usize, n: u8, low: u8, end: u8, t: [u8; 34]) -> u16
+    requires { ⌜ (left ≤ 8) × (end ≤ 34) × (end ≤ low + 9) ⌝ }
+    ensures { λ r. ⌜ r ≡ counted n left end low t ⌝ }
 {
-    if size == 2 {
-        return 9;
+    if left == 0 {
+        if reading_splits::splits(t, n) {
+            return 1;
+        }
+        return 0;
     }
-    if size == 5 {
-        return 135;
+    let mut c: u16 = 0;
+    let mut a = low;
+    while a < end {
+        let held = t[a as usize];
+        if held < 4 {
+            c += count(left - 1, n, a, end, tiles::add(t, a, 1));
+        }
+        a += 1;
     }
-    if size == 8 {
-        return 996;
-    }
-    0
+    c
+}
+
+// Whether cards have so many tiles.
+fn is_size(size: u8) -> bool
+    ensures { λ r. ⌜ r ≡ isSize size ⌝ }
+{
+    (size == 2) | (size == 5) | (size == 8)
 }
 
 fn refused() -> Cards
@@ -94,11 +107,12 @@ pub fn write(suit: u8, size: u8, buf: &mut [u8]) -> Cards
     if 2 < suit {
         return refused();
     }
-    let count = count_of(size);
-    if count == 0 {
+    if !is_size(size) {
         return refused();
     }
     let tiles = size as usize;
+    let n = (size - 2) / 3;
+    let count = count(tiles, n, 9 * suit, 9 * suit + 9, [0u8; 34]);
     if buf.len() < tiles * (count as usize) {
         return refused();
     }
@@ -111,7 +125,7 @@ pub fn write(suit: u8, size: u8, buf: &mut [u8]) -> Cards
         9 * suit + 9,
         tiles,
         tiles,
-        (size - 2) / 3,
+        n,
     );
     Cards { refusal: 0, count }
 }

@@ -11,6 +11,7 @@ ghost use Rattle.claim.specs.search.Verdict.{IsFormed, strip, regularly,
 use hand::Hand;
 use hand_record::Answer;
 use reading::Reading;
+use units::Points;
 
 // The bytes of a regular claim with 0 to 4 melds.
 const LENGTHS: [usize; 5] = [7, 7, 6, 5, 4];
@@ -29,7 +30,7 @@ pub struct Judged {
 struct Claimed {
     sound: bool,
     reading: Reading,
-    gain: u32,
+    gain: Points,
 }
 
 // ---- the claim
@@ -70,7 +71,7 @@ fn nothing() -> Claimed
     Claimed {
         sound: false,
         reading: r,
-        gain: 0,
+        gain: Points(0),
     }
 }
 
@@ -98,7 +99,7 @@ fn regular_in(s: &[u8], m: usize) -> Claimed
     Claimed {
         sound: true,
         reading: r,
-        gain,
+        gain: Points(gain),
     }
 }
 
@@ -116,7 +117,7 @@ fn shape_in(s: &[u8], m: usize, shape: u8) -> Claimed
     Claimed {
         sound: true,
         reading: r,
-        gain,
+        gain: Points(gain),
     }
 }
 
@@ -192,25 +193,25 @@ fn is_reading(t: [u8; 34], m: u8, win: u8, r: Reading) -> bool
 }
 
 // The verdict on a reading of the tiles: whether it has a yaku, what it pays, what is claimed, and the most that a reading with a yaku pays.
-fn weighed(yaku: bool, paid: u32, gain: u32, most: u32) -> u8
-    ensures { λ x. ⌜ x ≡ weighedAs yaku paid gain most ⌝ }
+fn weighed(yaku: bool, paid: Points, gain: Points, most: Points) -> u8
+    ensures { λ x. ⌜ x ≡ weighedAs yaku (paid .0) (gain .0) (most .0) ⌝ }
 {
     if !yaku {
         return 2;
     }
-    if paid != gain {
+    if paid.0 != gain.0 {
         return 3;
     }
-    if paid < most {
+    if paid.0 < most.0 {
         return 4;
     }
     0
 }
 
 // The verdict on a reading and a gain that a claim names: 0, or the first condition that is false.
-fn verdict(h: Hand, dealer: u8, wind: u8, r: Reading, gain: u32) -> u8
+fn verdict(h: Hand, dealer: u8, wind: u8, r: Reading, gain: Points) -> u8
     requires { ⌜ (h .held .m ≤ 4) × (h .fields .winner ≤ 3) × (dealer ≤ 3) × (wind ≤ 1) × IsFormed (h .held .m) r ⌝ }
-    ensures { λ x. ⌜ x ≡ verdictOf h dealer wind r gain ⌝ }
+    ensures { λ x. ⌜ x ≡ verdictOf h dealer wind r (gain .0) ⌝ }
 {
     let m = h.held.m;
     let win = h.fields.winning;
@@ -219,9 +220,9 @@ fn verdict(h: Hand, dealer: u8, wind: u8, r: Reading, gain: u32) -> u8
         return 1;
     }
     let t = score::hand_common_of(h, dealer, wind);
-    let v = score_best::keep_better(t, score_best::none(), r);
-    let b = score_search::best_of(t, c, m, win);
-    weighed(v.valued, v.value.gain.0, gain, b.value.gain.0)
+    let v = score_best::keep_better(t, score_best::none(0), r);
+    let b = score_search::search_for(t, c, m, win, 0);
+    weighed(v.valued, v.value.gain, gain, b.value.gain)
 }
 
 // ---- the call

@@ -1,11 +1,11 @@
 -- The game (01, The game; 02, S-10): the position that stands, with the earlier one that is kept so that a result can be put right; what is booked in it,
 -- and the bookings left standing.
-use mathlib.Core.Bool.{Bool, true, false, _&&_, _||_, cond}
+use mathlib.Core.Bool.{Bool, true, false, _&&_, _||_, not, cond}
 use mathlib.Core.List.{List, [], _∷_, _++_}
 use Prim.Native.Nat.{ℕ}
 use lib.Dec.{ltb}
 use Rattle.position.specs.Booking.{Result, Booking, result}
-use Rattle.position.specs.Ledger.{isSet, mark, fresh, isOver, outOfForm, refusalWhen, refusalFor, effectOf, after, ledger}
+use Rattle.position.specs.Ledger.{isSet, mark, fresh, isOver, outOfForm, notOpen, firstOf, refusalsOf, refusalFor, effectOf, after, ledger}
 use Rattle.game.specs.declared.Game.{Game}
 
 -- what is booked in a game: a booking, or a correction, which "carries a win, draw, chombo or multiple ron" (02, S-10)
@@ -28,14 +28,12 @@ gameOutOfForm g = outOfForm (g .now) || (isSet (g .correctable) && outOfForm (g 
 unfoldable pub gameNotOpen : Game → Bool
 gameNotOpen g = isOver (g .now) || gameOutOfForm g
 
--- of a correction "20, before all else but the 9 for a game out of form, when there is none to supersede"; past both the refusal n of its result
-abbrev pub correctionRefusal : Game → ℕ → ℕ
-correctionRefusal g n = cond (gameOutOfForm g) 9 (cond (isSet (g .correctable)) n 20)
-
--- a booking meets 9 in a game that isn't open; "a correction's win, once past 20, is a win booked in the earlier game", and so is every other result
+-- a booking meets 9 in a game that isn't open; a correction meets "20, before all else but the 9 for a game out of form, when there is none to supersede",
+-- and "once past 20, is a win booked in the earlier game", or any other result
 unfoldable pub gameRefusal : Game → Entry → ℕ
-gameRefusal g (booking b) = refusalWhen (gameNotOpen g) (g .now) b
-gameRefusal g (correction r) = correctionRefusal g (refusalFor (g .earlier) (result r))
+gameRefusal g (booking b) = firstOf (refusalsOf (gameNotOpen g) (g .now) b)
+gameRefusal g (correction r) =
+    firstOf ((gameOutOfForm g, 9) ∷ (not (isSet (g .correctable)), 20) ∷ refusalsOf (notOpen (g .earlier)) (g .earlier) (result r))
 
 -- where no refusal meets it: a booking keeps the position before it as the earlier one, and can be superseded if it finishes a hand;
 -- after a correction "the game is the one in which the superseded booking was never made and the new one was", and it "can itself be superseded"

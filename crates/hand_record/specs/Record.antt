@@ -40,7 +40,7 @@ padOf m = getD (1 ∷ 3 ∷ 5 ∷ 7 ∷ 1 ∷ []) m 0
 unfoldable pub widths : ℕ → List ℕ
 widths m = head ++ (eights m ++ (sixes (13 - 3 * m) ++ (padOf m ∷ [])))
 
--- ---- the parts of a record's bits
+-- ---- a record's values, and the hand that they are
 
 -- the eight values of a head: how, winner, discarder, riichi, situation, "dora indicator", "winning tile" and "meld count m"
 abbrev pub headBy : List ℕ → Head
@@ -57,33 +57,21 @@ headBy l = record {
   m = getD l 7 0;
 }
 
--- how, winner and the others up to "meld count m", of a record's bits: its first 25
+-- the head of a record: the bits up to "meld count m", which says the widths of the rest
 unfoldable pub headOf : List ℕ → Head
 headOf bits = headBy (unpack head bits)
 
--- "m melds of 8", from bit `at` on
-unfoldable pub meldsOf : ℕ → ℕ → List ℕ → List ℕ
-meldsOf at m bits = unpack (eights m) (drop at bits)
+-- the tiles held by a record's values, of which n come before them: "m melds", then "13 − 3m other concealed tiles"; an "unused place" is zero
+unfoldable pub heldBy : ℕ → ℕ → List ℕ → Held
+heldBy n m l = record { m = m; melds = fill 4 (take m (drop n l)); concealed = fill 13 (take (13 - 3 * m) (drop (n + m) l)) }
 
--- "13 − 3m other concealed tiles of 6", after the melds
-unfoldable pub tilesOf : ℕ → ℕ → List ℕ → List ℕ
-tilesOf at m bits = unpack (sixes (13 - 3 * m)) (drop (at + 8 * m) bits)
-
--- the tiles held that bits are from bit `at` on, m melds; an "unused place" is zero
-unfoldable pub heldIn : ℕ → ℕ → List ℕ → Held
-heldIn at m bits = record { m = m; melds = fill 4 (meldsOf at m bits); concealed = fill 13 (tilesOf at m bits) }
-
--- "zero bits to the byte", the n after them: as a number, 0 where none is set
-unfoldable pub paddingAfter : ℕ → ℕ → ℕ → List ℕ → ℕ
-paddingAfter at m n bits = getD (unpack (n ∷ []) (drop (at + 8 * m + 6 * (13 - 3 * m)) bits)) 0 0
-
--- in the record of a finished hand: after "how 1 .. meld count m 3", 25 bits
-abbrev pub paddingOf : ℕ → List ℕ → ℕ
-paddingOf m bits = paddingAfter 25 m (padOf m) bits
-
--- the hand that the bits of a record with m melds are
+-- the hand that the bits of a record with m melds are: each value at its width
 unfoldable pub handIn : ℕ → List ℕ → Hand
-handIn m bits = record { fields = headOf bits .fields; held = heldIn 25 m bits }
+handIn m bits = record { fields = headBy (unpack (widths m) bits) .fields; held = heldBy 8 m (unpack (widths m) bits) }
+
+-- and its "zero bits to the byte", the last value: 0 where none is set
+unfoldable pub paddingOf : ℕ → List ℕ → ℕ
+paddingOf m bits = getD (unpack (widths m) bits) (8 + m + (13 - 3 * m)) 0
 
 -- ---- Read
 

@@ -1,5 +1,6 @@
 pub mod Clean
 pub mod Fill
+pub mod Offsets
 pub mod Read
 pub mod Lengths
 pub mod Write

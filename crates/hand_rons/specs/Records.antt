@@ -1,13 +1,16 @@
 -- Records that lie end to end, and what makes them rons on one tile (02, S-6).
+use mathlib.Core.Path.{_≡_}
 use mathlib.Core.Bool.{Bool, false, _||_, not, cond}
 use mathlib.Core.List.{List, [], _∷_}
-use Prim.Native.Nat.{ℕ, zero, suc, _+_, _-_, _%_}
+use Prim.Native.Nat.{ℕ, zero, suc, _+_, _-_, _%_, _≤_, _<_}
 use lib.Dec.{ltb, eqb}
-use lib.ListN.{take, drop}
+use lib.ListN.{length, take, drop}
 use Rattle.hand.specs.declared.Fields.{Fields}
 use Rattle.hand.specs.declared.Hand.{Hand}
 use Rattle.hand.specs.Hand.{isRon}
+use Rattle.hand_record.specs.Lengths.{recordLength}
 use Rattle.hand_record.specs.Record.{lengthOf, countIn, refusalIn, handOf, readOf}
+use Rattle.hand_rons.specs.declared.First.{First}
 
 -- the hand that Read gives of a win's record
 abbrev pub handFor : List ℕ → Hand
@@ -23,6 +26,18 @@ recordsOf (suc (suc n)) s = take (lengthOf (countIn s)) s ∷ recordsOf (suc n) 
 unfoldable pub firstUnreadable : List (List ℕ) → ℕ
 firstUnreadable [] = 0
 firstUnreadable (s ∷ ss) = cond (ltb 0 (refusalIn (readOf s .answer))) (refusalIn (readOf s .answer)) (firstUnreadable ss)
+
+-- where the first of n records ends: "each but the last as long as its m says, the last all that is left"; 0 where it doesn't fit
+unfoldable pub cutOf : ℕ → List ℕ → ℕ
+cutOf n s = cond (eqb n 1) (length s) (recordLength s)
+
+-- the first of n records, read: its refusal, or its hand and where it ends and the others begin
+pub record IsFirst (n : ℕ) (s : List ℕ) (r : First) : Type 0 where
+  pub refused : 0 < r .refusal → firstUnreadable (recordsOf n s) ≡ r .refusal
+  pub inside : r .end ≤ length s
+  pub reads : r .refusal ≡ 0 → refusalIn (readOf (take (r .end) s) .answer) ≡ 0
+  pub hand : r .refusal ≡ 0 → r .hand ≡ handFor (take (r .end) s)
+  pub others : r .refusal ≡ 0 → recordsOf n s ≡ take (r .end) s ∷ recordsOf (n - 1) (drop (r .end) s)
 
 -- "two have one winner, or they differ in discarder, winning tile, indicator or situation"
 abbrev pub conflict : Fields → Fields → Bool

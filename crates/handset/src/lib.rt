@@ -7,12 +7,17 @@ ghost use lib.ListN.{length, take, drop};
 ghost use Rattle.hand_record.specs.Record.{readHandOf, writtenOf, bufferOf};
 ghost use Rattle.score.specs.IsScore.{IsScore};
 ghost use Rattle.score.specs.Score.{scoreOf};
+ghost use Rattle.score_readings.specs.IsNth.{IsNth};
+ghost use Rattle.score_readings.specs.NthOf.{nthOf};
+ghost use Rattle.score_readings.specs.Count.{countOf};
 ghost use Rattle.claim.specs.IsJudged.{IsJudged};
 ghost use Rattle.claim.specs.Judge.{judgedOf};
 ghost use Rattle.slip.specs.Slip.{slipRefusal, slipPage};
 ghost use Rattle.waits.specs.Waits.{IsWaits};
 ghost use Rattle.waits.specs.Answer.{waitsOf};
+ghost use Rattle.unfinished.specs.Unfinished.{refusalOf};
 ghost use Rattle.ready.specs.Ready.{IsAnswer};
+ghost use Rattle.ready.specs.Answer.{fewestSwaps};
 ghost use Rattle.card_writer.specs.Call.{answerOf, cardBuffer};
 ghost use Rattle.position.specs.Booking as Booking;
 ghost use Rattle.game.specs.Game.{booking, correction, freshGame};
@@ -35,6 +40,8 @@ use log_walk::Walk;
 use position::Position;
 use ready::Ready;
 use score::Scored;
+use score_readings::NthReading;
+use score_readings::ReadingCount;
 use speech_score::Said;
 use waits::Waits;
 
@@ -75,6 +82,23 @@ pub extern "C" fn hb_score(s: &[u8], dealer: u8, wind: u8) -> Scored
     score::score(s, dealer, wind)
 }
 
+// Reading: the n-th reading of a record's tiles, from 1, in document 01's order, with what it is worth; or the refusal.
+#[no_mangle]
+pub extern "C" fn hb_reading(s: &[u8], dealer: u8, wind: u8, n: u32) -> NthReading
+    ensures { λ r. ⌜ IsNth (now (s .entry)) dealer wind n r ⌝ }
+    ensures { λ r. ⌜ r ≡ nthOf (now (s .entry)) dealer wind n ⌝ }
+{
+    score_readings::nth(s, dealer, wind, n)
+}
+
+// How many readings a record's tiles have; or the refusal.
+#[no_mangle]
+pub extern "C" fn hb_reading_count(s: &[u8], dealer: u8, wind: u8) -> ReadingCount
+    ensures { λ r. ⌜ r ≡ countOf (now (s .entry)) dealer wind ⌝ }
+{
+    score_readings::count(s, dealer, wind)
+}
+
 // Slip: six lines of what Score gives for a record, a dealer and a round wind, 150 bytes at the start of a page; or the refusal, and the page as it was.
 #[no_mangle]
 pub extern "C" fn hb_slip(s: &[u8], dealer: u8, wind: u8, page: &mut [u8]) -> u8
@@ -96,6 +120,7 @@ pub extern "C" fn hb_waits(s: &[u8], discards: &[u8]) -> Waits
 // Ready: the fewest tiles of an unfinished hand to swap until it is ready, and a ready hand that many swaps away; or the refusal.
 #[no_mangle]
 pub extern "C" fn hb_ready(s: &[u8]) -> Ready
+    ensures { λ r. ⌜ (r .refusal ≡ refusalOf (now (s .entry))) × (r .swaps ≡ fewestSwaps (now (s .entry))) ⌝ }
     ensures { λ r. ⌜ IsAnswer (now (s .entry)) r ⌝ }
 {
     ready::find(s)

@@ -1,8 +1,12 @@
--- Kinds   the number, letter and length of each kind of entry
--- Log     what Next entry gives at an offset, and the parts of the walk
--- Claims  the theorems: end and 14 exactly where the paper says, what a part is, what the walk hands back and where it ends
+-- Entry   what an entry of a log is, a constructor a kind, and its letter
+-- Next    what Next entry gives at an offset
+-- Log     there is exactly one such thing; and the entries of the walk
+-- Claims  the theorems: what the walk hands back and where it ends
+-- search  how the code finds an entry: its length, and which it is
 -- laws    what they stand on, and examples
-pub mod Kinds
+pub mod Entry
+pub mod Next
+pub mod search
 pub mod Log
 pub mod laws
 pub mod Claims

@@ -1,40 +1,68 @@
--- Next entry (01, Log): what it gives at an offset of a log, and the parts that a walk hands back, one after the other.
-use mathlib.Core.Bool.{cond}
+-- Next entry (01, Log): for every log and offset there is exactly one thing that it gives; and the entries that a walk finds, one after the other.
+use mathlib.Core.Path.{_≡_}
 use mathlib.Core.List.{List, [], _∷_, _++_}
 use Prim.Native.Nat.{ℕ, zero, suc}
-use lib.Dec.{leb, eqb}
-use lib.ListN.{length, take, drop}
-use Rattle.log.specs.Kinds.{entryLength}
+use lib.ListN.{length, drop}
+use Rattle.log.specs.Next.{LogEntry, Next, end, entry, bad, IsNext}
+use Rattle.log.specs.laws.Exact as laws
 
--- "hands back that very part of the log, from its header on"; "an empty part" at 14 and at the end
+-- there is one, and every other is that one: so at most one prefix of bytes is an entry
+pub exactly-one : (log : List ℕ) (at : ℕ) → (n : Next) × IsNext log at n × ((m : Next) → IsNext log at m → m ≡ n)
+exactly-one = laws.exactly-one
+
+-- what Next entry gives: that one
+unfoldable pub nextOf : List ℕ → ℕ → Next
+nextOf log at = exactly-one log at .0
+
+module _ (log : List ℕ) (at : ℕ) where
+  pub is-next : IsNext log at (nextOf log at)
+  unfolding nextOf
+  is-next = exactly-one log at .1
+
+  pub one-next : (n : Next) → IsNext log at n → n ≡ nextOf log at
+  unfolding nextOf
+  one-next = exactly-one log at .2
+
+-- the part: "an empty part" at 14 and at the end
+abbrev pub partIn : Next → List ℕ
+partIn end = []
+partIn (entry x) = x .part
+partIn bad = []
+
+-- the refusal, 0 at an entry and at the end
+abbrev pub refusalIn : Next → ℕ
+refusalIn end = 0
+refusalIn (entry x) = 0
+refusalIn bad = 14
+
 unfoldable pub partAt : List ℕ → ℕ → List ℕ
-partAt log at = take (entryLength (drop at log)) (drop at log)
+partAt log at = partIn (nextOf log at)
 
--- "Refusal 14" where no entry stands; 0 at an entry and, with the empty part, "from an offset at or past the log's end": "end"
 unfoldable pub refusalAt : List ℕ → ℕ → ℕ
-refusalAt log at = cond (leb (length log) at) 0 (cond (eqb (entryLength (drop at log)) 0) 14 0)
+refusalAt log at = refusalIn (nextOf log at)
 
 -- ---- the walk
 
--- by the length n of the entry that bytes start with: none where it is 0, else its part and what `more` finds after it
-abbrev pub partsBy : ℕ → List ℕ → (List ℕ → List (List ℕ)) → List (List ℕ)
-partsBy zero s more = []
-partsBy (suc n) s more = take (suc n) s ∷ more (drop (suc n) s)
+-- none at the end and at 14, else the entry and what `more` finds after it
+abbrev pub entriesBy : Next → (ℕ → List LogEntry) → List LogEntry
+entriesBy end more = []
+entriesBy (entry x) more = x ∷ more (length (x .part))
+entriesBy bad more = []
 
--- at most `fuel` parts, one after the other, until there is no entry: "the walk ends"
-unfoldable pub partsFew : ℕ → List ℕ → List (List ℕ)
-partsFew zero s = []
-partsFew (suc fuel) s = partsBy (entryLength s) s (λ rest. partsFew fuel rest)
+-- at most `fuel` entries, one after the other, until there is none: "the walk ends"
+unfoldable pub entriesFew : ℕ → List ℕ → List LogEntry
+entriesFew zero s = []
+entriesFew (suc fuel) s = entriesBy (nextOf s 0) (λ n. entriesFew fuel (drop n s))
 
--- all parts of bytes: at most as many as there are bytes (`walk-ends`), so that this fuel is enough (`parts-follow`)
-unfoldable pub partsOf : List ℕ → List (List ℕ)
-partsOf s = partsFew (length s) s
+-- all entries of bytes: at most as many as there are bytes (`walk-ends`), so that this fuel is enough (`parts-follow`)
+unfoldable pub entriesOf : List ℕ → List LogEntry
+entriesOf s = entriesFew (length s) s
 
--- parts laid end to end: a tool for the claims
-abbrev pub laid : List (List ℕ) → List ℕ
+-- their parts laid end to end: a tool for the claims
+abbrev pub laid : List LogEntry → List ℕ
 laid [] = []
-laid (part ∷ rest) = part ++ laid rest
+laid (x ∷ rest) = x .part ++ laid rest
 
 -- the offset at which the walk over a log ends: after all its parts
 abbrev pub stopOf : List ℕ → ℕ
-stopOf log = length (laid (partsOf log))
+stopOf log = length (laid (entriesOf log))

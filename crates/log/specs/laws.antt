@@ -1,6 +1,9 @@
 pub mod Records
-pub mod Refusals
 pub mod Lengths
+pub mod Parts
+pub mod Kinds
+pub mod Letters
+pub mod Exact
 pub mod Next
 pub mod Walk
 pub mod Examples

@@ -1,8 +1,11 @@
 // The log (01, Log; 02, S-6, S-8 and S-10): the kinds of its entries, and Next entry. The public calls take all input.
 ghost use mathlib.Core.Path.{_≡_};
-ghost use Prim.Native.Nat.{_+_, _/_, _%_, _≤_};
-ghost use Rattle.log.specs.Kinds.{letterOf, recordsLength, withHeader, winLength, multiRonLength, paoLength, lengthBy, correctionLength, entryLength};
+ghost use mathlib.Core.List.{List, _∷_};
+ghost use Prim.Native.Nat.{ℕ, _+_, _/_, _%_, _≤_};
+ghost use Rattle.game.specs.Game.{Entry};
+ghost use Rattle.log.specs.Entry.{IsEntry, letterOf};
 ghost use Rattle.log.specs.Log.{partAt, refusalAt};
+ghost use Rattle.log.specs.search.Lengths.{recordsLength, withHeader, winLength, multiRonLength, paoLength, lengthBy, correctionLength, entryLength};
 
 // The kinds by their numbers. Each one's letter stands in `letter`, its length in `length_by`.
 pub const RIICHI: u8 = 0;
@@ -54,9 +57,9 @@ pub fn yaku(byte: u8) -> u8
     28 + byte / 8 % 2
 }
 
-// The letter that `tally` prints for a kind.
+// The letter that `tally` prints for a kind: that of every entry whose header names it.
 pub fn letter(kind: u8) -> u8
-    ensures { λ r. ⌜ r ≡ letterOf kind ⌝ }
+    ensures { λ r. ⌜ ((header : ℕ) (rest : List ℕ) (e : Entry) → IsEntry (header ∷ rest) e → kind ≡ header / 16 → r ≡ letterOf e) ⌝ }
 {
     if kind == RIICHI {
         return b'R';

@@ -1,4 +1,3 @@
-pub mod Kinds
 pub mod Turn
 pub mod Fill
 pub mod Through

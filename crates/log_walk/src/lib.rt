@@ -5,8 +5,9 @@ ghost use lib.ListN.{length, getD, drop};
 ghost use Rattle.position.specs.Booking as Booking;
 ghost use Rattle.game.specs.Game.{booking, correction};
 ghost use Rattle.game.specs.Runs.{Books};
-ghost use Rattle.log.specs.Kinds.{correctionKind, kindIn, holderIn, feederIn, yakuIn};
-ghost use Rattle.log_walk.specs.Walk.{resultBy, bookingBy, entryOf, noEntry, stepOf, BooksEntry, started};
+ghost use Rattle.log.specs.search.Lengths.{correctionKind, kindIn, holderIn, feederIn, yakuIn};
+ghost use Rattle.log.specs.search.Found.{resultBy, bookingBy, entryOf};
+ghost use Rattle.log_walk.specs.Walk.{noEntry, stepOf, BooksEntry, started};
 use game::Game;
 use game_bookings::Booked;
 

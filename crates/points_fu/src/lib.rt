@@ -4,8 +4,8 @@ ghost use mathlib.Core.Bool.{cond};
 ghost use Prim.Native.Nat.{_≤_};
 ghost use Rattle.yaku_basics.specs.search.Ways.{waysAt};
 ghost use Rattle.yaku.specs.search.Common.{groupTestsOf, placeTestsOf};
-ghost use Rattle.points_fu.specs.search.Items.{itemsBy};
-ghost use Rattle.points_fu.specs.Fu.{fu, tripletFu, groupFu, groupItems, earned as earnedOf, added as addedOf, rounded as roundedOf, baseAlone, itemsOf};
+ghost use Rattle.points_fu.specs.search.Items.{itemsBy, earned as earnedOf};
+ghost use Rattle.points_fu.specs.Fu.{fu, tripletFu, groupFu, added as addedOf, rounded as roundedOf, baseAlone, itemsOf};
 use units::Fu;
 use yaku::FullReading;
 use yaku::GroupTests;
@@ -112,7 +112,7 @@ pub fn items_at(all: [Fu; 4], g: [u8; 4], ways: [u8; 4], ron: bool, place: u8) -
 // The items of a regular reading, before rounding, where `group` is what its groups earn.
 fn earned(w: Won, k: GroupTests, q: PlaceTests, p: FullReading, group: [Fu; 4]) -> Items
     requires { ⌜ k ≡ groupTestsOf w (p .shape) (p .pair) (p .groups) ⌝ }
-    requires { ⌜ (q ≡ placeTestsOf w p) × (group ≡ groupItems p) ⌝ }
+    requires { ⌜ (q ≡ placeTestsOf w p) × (group ≡ itemsBy (p .groups) (p .ways)) ⌝ }
     ensures { λ i. ⌜ i ≡ earnedOf w p 0 ⌝ }
     ensures { λ i. ⌜ addedOf i ≤ 164 ⌝ }
 {
@@ -162,21 +162,14 @@ fn rounded(closed: bool, f: Fu) -> Fu
 }
 
 // The items of a reading, where `group` is what its groups earn: a base of 25 alone for seven pairs, only zeros with a yakuman.
-pub fn items_of(
-    w: Won,
-    k: GroupTests,
-    q: PlaceTests,
-    p: FullReading,
-    group: [Fu; 4],
-    yakuman: bool,
-) -> Items
+pub fn items_of(w: Won, k: GroupTests, q: PlaceTests, p: FullReading, group: [Fu; 4]) -> Items
     requires { ⌜ k ≡ groupTestsOf w (p .shape) (p .pair) (p .groups) ⌝ }
-    requires { ⌜ (q ≡ placeTestsOf w p) × (group ≡ groupItems p) ⌝ }
-    ensures { λ i. ⌜ i ≡ itemsOf w p yakuman ⌝ }
+    requires { ⌜ (q ≡ placeTestsOf w p) × (group ≡ itemsBy (p .groups) (p .ways)) ⌝ }
+    ensures { λ i. ⌜ i ≡ itemsOf w p ⌝ }
     ensures { λ i. ⌜ addedOf i ≤ 170 ⌝ }
 {
     let shape = p.shape;
-    if yakuman {
+    if q.yakuman {
         return base_alone(Fu(0));
     }
     if shape == 1 {

@@ -6,6 +6,7 @@ ghost use lib.Dec.{eqb};
 ghost use Rattle.yaku_tiles.specs.search.TileTests.{tileTestsOf};
 ghost use Rattle.yaku.specs.Yaku.{isYakuman, yakuOf, hasYaku};
 ghost use Rattle.yaku_basics.specs.search.Ways.{waysAt};
+ghost use Rattle.points_value.specs.Han.{hanEach};
 ghost use Rattle.points_value.specs.Value.{valueOf};
 ghost use Rattle.points_value.specs.search.Common.{IsCommon};
 use points::Seats;
@@ -93,6 +94,13 @@ fn hand_han(k: Common, q: PlaceTests) -> Han
     yaku_han::placed(k.han, q)
 }
 
+// The han of each listed yaku, of yaku n at place n, where yaku 3 has `values`.
+pub fn han_each(y: [bool; 37], closed: bool, values: Han) -> [Han; 37]
+    ensures { λ r. ⌜ r ≡ hanEach y closed (values .0) ⌝ }
+{
+    yaku_han::han_each(y, closed, values)
+}
+
 // What a reading is worth, and whether a yakuman or any yaku is listed for it; `dora` is the kind of the dora.
 // The ways of p are `ways`, but for the group that the winning tile completes.
 pub fn value_of(w: Won, k: Common, p: FullReading, ways: [u8; 4], dora: u8, s: Seats) -> Worth
@@ -109,7 +117,7 @@ pub fn value_of(w: Won, k: Common, p: FullReading, ways: [u8; 4], dora: u8, s: S
     let group = points_fu::items_at(earned, gs, ways, w.ron, p.place);
     let q = yaku::place_tests(w, x, p, ankou, kan);
     let h = hand_han(k, q);
-    let items = points_fu::items_of(w, x, q, p, group, q.yakuman);
+    let items = points_fu::items_of(w, x, q, p, group);
     let f = points_fu::added(items);
     let a = points::basic(q.yakuman, h, f);
     let g = points::gain(s, w.ron, a);

@@ -3,8 +3,8 @@ ghost use mathlib.Core.Path.{_≡_};
 ghost use mathlib.Core.Bool.{cond};
 ghost use Prim.Native.Nat.{_+_, _/_, _%_, _<_, _≤_};
 ghost use lib.Dec.{eqb};
-ghost use Rattle.points_value.specs.Han.{hanBy, yakuHan};
-ghost use Rattle.points_value.specs.laws.Han.{hanFor};
+ghost use Rattle.points_value.specs.Han.{yakuHan, hanEach};
+ghost use Rattle.points_value.specs.laws.Han.{fixedHan, hanBy};
 use units::Han;
 use yaku::PlaceTests;
 
@@ -74,7 +74,7 @@ fn han_for(listed: bool, closed: bool, both: u8) -> Han
 
 // The han of the listed yaku, without what yaku 3 counts.
 fn han_by(y: [bool; 37], closed: bool) -> Han
-    ensures { λ r. ⌜ r .0 ≡ hanBy y (hanFor closed) ⌝ }
+    ensures { λ r. ⌜ r .0 ≡ hanBy y (fixedHan closed) ⌝ }
     ensures { λ r. ⌜ r .0 ≤ 222 ⌝ }
 {
     // copied once: a constant that is read in a loop is copied in every turn
@@ -93,6 +93,19 @@ pub fn han(y: [bool; 37], closed: bool, values: Han, dora: Han) -> Han
     ensures { λ r. ⌜ r .0 ≤ 482 ⌝ }
 {
     Han(han_by(y, closed).0 + han_if(y[3], values).0 + dora.0)
+}
+
+// The han of each listed yaku, of yaku n at place n, where yaku 3 has `values`.
+pub fn han_each(y: [bool; 37], closed: bool, values: Han) -> [Han; 37]
+    ensures { λ r. ⌜ r ≡ hanEach y closed (values .0) ⌝ }
+{
+    let each = HAN;
+    let mut out = [Han(0); 37];
+    for i in 0..37 {
+        out[i] = han_for(y[i], closed, each[i]);
+    }
+    out[3] = han_if(y[3], values);
+    out
 }
 
 // h, where it is `before` without the yaku that go by the place or the ways: 4, closed only, and 18 and 19; 30 and 31 are yakuman.

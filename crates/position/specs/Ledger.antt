@@ -125,14 +125,23 @@ scoredFor l s = scoreOf s (l .dealer) (l .wind)
 abbrev pub riichiMismatch : Position → Hand → Bool
 riichiMismatch l h = cond (ltb 0 (h .fields .riichi)) (not (isDeclared l (h .fields .winner))) (isDeclared l (h .fields .winner))
 
--- of a win's record in an open game: "Score's 1 to 7 with the game's dealer and wind; 11"
-abbrev pub winRefusal : Position → List ℕ → ℕ
-winRefusal l s = cond (ltb 0 (scoredFor l s .refusal)) (scoredFor l s .refusal) (cond (riichiMismatch l (handFor s)) 11 0)
+-- "the first listed is its number": of refusals in the paper's order, each with whether it meets the booking, the number of the first that does; 0 where none does
+abbrev pub firstOf : List (Bool × ℕ) → ℕ
+firstOf [] = 0
+firstOf (r ∷ rs) = cond (r .0) (r .1) (firstOf rs)
 
--- "6, 7 or 11 of the first record that meets one" (02, S-6); 0 where none does
-unfoldable pub firstRefused : Position → List (List ℕ) → ℕ
-firstRefused l [] = 0
-firstRefused l (s ∷ ss) = cond (ltb 0 (winRefusal l s)) (winRefusal l s) (firstRefused l ss)
+-- a refusal that another call gives, 0 where it gives none
+abbrev pub given : ℕ → Bool × ℕ
+given n = (isSet n, n)
+
+-- of a win's record in an open game: "Score's 1 to 7 with the game's dealer and wind; 11"
+abbrev pub winRefusals : Position → List ℕ → List (Bool × ℕ)
+winRefusals l s = given (scoredFor l s .refusal) ∷ (riichiMismatch l (handFor s), 11) ∷ []
+
+-- of several records "6, 7 or 11 of the first record that meets one" (02, S-6)
+unfoldable pub recordRefusals : Position → List (List ℕ) → List (Bool × ℕ)
+recordRefusals l [] = []
+recordRefusals l (s ∷ ss) = given (firstOf (winRefusals l s)) ∷ recordRefusals l ss
 
 -- "four bits, seat 0 first, set for ready"
 abbrev pub isReady : ℕ → ℕ → Bool
@@ -146,24 +155,22 @@ wrongPao l holder feeder yaku = eqb holder feeder || not (eqb yaku 28 || eqb yak
 abbrev pub lacksStick : Position → ℕ → Bool
 lacksStick l seat = ltZ (scoreAt l seat) (pos 1000)
 
--- "Where refusals meet a booking by the ledger's fields, the first listed is its number"; 0 where none does. `shut` says that the game isn't open, which is
--- refused with 9;
--- of a draw "12 is never given now" (02, S-7); of a multiple ron "After 9 it refuses with 17 an empty set or one over three, then ..." (02, S-6)
-unfoldable pub refusalWhen : Bool → Position → Booking → ℕ
-refusalWhen shut l (riichi seat) = cond (ltb 3 seat) 8 (cond shut 9 (cond (isDeclared l seat) 10 (cond (lacksStick l seat) 21 0)))
-refusalWhen shut l (pao holder feeder yaku) = cond (ltb 3 holder || ltb 3 feeder) 8 (cond shut 9 (cond (wrongPao l holder feeder yaku) 18 0))
-refusalWhen shut l (result (win s)) = cond shut 9 (winRefusal l s)
-refusalWhen shut l (result (draw bits)) = cond (ltb 15 bits) 8 (cond shut 9 0)
-refusalWhen shut l (result (chombo seat)) = cond (ltb 3 seat) 8 (cond shut 9 0)
-refusalWhen shut l (result (multiRon number s)) =
-    cond shut 9
-    (cond (eqb number 0 || ltb 3 number) 17
-    (cond (ltb 0 (firstUnreadable (recordsOf number s))) (firstUnreadable (recordsOf number s))
-    (cond (notOnOneTile (recordsOf number s)) 17 (firstRefused l (recordsOf number s)))))
+-- "Where refusals meet a booking by the ledger's fields": the refusals of each booking, in the order in which the papers list them; `shut` says that the
+-- game isn't open, which is refused with 9.
+-- Of a draw "12 is never given now" (02, S-7); of a multiple ron "After 9 it refuses with 17 an empty set or one over three, then ..." (02, S-6)
+unfoldable pub refusalsOf : Bool → Position → Booking → List (Bool × ℕ)
+refusalsOf shut l (riichi seat) = (ltb 3 seat, 8) ∷ (shut, 9) ∷ (isDeclared l seat, 10) ∷ (lacksStick l seat, 21) ∷ []
+refusalsOf shut l (pao holder feeder yaku) = (ltb 3 holder || ltb 3 feeder, 8) ∷ (shut, 9) ∷ (wrongPao l holder feeder yaku, 18) ∷ []
+refusalsOf shut l (result (win s)) = (shut, 9) ∷ winRefusals l s
+refusalsOf shut l (result (draw bits)) = (ltb 15 bits, 8) ∷ (shut, 9) ∷ []
+refusalsOf shut l (result (chombo seat)) = (ltb 3 seat, 8) ∷ (shut, 9) ∷ []
+refusalsOf shut l (result (multiRon number s)) =
+    let rs = recordsOf number s in
+    (shut, 9) ∷ (eqb number 0 || ltb 3 number, 17) ∷ given (firstUnreadable rs) ∷ (notOnOneTile rs, 17) ∷ recordRefusals l rs
 
--- by a position alone, which is open or not
+-- "the first listed is its number", by a position alone, which is open or not; 0 where none meets it
 unfoldable pub refusalFor : Position → Booking → ℕ
-refusalFor l b = refusalWhen (notOpen l) l b
+refusalFor l b = firstOf (refusalsOf (notOpen l) l b)
 
 -- ---- what an accepted booking does
 
@@ -287,13 +294,17 @@ fineOf at i = pos (sum 4 (λ j. finePaid at j i)) +ℤ negℤ (pos (sum 4 (fineP
 abbrev pub backTo : Position → ℕ → ℤ
 backTo l i = cond (isDeclared l i) (pos 1000) (pos 0)
 
--- what a chombo of the seats `at` gives seat i; of one seat it "costs the seat 9,000 and gives each other seat 3,000", as `chombo-of-one` of Claims says
+-- what a chombo of the seats `at` gives seat i; of one seat it "costs the seat 9,000 and gives each other seat 3,000", as `chombo-costs-9000` of crate `game_rules` says
 unfoldable pub chomboGives : Position → (ℕ → Bool) → ℕ → ℤ
 chomboGives l at i = fineOf at i +ℤ backTo l i
 
 -- of a chombo "a stick less for each" declared seat; "the deal and counter stay, and the hand is finished" (02, S-7)
 abbrev pub chomboOf : Position → (ℕ → Bool) → Effect
 chomboOf l at = finishing (chomboGives l at) (l .sticks - declarations l) false (l .counter)
+
+-- of a draw that is no chombo: the sticks stay, "The deal passes on .. a draw with the dealer not ready", the counter "rises by one at .. each draw" (02, S-5)
+abbrev pub drawOf : Position → ℕ → Effect
+drawOf l bits = finishing (drawGives bits) (l .sticks) (not (isReady bits (l .dealer))) (l .counter + 1)
 
 -- seat i is "Declared, yet not ready" (02, S-7)
 abbrev pub isAtFault : Position → ℕ → ℕ → Bool
@@ -307,9 +318,7 @@ isAtFault l bits i = isDeclared l i && not (isReady bits i)
 unfoldable pub effectOf : Position → Booking → Effect
 effectOf l (riichi seat) = going l (riichiGives seat) (l .sticks + 1) (λ i. eqb i seat || isDeclared l i) (l .feeders)
 effectOf l (result (win s)) = finishing (winGives l s (l .counter) (l .sticks)) 0 (not (isDealersWin l s)) (cond (isDealersWin l s) (l .counter + 1) 0)
-effectOf l (result (draw bits)) =
-    cond (any 4 (isAtFault l bits)) (chomboOf l (isAtFault l bits))
-    (finishing (drawGives bits) (l .sticks) (not (isReady bits (l .dealer))) (l .counter + 1))
+effectOf l (result (draw bits)) = cond (any 4 (isAtFault l bits)) (chomboOf l (isAtFault l bits)) (drawOf l bits)
 effectOf l (result (chombo seat)) = chomboOf l (λ i. eqb i seat)
 effectOf l (pao holder feeder yaku) = going l (λ i. pos 0) (l .sticks) (isDeclared l) (set (l .feeders) (feederIndex holder yaku) (1 + feeder))
 effectOf l (result (multiRon number s)) =

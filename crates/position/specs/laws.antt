@@ -2,6 +2,7 @@ pub mod Bounds
 pub mod Form
 pub mod Sums
 pub mod Effect
+pub mod First
 pub mod Accepted
 pub mod Refusals
 pub mod PaidByOthers

@@ -6,15 +6,30 @@ ghost use lib.Dec.{eqb};
 ghost use lib.IntN.{pos, negℤ, _+ℤ_};
 ghost use lib.ListN.{getD};
 ghost use Rattle.tiles.specs.Below.{count, tabulate};
-ghost use Rattle.hand.specs.Hand.{isRon};
-ghost use Rattle.hand.specs.Refusals.{wrongDiscarder};
 ghost use Rattle.score.specs.laws.Z.{Within};
 ghost use Rattle.position.specs.Ledger.{lastHand, isSet, paidByOthers, repeatGives, wholeOf, paoPays, shareOf, fineOf};
 ghost use Rattle.position.specs.laws.Bounds.{amount, mostChange, mostSticks, mostGift};
 ghost use Rattle.position.specs.laws.Fines.{finedBy};
 ghost use Rattle.position.specs.laws.Sums.{Small, Changes, Gifts};
-use hand::Fields;
+use points::Seats;
 use position_form::count_true;
+use units::Points;
+
+// Points that a seat gets.
+fn more(p: Points) -> i32
+    requires { ⌜ p .0 ≤ amount ⌝ }
+    ensures { λ r. ⌜ (r ≡ pos (p .0)) × Within r (p .0) ⌝ }
+{
+    p.0 as i32
+}
+
+// Points that a seat pays.
+fn less(p: Points) -> i32
+    requires { ⌜ p .0 ≤ amount ⌝ }
+    ensures { λ r. ⌜ (r ≡ negℤ (pos (p .0))) × Within r (p .0) ⌝ }
+{
+    -(p.0 as i32)
+}
 
 fn stake(pays: bool) -> i32
     ensures { λ r. ⌜ (r ≡ cond pays (negℤ (pos 1000)) (pos 0)) × Within r amount ⌝ }
@@ -43,9 +58,9 @@ fn share(n: u32, ready: bool) -> i32
         return 0;
     }
     if ready {
-        (3000 / n) as i32
+        more(Points(3000 / n))
     } else {
-        -((3000 / (4 - n)) as i32)
+        less(Points(3000 / (4 - n)))
     }
 }
 
@@ -68,9 +83,9 @@ fn fine(n: u32, pays: bool) -> i32
     ensures { λ r. ⌜ (r ≡ finedBy n pays) × Within r mostChange ⌝ }
 {
     if pays {
-        -((3000 * (4 - n)) as i32)
+        less(Points(3000 * (4 - n)))
     } else {
-        (3000 * n) as i32
+        more(Points(3000 * n))
     }
 }
 
@@ -103,18 +118,10 @@ pub fn penalties(f: [bool; 4], d: [bool; 4]) -> [i32; 4]
 }
 
 // What a seat pays that owes an amount, or does not.
-fn due(owes: bool, amount: u32) -> u32
-    ensures { λ r. ⌜ (r ≡ cond owes amount 0) × (r ≤ amount) ⌝ }
+fn due(owes: bool, p: Points) -> Points
+    ensures { λ r. ⌜ (r .0 ≡ cond owes (p .0) 0) × (r .0 ≤ p .0) ⌝ }
 {
-    if owes { amount } else { 0 }
-}
-
-// An amount that is taken.
-fn less(amount: u32) -> i32
-    requires { ⌜ amount ≤ mostChange ⌝ }
-    ensures { λ r. ⌜ (r ≡ negℤ (pos amount)) × Within r mostChange ⌝ }
-{
-    -(amount as i32)
+    if owes { p } else { Points(0) }
 }
 
 // What n repeat counters give a seat that wins, or does not, where one seat pays them alone or all do, and it is that one or not.
@@ -123,11 +130,11 @@ fn addition(wins: bool, alone: bool, pays: bool, n: u32) -> i32
     ensures { λ r. ⌜ (r ≡ cond wins (pos (300 * n)) (negℤ (pos (cond alone (cond pays (300 * n) 0) (100 * n))))) × Within r mostChange ⌝ }
 {
     if wins {
-        (300 * n) as i32
+        more(Points(300 * n))
     } else if alone {
-        less(due(pays, 300 * n))
+        less(due(pays, Points(300 * n)))
     } else {
-        less(100 * n)
+        less(Points(100 * n))
     }
 }
 
@@ -145,42 +152,45 @@ fn additions(winner: u8, payer: u8, alone: bool, n: u32) -> [i32; 4]
 }
 
 // What a yakuman gives the winner, the dealer or a child.
-fn whole_of(dealers: bool) -> u32
-    ensures { λ r. ⌜ (r ≡ wholeOf dealers) × (r ≤ 48000) ⌝ }
+fn whole_of(dealers: bool) -> Points
+    ensures { λ r. ⌜ (r .0 ≡ wholeOf dealers) × (r .0 ≤ 48000) ⌝ }
 {
-    if dealers { 48000 } else { 32000 }
+    if dealers {
+        Points(48000)
+    } else {
+        Points(32000)
+    }
 }
 
 // What a seat pays of the whole by article 67, by ron or not, that is the feeder or not, and the discarder or not.
-fn owed(ron: bool, feeds: bool, discards: bool, whole: u32) -> u32
-    requires { ⌜ whole ≤ 48000 ⌝ }
-    ensures { λ r. ⌜ (r ≡ cond ron (cond feeds (whole / 2) 0 + cond discards (whole / 2) 0) (cond feeds whole 0)) × (r ≤ whole) ⌝ }
+fn owed(ron: bool, feeds: bool, discards: bool, whole: Points) -> Points
+    requires { ⌜ whole .0 ≤ 48000 ⌝ }
+    ensures { λ r. ⌜ (r .0 ≡ cond ron (cond feeds (whole .0 / 2) 0 + cond discards (whole .0 / 2) 0) (cond feeds (whole .0) 0)) × (r .0 ≤ whole .0) ⌝ }
 {
-    let half = whole / 2;
+    let half = Points(whole.0 / 2);
     if ron {
-        due(feeds, half) + due(discards, half)
+        Points(due(feeds, half).0 + due(discards, half).0)
     } else {
         due(feeds, whole)
     }
 }
 
 // What article 67 gives a seat that wins, or does not.
-fn pao_given(wins: bool, owes: u32, whole: u32) -> i32
-    requires { ⌜ (owes ≤ 48000) × (whole ≤ 48000) ⌝ }
-    ensures { λ r. ⌜ (r ≡ cond wins (pos whole) (negℤ (pos owes))) × Within r mostChange ⌝ }
+fn pao_given(wins: bool, owes: Points, whole: Points) -> i32
+    requires { ⌜ (owes .0 ≤ 48000) × (whole .0 ≤ 48000) ⌝ }
+    ensures { λ r. ⌜ (r ≡ cond wins (pos (whole .0)) (negℤ (pos (owes .0)))) × Within r mostChange ⌝ }
 {
-    if wins { whole as i32 } else { less(owes) }
+    if wins { more(whole) } else { less(owes) }
 }
 
-// What article 67 gives each seat: feeder and discarder pay the winner the whole.
-fn pao_gives(f: Fields, feeder: u8, dealers: bool) -> [i32; 4]
-    requires { ⌜ (f .winner ≤ 3) × (f .discarder ≤ 3) × (wrongDiscarder f ≡ false) × (feeder ≤ 3) × (f .winner ≡ feeder → ⊥) ⌝ }
-    ensures { λ r. ⌜ (r ≡ tabulate 4 0 (paidByOthers (f .winner) (paoPays (f .winner) (f .discarder) feeder (isRon f) (wholeOf dealers)))) × Changes r ⌝ }
+// What article 67 gives each seat, by ron or not: feeder and discarder pay the winner the whole.
+fn pao_gives(s: Seats, ron: bool, feeder: u8) -> [i32; 4]
+    requires { ⌜ (s .winner ≤ 3) × (s .discarder ≤ 3) × (ron ≡ true → s .winner ≡ s .discarder → ⊥) × (feeder ≤ 3) × (s .winner ≡ feeder → ⊥) ⌝ }
+    ensures { λ r. ⌜ (r ≡ tabulate 4 0 (paidByOthers (s .winner) (paoPays (s .winner) (s .discarder) feeder ron (wholeOf (eqb (s .winner) (s .dealer)))))) × Changes r ⌝ }
 {
-    let ron = f.how == 1;
-    let w = f.winner;
-    let d = f.discarder;
-    let whole = whole_of(dealers);
+    let w = s.winner;
+    let d = s.discarder;
+    let whole = whole_of(w == s.dealer);
     [
         pao_given(0 == w, owed(ron, 0 == feeder, 0 == d, whole), whole),
         pao_given(1 == w, owed(ron, 1 == feeder, 1 == d, whole), whole),
@@ -190,12 +200,12 @@ fn pao_gives(f: Fields, feeder: u8, dealers: bool) -> [i32; 4]
 }
 
 // What each seat gets or pays of the winner's gain: the changes c, or by article 67 with pao; liable is 0, or 1 + the feeder.
-pub fn won(f: Fields, c: [i32; 4], liable: u8, dealers: bool) -> [i32; 4]
-    requires { ⌜ (f .winner ≤ 3) × (f .discarder ≤ 3) × (wrongDiscarder f ≡ false) × (liable ≤ 4) × (liable ≡ 1 + f .winner → ⊥) × Changes c ⌝ }
-    ensures { λ r. ⌜ (r ≡ cond (isSet liable) (tabulate 4 0 (paidByOthers (f .winner) (paoPays (f .winner) (f .discarder) (liable - 1) (isRon f) (wholeOf dealers)))) c) × Changes r ⌝ }
+pub fn won(s: Seats, ron: bool, c: [i32; 4], liable: u8) -> [i32; 4]
+    requires { ⌜ (s .winner ≤ 3) × (s .discarder ≤ 3) × (ron ≡ true → s .winner ≡ s .discarder → ⊥) × (liable ≤ 4) × (liable ≡ 1 + s .winner → ⊥) × Changes c ⌝ }
+    ensures { λ r. ⌜ (r ≡ cond (isSet liable) (tabulate 4 0 (paidByOthers (s .winner) (paoPays (s .winner) (s .discarder) (liable - 1) ron (wholeOf (eqb (s .winner) (s .dealer)))))) c) × Changes r ⌝ }
 {
     if 0 < liable {
-        return pao_gives(f, liable - 1, dealers);
+        return pao_gives(s, ron, liable - 1);
     }
     c
 }
@@ -215,13 +225,12 @@ fn payer_of(ron: bool, discarder: u8, feeder: u8) -> u8
 }
 
 // What n repeat counters give each seat at a win: all others pay them on tsumo, the discarder alone on ron, and the feeder alone on tsumo with pao.
-pub fn added(f: Fields, liable: u8, n: u32) -> [i32; 4]
-    requires { ⌜ (f .winner ≤ 3) × (f .discarder ≤ 3) × (wrongDiscarder f ≡ false) × (liable ≤ 4) × (liable ≡ 1 + f .winner → ⊥) × (n ≤ lastHand) ⌝ }
-    ensures { λ r. ⌜ (r ≡ tabulate 4 0 (repeatGives (f .winner) (cond (isRon f) (f .discarder) (liable - 1)) (isRon f || isSet liable) n)) × Changes r ⌝ }
+pub fn added(s: Seats, ron: bool, liable: u8, n: u32) -> [i32; 4]
+    requires { ⌜ (s .winner ≤ 3) × (s .discarder ≤ 3) × (ron ≡ true → s .winner ≡ s .discarder → ⊥) × (liable ≤ 4) × (liable ≡ 1 + s .winner → ⊥) × (n ≤ lastHand) ⌝ }
+    ensures { λ r. ⌜ (r ≡ tabulate 4 0 (repeatGives (s .winner) (cond ron (s .discarder) (liable - 1)) (ron || isSet liable) n)) × Changes r ⌝ }
 {
-    let ron = f.how == 1;
-    let payer = payer_of(ron, f.discarder, feeder_of(liable));
-    additions(f.winner, payer, ron | (0 < liable), n)
+    let payer = payer_of(ron, s.discarder, feeder_of(liable));
+    additions(s.winner, payer, ron | (0 < liable), n)
 }
 
 // What a win gives a seat: its change, what the counters add, and the sticks if it wins.
@@ -231,7 +240,7 @@ fn winning(change: i32, added: i32, wins: bool, sticks: u32) -> i32
 {
     let sum = change + added;
     if wins {
-        sum + (1000 * sticks) as i32
+        sum + more(Points(1000 * sticks))
     } else {
         sum
     }

@@ -17,6 +17,7 @@ ghost use Rattle.position_win.specs.laws.Settling.{nothing, SettledAs, I
 use hand::Fields;
 use hand::Hand;
 use hand_record::Answer;
+use points::Seats;
 use position::Position;
 use position_bookings::Moved;
 use score::Scored;
@@ -95,9 +96,15 @@ fn settle_scored(p: Position, f: Fields, v: Scored, liable: u8, n: u32, k: u32) 
     if mismatch(f.riichi, 0 < d[i]) {
         return unsettled(11);
     }
+    let s = Seats {
+        winner,
+        dealer: p.dealer,
+        discarder: f.discarder,
+    };
+    let ron = f.how == 1;
     let changes = v.changes;
-    let c = position_payments::won(f, changes, liable, winner == p.dealer);
-    let a = position_payments::added(f, liable, n);
+    let c = position_payments::won(s, ron, changes, liable);
+    let a = position_payments::added(s, ron, liable, n);
     let gives = position_payments::winnings(c, a, winner, k);
     Settled {
         refusal: 0,

@@ -1,4 +1,4 @@
--- How far an unfinished hand is from ready (02, S-14). Nothing here says how the nearest ready hand is found.
+-- How far an unfinished hand is from ready (02, S-14). Nothing here says how the nearest ready hand is found; `Answer` has the one number.
 use mathlib.Core.Path.{_≡_}
 use mathlib.Core.Bool.{false}
 use mathlib.Core.List.{List}

@@ -5,6 +5,8 @@ ghost use lib.ListN.{getD};
 ghost use Rattle.tiles.specs.Below.{sumBelow};
 ghost use Rattle.tiles.specs.Tally.{tallyOf};
 ghost use Rattle.hand.specs.Held.{inMelds};
+ghost use Rattle.unfinished.specs.Unfinished.{refusalOf};
+ghost use Rattle.ready.specs.Answer.{fewestSwaps};
 ghost use Rattle.ready.specs.Ready.{SameMelds, IsNearest, IsAnswer};
 ghost use Rattle.ready.specs.search.Written.{sameMeldsWith, Written};
 use hand::Held;
@@ -68,6 +70,7 @@ fn nearest_to(x: Held) -> Ready
 
 // The fewest swaps until an unfinished hand is ready, with a ready hand that many swaps away.
 pub fn find(s: &[u8]) -> Ready
+    ensures { λ r. ⌜ (r .refusal ≡ refusalOf (now (s .entry))) × (r .swaps ≡ fewestSwaps (now (s .entry))) ⌝ }
     ensures { λ r. ⌜ IsAnswer (now (s .entry)) r ⌝ }
 {
     let u = unfinished::read(s);

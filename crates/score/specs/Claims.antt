@@ -10,9 +10,9 @@ use Rattle.hand.specs.declared.Hand.{Hand}
 use Rattle.hand_record.specs.Record.{handOf, readOf, IsSound}
 use Rattle.reading.specs.declared.Reading.{Reading}
 use Rattle.reading.specs.Order.{Before}
+use Rattle.yaku.specs.Yaku.{yakuman}
 use Rattle.points.specs.Points.{sumOfFour}
 use Rattle.points_fu.specs.Fu.{fu, groupFu, added, baseAlone}
-use Rattle.points_value.specs.Value.{yakuman}
 use Rattle.score_best.specs.Best.{withYakuman, upTo}
 use Rattle.score.specs.declared.Scored.{Scored}
 use Rattle.score.specs.Readings.{AreReadingsOf}
@@ -70,7 +70,7 @@ module _ (s : List ℕ) (dealer wind : ℕ) where
   scored = hand-score.scored s dealer wind
 
   -- "The items add up to the fu reported" (02, S-3)
-  pub items-total : added (scoreOf s dealer wind .items) ≡ scoreOf s dealer wind .fu
+  pub items-total : added (scoreOf s dealer wind .items) ≡ scoreOf s dealer wind .fu .0
   items-total = items.total (is-score s dealer wind)
 
   -- refused: "all else zero", the ten items too

@@ -19,7 +19,7 @@ use Rattle.yaku.specs.declared.FullReading.{FullReading}
 use Rattle.points.specs.declared.Seats.{Seats}
 use Rattle.points.specs.Points.{changes}
 use Rattle.points_value.specs.declared.Value.{Value}
-use Rattle.points_fu.specs.Fu.{baseAlone}
+use Rattle.points_fu.specs.Fu.{fu, baseAlone}
 use Rattle.points_value.specs.Value.{valueOf}
 use Rattle.score_best.specs.Best.{withYaku, Over, withYakuman, upTo}
 use Rattle.score.specs.declared.Scored.{Scored}
@@ -68,12 +68,13 @@ worth h dealer wind r = valueOf (wonOf h dealer wind) (fullReadingOf h r) (doraO
 
 -- "Refused: all zero"
 abbrev pub refusedWith : ℕ → Scored
-refusedWith n = record { refusal = n; h = 0; fu = 0; items = baseAlone 0; yaku = replicate 37 false; tried = 0; changes = replicate 4 (pos 0) }
+refusedWith n =
+    record { refusal = n; h = record { 0 = 0 }; fu = fu 0; items = baseAlone 0; yaku = replicate 37 false; tried = 0; changes = replicate 4 (pos 0) }
 
 -- "Accepted: h, fu, yaku set, four changes"; "The fu count must give its items" (02, S-3); "how many readings it tried" (02, S-4)
 abbrev pub acceptedAs : Value → Seats → Bool → ℕ → Scored
 acceptedAs v s ron tried =
-    record { refusal = 0; h = v .han .0; fu = v .fu .0; items = v .items; yaku = v .yaku; tried = tried; changes = changes s ron (v .basic .0) }
+    record { refusal = 0; h = v .han; fu = v .fu; items = v .items; yaku = v .yaku; tried = tried; changes = changes s ron (v .basic .0) }
 
 -- ---- what the papers name for a sound hand
 

@@ -20,6 +20,7 @@ use points_fu::Items;
 use points_value::Value;
 use score_best::HandCommon;
 use units::Fu;
+use units::Han;
 use yaku::Won;
 
 // What Score gives: 0 and h, fu, the items that add up to it, the yaku set (yaku n at n), how many readings were tried and the four changes, or the
@@ -27,8 +28,8 @@ use yaku::Won;
 #[repr(C)]
 pub struct Scored {
     pub refusal: u8,
-    pub h: u16,
-    pub fu: u8,
+    pub h: Han,
+    pub fu: Fu,
     pub items: Items,
     pub yaku: [bool; 37],
     pub tried: u32,
@@ -148,8 +149,8 @@ fn refused(n: u8) -> Scored
     let items = points_fu::base_alone(Fu(0));
     Scored {
         refusal: n,
-        h: 0,
-        fu: 0,
+        h: Han(0),
+        fu: Fu(0),
         items,
         yaku: none,
         tried: 0,
@@ -164,12 +165,14 @@ fn accepted(v: Value, s: Seats, ron: bool, tried: u32) -> Scored
 {
     let y = v.yaku;
     let a = v.basic;
+    let han = v.han;
+    let fu = v.fu;
     let items = v.items;
     let c = points::changes(s, ron, a);
     Scored {
         refusal: 0,
-        h: v.han.0,
-        fu: v.fu.0,
+        h: han,
+        fu,
         items,
         yaku: y,
         tried,
@@ -186,16 +189,12 @@ pub fn score_hand(h: Hand, dealer: u8, wind: u8) -> Scored
 {
     let t = hand_common_of(h, dealer, wind);
     let c = hand::concealed_tally(h);
-    let b = score_search::best_of(t, c, h.held.m, h.fields.winning);
+    let b = score_search::search_for(t, c, h.held.m, h.fields.winning, 0);
     if 0 < b.tried {
         if b.valued {
             let v = b.value;
-            let s = Seats {
-                winner: h.fields.winner,
-                dealer,
-                discarder: h.fields.discarder,
-            };
-            return accepted(v, s, h.fields.how == 1, b.tried);
+            let s = t.seats;
+            return accepted(v, s, t.won.ron, b.tried);
         }
         return refused(7);
     }

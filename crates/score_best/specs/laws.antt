@@ -3,3 +3,4 @@ pub mod First
 pub mod Tried
 pub mod Over
 pub mod Keep
+pub mod Nth

@@ -30,13 +30,15 @@ pub struct HandCommon {
 }
 
 // What the search keeps: whether a reading had a yaku, the best of those and what it is worth; whether the search is done, as the last reading had a
-// yakuman; and how many readings it tried.
+// yakuman; and how many readings it tried. Where a reading is wanted by its number, `wanted`, from 1, it is that one, and whether it was reached;
+// nothing ends the search then. 0 is for the best.
 pub struct Best {
     pub valued: bool,
     pub value: Value,
     pub reading: Reading,
     pub done: bool,
     pub tried: u32,
+    pub wanted: u32,
 }
 
 // ---- what a reading is worth
@@ -114,8 +116,8 @@ fn beats(v: Value, w: Value) -> bool
 }
 
 // What is kept before any reading.
-pub fn none() -> Best
-    ensures { λ r. ⌜ r ≡ noneOf ⌝ }
+pub fn none(wanted: u32) -> Best
+    ensures { λ r. ⌜ r ≡ noneOf wanted ⌝ }
 {
     let y = [false; 37];
     let items = points_fu::base_alone(Fu(0));
@@ -134,6 +136,7 @@ pub fn none() -> Best
         reading: r,
         done: false,
         tried: 0,
+        wanted,
     }
 }
 
@@ -144,17 +147,18 @@ fn counted(n: u32) -> u32
     if n < 4294967295 { n + 1 } else { n }
 }
 
-// The better of what is kept and a reading of worth v; of equals what is kept.
+// The better of what is kept and a reading of worth v; of equals what is kept. Where one is wanted by its number: that one, whatever it is worth.
 fn keep(b: Best, r: Reading, v: Worth) -> Best
     ensures { λ x. ⌜ x ≡ keepOf b r v ⌝ }
 {
     let kept = b.value;
     let worth = v.value;
     let tried = counted(b.tried);
+    let best = b.wanted == 0;
     let mut x = b;
-    x.done = v.yakuman;
+    x.done = best & v.yakuman;
     x.tried = tried;
-    if v.any & (!b.valued | beats(worth, kept)) {
+    if (best & (v.any & (!b.valued | beats(worth, kept)))) | (tried == b.wanted) {
         x.valued = true;
         x.value = worth;
         x.reading = r;

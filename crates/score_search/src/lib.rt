@@ -1,4 +1,5 @@
-// The best reading of a tally: every reading is searched, valued and held against the best so far, up to the first yakuman, which nothing beats.
+// The best reading of a tally: every reading is searched, valued and held against the best so far, up to the first yakuman, which nothing beats; or
+// the reading with a number, and how many there are.
 ghost use mathlib.Core.Path.{_≡_};
 ghost use mathlib.Core.Bool.{false};
 ghost use mathlib.Core.List.{[]};
@@ -9,7 +10,7 @@ ghost use Rattle.reading.specs.search.Folded.{folded};
 ghost use Rattle.reading.specs.laws.Fold.{ranged};
 ghost use Rattle.reading.specs.laws.Found.{Stored, behind};
 ghost use Rattle.score_best.specs.search.HandCommon.{worthIn, IsHandCommon};
-ghost use Rattle.score_best.specs.search.Best.{keepBetter, bestOf};
+ghost use Rattle.score_best.specs.search.Best.{keepBetter, searchFor};
 use reading::Reading;
 use score_best::Best;
 use score_best::HandCommon;
@@ -132,13 +133,14 @@ fn shapes(h: HandCommon, t: [u8; 34], m: u8, best: Best) -> Best
     b
 }
 
-// The best reading of the tally t with m melds, won by the kind win, and what it is worth: every reading up to the first yakuman is held against the others.
-pub fn best_of(h: HandCommon, t: [u8; 34], m: u8, win: u8) -> Best
+// The best reading of the tally t with m melds, won by the kind win, and what it is worth: every reading up to the first yakuman is held against the
+// others. Where one is wanted by its number, from 1: that one and what it is worth, and how many there are.
+pub fn search_for(h: HandCommon, t: [u8; 34], m: u8, win: u8, wanted: u32) -> Best
     requires { ⌜ IsHandCommon h × (m ≤ 4) ⌝ }
-    ensures { λ r. ⌜ r ≡ bestOf (worthIn h) t m win ⌝ }
+    ensures { λ r. ⌜ r ≡ searchFor (worthIn h) wanted t m win ⌝ }
 {
     let p = reading_steps::pairs_in(&t);
-    let mut b = score_best::none();
+    let mut b = score_best::none(wanted);
     let mut k = p.first;
     while k <= p.last {
         if 2 <= t[k as usize] {

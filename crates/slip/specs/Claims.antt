@@ -23,7 +23,7 @@ module _ (s : List ℕ) (dealer wind : ℕ) where
   text-has-150-bytes = short.text-has-150-bytes s dealer wind
 
   -- the second line has fu, also where it is a yakuman's 0
-  pub fu-line : getD (valuesOf (scoreOf s dealer wind)) 1 [] ≡ digitsOf (scoreOf s dealer wind .fu)
+  pub fu-line : getD (valuesOf (scoreOf s dealer wind)) 1 [] ≡ digitsOf (scoreOf s dealer wind .fu .0)
   fu-line = page.fu-line s dealer wind
 
   module _ (p : List ℕ) where

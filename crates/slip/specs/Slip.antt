@@ -14,8 +14,8 @@ use Rattle.slip.specs.Line.{slipLine, labels}
 -- "A yakuman has the value YAKUMAN on the first line and 0 on the second."
 unfoldable pub valuesOf : Scored → List (List ℕ)
 valuesOf a =
-    cond (isYakuman (a .yaku)) (bytesOf "YAKUMAN") (digitsOf (a .h))
-    ∷ cond (isYakuman (a .yaku)) (digitsOf 0) (digitsOf (a .fu))
+    cond (isYakuman (a .yaku)) (bytesOf "YAKUMAN") (digitsOf (a .h .0))
+    ∷ cond (isYakuman (a .yaku)) (digitsOf 0) (digitsOf (a .fu .0))
     ∷ scoreText (a .changes) 0 ∷ scoreText (a .changes) 1 ∷ scoreText (a .changes) 2 ∷ scoreText (a .changes) 3 ∷ []
 
 -- line k

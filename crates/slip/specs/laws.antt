@@ -1,6 +1,6 @@
 pub mod Line
 pub mod Lines
-pub mod Text
+pub mod Answer
 pub mod Score
 pub mod Short
 pub mod Page

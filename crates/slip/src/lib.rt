@@ -1,15 +1,19 @@
 // A slip to paste in the club book (02, S-2): six lines of a scored hand, a label and a number or a word each, into the parts of a lent page.
 // `slip` takes all input.
 ghost use mathlib.Core.Path.{_≡_};
+ghost use mathlib.Core.Bool.{true, cond};
 ghost use mathlib.Core.List.{[], _∷_, _++_};
-ghost use Prim.Native.Nat.{_≤_, _<_};
+ghost use Prim.Native.Nat.{_+_, _≤_, _<_};
 ghost use lib.ListN.{length, getD, drop};
+ghost use Rattle.yaku.specs.Yaku.{isYakuman};
 ghost use Rattle.score.specs.Score.{scoreOf};
-ghost use Rattle.text.specs.Text.{signedOf};
+ghost use Rattle.text.specs.Text.{digitsOf, signedOf, scoreText};
+ghost use Rattle.text.specs.Words.{bytesOf};
 ghost use Rattle.slip.specs.Line.{spaces, slipLine, labels};
-ghost use Rattle.slip.specs.Slip.{slipRefusal, slipPage};
-ghost use Rattle.slip.specs.laws.Lines.{valueBy, lineBy, linesBy};
-ghost use Rattle.slip.specs.laws.Text.{numbersOf};
+ghost use Rattle.slip.specs.Slip.{lineAt, slipText, slipRefusal, slipPage};
+use score::Scored;
+use units::Fu;
+use units::Han;
 
 // ---- the lines
 
@@ -48,48 +52,69 @@ fn put_number(line: &mut [u8], label: &[u8], n: i32)
     put_line(line, label, &text[..e]);
 }
 
-// Writes line k: its label, and n; on the first line of a yakuman the word YAKUMAN.
-fn put_line_at(line: &mut [u8], k: usize, n: i32, yakuman: bool)
+// Writes the first line: HAN and h, or the word YAKUMAN.
+fn put_han(line: &mut [u8], h: Han, yakuman: bool)
+    requires { ⌜ length (now line) ≡ 25 ⌝ }
+    ensures { λ _. ⌜ now (line .exit) ≡ slipLine (getD labels 0 []) (cond yakuman (bytesOf "YAKUMAN") (digitsOf (h .0))) ⌝ }
+{
+    if yakuman {
+        put_line(line, b"HAN", b"YAKUMAN");
+        return;
+    }
+    put_number(line, b"HAN", h.0 as i32);
+}
+
+// Writes the second line: FU and fu.
+fn put_fu(line: &mut [u8], fu: Fu)
+    requires { ⌜ length (now line) ≡ 25 ⌝ }
+    ensures { λ _. ⌜ now (line .exit) ≡ slipLine (getD labels 1 []) (digitsOf (fu .0)) ⌝ }
+{
+    put_number(line, b"FU", fu.0 as i32);
+}
+
+// Writes the line of a seat: SEAT with its number, and its change of the four.
+fn put_seat(line: &mut [u8], seat: usize, changes: [i32; 4])
+    requires { ⌜ (length (now line) ≡ 25) × (seat < 4) ⌝ }
+    ensures { λ _. ⌜ now (line .exit) ≡ slipLine (getD labels (2 + seat) []) (scoreText changes seat) ⌝ }
+{
+    let mut label = *b"SEAT 0";
+    label[5] = b'0' + (seat as u8);
+    put_number(line, &label, changes[seat]);
+}
+
+// Writes line k of a score; a yakuman's fu is 0.
+fn put_line_at(line: &mut [u8], k: usize, a: Scored)
     requires { ⌜ (length (now line) ≡ 25) × (k < 6) ⌝ }
-    ensures { λ _. ⌜ now (line .exit) ≡ slipLine (getD labels k []) (valueBy yakuman n k) ⌝ }
+    requires { ⌜ (isYakuman (a .yaku) ≡ true → a .fu .0 ≡ 0) ⌝ }
+    ensures { λ _. ⌜ now (line .exit) ≡ lineAt a k ⌝ }
 {
     if k == 0 {
-        if yakuman {
-            put_line(line, b"HAN", b"YAKUMAN");
-            return;
-        }
-        put_number(line, b"HAN", n);
+        let y = a.yaku;
+        put_han(line, a.h, yaku::is_yakuman(y));
         return;
     }
     if k == 1 {
-        put_number(line, b"FU", n);
+        put_fu(line, a.fu);
         return;
     }
-    let mut label = *b"SEAT 0";
-    label[5] = b'0' + ((k - 2) as u8);
-    put_number(line, &label, n);
+    let c = a.changes;
+    put_seat(line, k - 2, c);
 }
 
-// Writes the six lines of numbers, each into its own part of the page, and leaves what stands after them.
-fn put_lines(page: &mut [u8], numbers: [i32; 6], yakuman: bool)
+// Writes the six lines of a score, each into its own part of the page, and leaves what stands after them.
+fn put_lines(page: &mut [u8], a: Scored)
     requires { ⌜ 150 ≤ length (now page) ⌝ }
-    ensures { λ _. ⌜ now (page .exit) ≡ linesBy (lineBy yakuman numbers) 6 ++ drop 150 (now (page .entry)) ⌝ }
+    requires { ⌜ (isYakuman (a .yaku) ≡ true → a .fu .0 ≡ 0) ⌝ }
+    ensures { λ _. ⌜ now (page .exit) ≡ slipText a ++ drop 150 (now (page .entry)) ⌝ }
 {
     let mut k = 0;
     while k < 6 {
-        put_line_at(&mut page[25 * k..25 * k + 25], k, numbers[k], yakuman);
+        put_line_at(&mut page[25 * k..25 * k + 25], k, a);
         k += 1;
     }
 }
 
 // ---- the slip
-
-// The numbers of the six lines: h, fu and the four changes.
-fn numbers(h: u16, fu: u8, c: [i32; 4]) -> [i32; 6]
-    ensures { λ r. ⌜ r ≡ numbersOf h fu c ⌝ }
-{
-    [h as i32, fu as i32, c[0], c[1], c[2], c[3]]
-}
 
 // The slip of a record's score, for a dealer and a round wind, at the start of a page; or the refusal, and the page as it was.
 pub fn slip(s: &[u8], dealer: u8, wind: u8, page: &mut [u8]) -> u8
@@ -103,8 +128,6 @@ pub fn slip(s: &[u8], dealer: u8, wind: u8, page: &mut [u8]) -> u8
     if page.len() < 150 {
         return 16;
     }
-    let y = a.yaku;
-    let c = a.changes;
-    put_lines(page, numbers(a.h, a.fu, c), yaku::is_yakuman(y));
+    put_lines(page, a);
     0
 }

@@ -2,7 +2,7 @@
 ghost use mathlib.Core.List.{_++_};
 ghost use Prim.Native.Nat.{_+_, _≤_};
 ghost use lib.ListN.{length};
-ghost use Rattle.text.specs.laws.Put.{Put};
+ghost use Rattle.text.specs.Put.{Put};
 ghost use Rattle.speech_told.specs.Phrases.{countedClips};
 ghost use Rattle.score.specs.Score.{scoreOf};
 ghost use Rattle.speech_score.specs.Said.{Answers};
@@ -69,7 +69,7 @@ fn put_fu(buf: &mut [u8], language: u8, a: Scored) -> usize
 {
     let y = a.yaku;
     let x = a.items;
-    let fu = a.fu as u32;
+    let fu = a.fu.0 as u32;
     if yaku::is_yakuman(y) {
         return speech_phrases::put_clip(buf, 0, 75);
     }

@@ -16,7 +16,7 @@ unfoldable pub scaleOf : ℕ → ℕ
 scaleOf c =
     cond (eqb c 37) 10000 (cond (eqb c 38) 100000000 (cond (eqb c 51) 1000 (cond (eqb c 52) 1000000 (cond (eqb c 53) 1000000000 0))))
 
--- "a clip with a value is added to what has been heard since the last scale; a scale multiplies that (1 where nothing was heard) and adds it to the whole"
+-- "a clip with a value .. is added to what has been heard since the last scale; a scale multiplies that (1 where nothing was heard) and adds it to the whole"
 unfoldable pub heardFrom : ℕ → ℕ → List ℕ → ℕ
 heardFrom whole since [] = whole + since
 heardFrom whole since (c ∷ cs) = heardFrom (whole + max 1 since * scaleOf c) (cond (eqb (scaleOf c) 0) (since + valueOf c) 0) cs

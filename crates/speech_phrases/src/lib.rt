@@ -3,9 +3,11 @@ ghost use mathlib.Core.Path.{_≡_};
 ghost use mathlib.Core.List.{[], _∷_};
 ghost use Prim.Native.Nat.{_+_, _≤_};
 ghost use lib.ListN.{length};
-ghost use Rattle.text.specs.laws.Put.{Put};
+ghost use Rattle.text.specs.Put.{Put};
 ghost use Rattle.speech_told.specs.Phrases.{player as playerOf, yakuClips, limitClips, worthClips, amountClips, paysClips, paymentsClips, countedClips, scoreClips, tileClips};
-ghost use Rattle.speech_phrases.specs.laws.Limit.{isLimit, limitClip};
+ghost use Rattle.speech_told.specs.Phrases.{isLimit, limitClip};
+use units::Fu;
+use units::Han;
 
 // One clip.
 pub fn put_clip(buf: &mut [u8], at: usize, clip: u8) -> usize
@@ -79,47 +81,50 @@ pub fn put_yaku(buf: &mut [u8], at: usize, y: [bool; 37]) -> usize
 }
 
 // A limit is paid.
-fn is_limit(h: u16, fu: u8) -> bool
-    ensures { λ r. ⌜ r ≡ isLimit h fu ⌝ }
+fn is_limit(h: Han, fu: Fu) -> bool
+    ensures { λ r. ⌜ r ≡ isLimit (h .0) (fu .0) ⌝ }
 {
-    if 5 <= h {
+    let n = h.0;
+    let f = fu.0;
+    if 5 <= n {
         return true;
     }
-    if h == 4 {
-        return 31 < fu;
+    if n == 4 {
+        return 31 < f;
     }
-    if h == 3 {
-        return 62 < fu;
+    if n == 3 {
+        return 62 < f;
     }
-    if h == 2 {
-        return 125 < fu;
+    if n == 2 {
+        return 125 < f;
     }
-    if h == 1 {
-        return 250 < fu;
+    if n == 1 {
+        return 250 < f;
     }
     false
 }
 
 // The clip of a limit's name.
-fn limit_clip(h: u16) -> u8
-    ensures { λ r. ⌜ r ≡ limitClip h ⌝ }
+fn limit_clip(h: Han) -> u8
+    ensures { λ r. ⌜ r ≡ limitClip (h .0) ⌝ }
 {
-    if h <= 5 {
+    let n = h.0;
+    if n <= 5 {
         return 71;
     }
-    if h <= 7 {
+    if n <= 7 {
         return 72;
     }
-    if h <= 10 {
+    if n <= 10 {
         return 73;
     }
     74
 }
 
 // A limit's name where one is paid.
-fn put_limit(buf: &mut [u8], at: usize, h: u16, fu: u8) -> usize
+fn put_limit(buf: &mut [u8], at: usize, h: Han, fu: Fu) -> usize
     requires { ⌜ at + 1 ≤ length (now buf) ⌝ }
-    ensures { λ r. ⌜ Put (now (buf .entry)) at (limitClips h fu) (now (buf .exit)) r × (r ≤ at + 1) ⌝ }
+    ensures { λ r. ⌜ Put (now (buf .entry)) at (limitClips (h .0) (fu .0)) (now (buf .exit)) r × (r ≤ at + 1) ⌝ }
 {
     let paid = is_limit(h, fu);
     let clip = limit_clip(h);
@@ -130,16 +135,16 @@ fn put_limit(buf: &mut [u8], at: usize, h: u16, fu: u8) -> usize
 }
 
 // With a yakuman its name; otherwise han and fu, and a limit's name where one is paid.
-pub fn put_worth(buf: &mut [u8], at: usize, language: u8, yakuman: bool, h: u16, fu: u8) -> usize
+pub fn put_worth(buf: &mut [u8], at: usize, language: u8, yakuman: bool, h: Han, fu: Fu) -> usize
     requires { ⌜ at + 43 ≤ length (now buf) ⌝ }
-    ensures { λ r. ⌜ Put (now (buf .entry)) at (worthClips language yakuman h fu) (now (buf .exit)) r × (r ≤ at + 29) ⌝ }
+    ensures { λ r. ⌜ Put (now (buf .entry)) at (worthClips language yakuman (h .0) (fu .0)) (now (buf .exit)) r × (r ≤ at + 29) ⌝ }
 {
     if yakuman {
         return put_clip(buf, at, 75);
     }
-    let i = speech_numerals::number(buf, at, language, h as u32);
+    let i = speech_numerals::number(buf, at, language, h.0 as u32);
     let j = put_clip(buf, i, 69);
-    let k = speech_numerals::number(buf, j, language, fu as u32);
+    let k = speech_numerals::number(buf, j, language, fu.0 as u32);
     let e = put_clip(buf, k, 70);
     put_limit(buf, e, h, fu)
 }

@@ -7,7 +7,7 @@ ghost use Prim.Native.Nat.{_≤_};
 ghost use lib.Dec.{ltb};
 ghost use lib.IntN.{pos, natAbs};
 ghost use lib.ListN.{length, getD};
-ghost use Rattle.text.specs.laws.Put.{Put};
+ghost use Rattle.text.specs.Put.{Put};
 ghost use Rattle.speech_told.specs.Phrases.{yakuClips};
 ghost use Rattle.score.specs.Score.{scoreOf};
 ghost use Rattle.speech_score.specs.Said.{refusedWith, givenOf, bufferOf, isKnown, Answers};
@@ -86,11 +86,13 @@ fn put_scored(buf: &mut [u8], language: u8, dealer: u8, winner: u8, ron: bool, a
 {
     let y = a.yaku;
     let c = a.changes;
+    let h = a.h;
+    let fu = a.fu;
     let gain = gain_of(c, winner);
     let who = speech_phrases::player(dealer, winner);
     let yakuman = yaku::is_yakuman(y);
     let i = put_won(buf, who, ron, y);
-    let j = speech_phrases::put_worth(buf, i, language, yakuman, a.h, a.fu);
+    let j = speech_phrases::put_worth(buf, i, language, yakuman, h, fu);
     let k = speech_phrases::put_payments(buf, j, language, dealer, c);
     speech_phrases::put_amount(buf, k, language, who, 67, gain)
 }

@@ -8,8 +8,8 @@ use lib.ListN.{getD}
 use Rattle.tiles.specs.Below.{anyBelow}
 use Rattle.position.specs.declared.Position.{Position}
 use Rattle.waits.specs.declared.Waits.{Waits}
-use Rattle.ready.specs.declared.Ready.{Ready}
-use Rattle.ready.specs.Ready.{IsAnswer}
+use Rattle.unfinished.specs.Unfinished.{refusalOf}
+use Rattle.ready.specs.Answer.{fewestSwaps}
 use Rattle.speech_numerals.specs.Numerals.{numeral}
 use Rattle.speech_told.specs.Phrases.{scoreClips, countedClips, tileClips}
 use Rattle.speech_score.specs.declared.Said.{Said}
@@ -37,6 +37,6 @@ waitsMessage w = cond (anyBelow 34 (λ k. getD (w .waits) k false)) (79 ∷ tile
 unfoldable pub readyMessage : ℕ → ℕ → List ℕ
 readyMessage l swaps = cond (eqb swaps 0) (82 ∷ []) (numeral l swaps ++ (83 ∷ []))
 
--- what a call that says it answers, with the buffer before and after: the same for each answer that 02, S-14 allows
+-- what a call that says it answers, with the buffer before and after: it says the number, which is the same whichever hand comes with it (02, S-14)
 abbrev pub SaysReady : ℕ → List ℕ → List ℕ → Said → List ℕ → Type 0
-SaysReady l s old r new = (a : Ready) → IsAnswer s a → Answers l (a .refusal) (readyMessage l (a .swaps)) old r new
+SaysReady l s old r new = Answers l (refusalOf s) (readyMessage l (fewestSwaps s)) old r new

@@ -4,7 +4,7 @@ ghost use mathlib.Core.Bool.{false};
 ghost use Prim.Native.Nat.{_≤_};
 ghost use lib.ListN.{length, getD};
 ghost use Rattle.tiles.specs.Below.{anyBelow};
-ghost use Rattle.text.specs.laws.Put.{Put};
+ghost use Rattle.text.specs.Put.{Put};
 ghost use Rattle.waits.specs.Answer.{waitsOf};
 ghost use Rattle.speech_score.specs.Said.{Answers};
 ghost use Rattle.speech_table.specs.Messages.{fourScores, scoresMessage, waitsMessage, readyMessage, SaysReady, SaysScores};
@@ -110,7 +110,7 @@ fn put_ready(buf: &mut [u8], language: u8, swaps: u8) -> usize
     speech_phrases::put_clip(buf, i, 83)
 }
 
-// How far an unfinished hand is from ready, said; or the refusal. The number is the same for each answer that the papers allow.
+// How far an unfinished hand is from ready, said; or the refusal.
 pub fn say_ready(language: u8, s: &[u8], buf: &mut [u8]) -> Said
     ensures { λ r. ⌜ SaysReady language (now (s .entry)) (now (buf .entry)) r (now (buf .exit)) ⌝ }
 {

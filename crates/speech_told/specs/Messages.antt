@@ -19,7 +19,7 @@ use Rattle.speech_told.specs.Phrases.{player, yakuClips, worthClips, amo
 -- then the winner, 67, the gain, 68"
 unfoldable pub scoreMessage : ℕ → ℕ → ℕ → Bool → Scored → List ℕ
 scoreMessage l dealer winner ron a =
-    player dealer winner ∷ cond ron 64 65 ∷ (yakuClips (a .yaku) ++ (worthClips l (isYakuman (a .yaku)) (a .h) (a .fu)
+    player dealer winner ∷ cond ron 64 65 ∷ (yakuClips (a .yaku) ++ (worthClips l (isYakuman (a .yaku)) (a .h .0) (a .fu .0)
     ++ (paymentsClips l dealer (a .changes) ++ amountClips l (player dealer winner) 67 (natAbs (getD (a .changes) winner (pos 0))))))
 
 -- "Score of a record"
@@ -44,7 +44,7 @@ itemsClips l i =
 
 -- "Fu of a record: each item ..; 94, the fu, 70. With a yakuman: 75"
 unfoldable pub fuMessage : ℕ → Scored → List ℕ
-fuMessage l a = cond (isYakuman (a .yaku)) (75 ∷ []) (itemsClips l (a .items) ++ (94 ∷ (numeral l (a .fu) ++ (70 ∷ []))))
+fuMessage l a = cond (isYakuman (a .yaku)) (75 ∷ []) (itemsClips l (a .items) ++ (94 ∷ (numeral l (a .fu .0) ++ (70 ∷ []))))
 
 -- ---- a refusal: "from 0 (accepted) to 22: clip 200 + n"
 

@@ -22,9 +22,17 @@ chosen first p (suc n) = chosen first p n ++ cond (p n) ((first + n) ∷ []) []
 unfoldable pub yakuClips : List Bool → List ℕ
 yakuClips y = chosen 141 (λ k. getD y (k + 1) false) 36
 
--- "where a limit is paid" (01, "If h is 5 or more or A exceeds 2,000"): "mangan, haneman, baiman, sanbaiman" (01, "h up to 5 ..; 6-7 ..; 8-10 ..; 11 up")
+-- "where a limit is paid" (01, "If h is 5 or more or A exceeds 2,000")
+unfoldable pub isLimit : ℕ → ℕ → Bool
+isLimit h fu = leb 5 h || ltb 2000 (plain h fu)
+
+-- mangan, haneman, baiman, sanbaiman (01, "h up to 5 ..; 6-7 ..; 8-10 ..; 11 up")
+unfoldable pub limitClip : ℕ → ℕ
+limitClip h = cond (leb h 5) 71 (cond (leb h 7) 72 (cond (leb h 10) 73 74))
+
+-- "where a limit is paid, its name"
 unfoldable pub limitClips : ℕ → ℕ → List ℕ
-limitClips h fu = cond (leb 5 h || ltb 2000 (plain h fu)) (cond (leb h 5) 71 (cond (leb h 7) 72 (cond (leb h 10) 73 74)) ∷ []) []
+limitClips h fu = cond (isLimit h fu) (limitClip h ∷ []) []
 
 -- "with a yakuman 75, otherwise h, 69, fu, 70 and, where a limit is paid, its name"
 unfoldable pub worthClips : ℕ → Bool → ℕ → ℕ → List ℕ

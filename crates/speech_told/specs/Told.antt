@@ -15,8 +15,8 @@ pub record Agree (w v : ℕ) (p q : Bool) (a b : Scored) : Type 0 where
   pub winner : w ≡ v
   pub ron : p ≡ q
   pub yaku : (n : ℕ) → 1 ≤ n → n ≤ 36 → getD (a .yaku) n false ≡ getD (b .yaku) n false
-  pub h : a .h ≡ b .h
-  pub fu : a .fu ≡ b .fu
+  pub h : a .h .0 ≡ b .h .0
+  pub fu : a .fu .0 ≡ b .fu .0
   pub payments : (seat : ℕ) → seat < 4 → paid (getD (a .changes) seat (pos 0)) ≡ paid (getD (b .changes) seat (pos 0))
 
 -- what the name of a limit stands for, by document 01's "h up to 5, 2,000; 6-7, 3,000; 8-10, 4,000; 11 up, 6,000": mangan, haneman, baiman, sanbaiman;

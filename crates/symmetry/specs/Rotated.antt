@@ -1,10 +1,10 @@
 -- The table keyed from another side (02, S-12): "moving winner, discarder and dealer on by the same number of seats".
 use mathlib.Core.Bool.{cond}
 use mathlib.Core.List.{List}
-use Prim.Native.Nat.{ℕ, _+_, _*_, _%_}
-use lib.IntN.{ℤ, pos}
+use mathlib.Core.Path.{_≡_}
+use Prim.Native.Nat.{ℕ, _+_, _%_, _<_}
+use lib.IntN.{pos}
 use lib.ListN.{getD}
-use Rattle.tiles.specs.Below.{tabulate}
 use Rattle.hand.specs.declared.Fields.{Fields}
 use Rattle.hand.specs.declared.Hand.{Hand}
 use Rattle.hand.specs.Hand.{isRon}
@@ -35,18 +35,13 @@ rotatedHand n h = record { fields = rotatedFields n (h .fields); held = h .held 
 unfoldable pub rotatedRecord : ℕ → List ℕ → List ℕ
 rotatedRecord n s = recordOf (rotatedHand n (handOf (readOf s)))
 
--- "moves the four changes on by that number": a seat has the change of the seat n before it, and at a table of four 3n on is n back
-unfoldable pub rotatedChanges : ℕ → List ℤ → List ℤ
-rotatedChanges n l = tabulate 4 0 (λ seat. getD l (on (3 * n) seat) (pos 0))
-
--- "moves the four changes on by that number and alters nothing else"
-unfoldable pub rotatedScore : ℕ → Scored → Scored
-rotatedScore n x = record {
-  refusal = x .refusal;
-  h = x .h;
-  fu = x .fu;
-  items = x .items;
-  yaku = x .yaku;
-  tried = x .tried;
-  changes = rotatedChanges n (x .changes);
-}
+-- "moves the four changes on by that number and alters nothing else": x is the score of a record, y that of the rotated one
+pub record RotatedScore (n : ℕ) (x y : Scored) : Type 0 where
+  pub refusal : y .refusal ≡ x .refusal
+  pub h : y .h ≡ x .h
+  pub fu : y .fu ≡ x .fu
+  pub items : y .items ≡ x .items
+  pub yaku : y .yaku ≡ x .yaku
+  pub tried : y .tried ≡ x .tried
+  -- what a seat had, the seat n on has
+  pub changes : (seat : ℕ) → seat < 4 → getD (y .changes) (on n seat) (pos 0) ≡ getD (x .changes) seat (pos 0)

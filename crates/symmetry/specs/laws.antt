@@ -13,5 +13,6 @@ pub mod Images
 pub mod Four
 pub mod Tried
 pub mod Reported
+pub mod Green
 pub mod Renamed
 pub mod Examples

@@ -30,6 +30,10 @@ spaced (f ∷ g ∷ fs) = f ++ (32 ∷ spaced (g ∷ fs))
 abbrev pub scoreText : List ℤ → ℕ → List ℕ
 scoreText scores seat = signedOf (getD scores seat (pos 0))
 
+-- the four scores, a space after each
+unfoldable pub scoresText : List ℤ → List ℕ
+scoresText s = (scoreText s 0 ++ (32 ∷ [])) ++ ((scoreText s 1 ++ (32 ∷ [])) ++ ((scoreText s 2 ++ (32 ∷ [])) ++ (scoreText s 3 ++ (32 ∷ []))))
+
 -- "entry from 1, letter R W D C, refusal (0 accepted), scores of seats 0 to 3, sticks"
 unfoldable pub lineOf : ℕ → ℕ → ℕ → List ℤ → ℕ → List ℕ
 lineOf entry letter refusal scores sticks =

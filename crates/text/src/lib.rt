@@ -4,8 +4,8 @@ ghost use mathlib.Core.List.{[], _∷_, _++_};
 ghost use Prim.Native.Nat.{_+_, _≤_};
 ghost use lib.ListN.{length};
 ghost use lib.IntN.{natAbs};
-ghost use Rattle.text.specs.Text.{digitsOf, signedOf, lineOf, lengthIn, bufferWith};
-ghost use Rattle.text.specs.laws.Put.{Put, scoresText};
+ghost use Rattle.text.specs.Text.{digitsOf, signedOf, lineOf, lengthIn, bufferWith, scoresText};
+ghost use Rattle.text.specs.Put.{Put};
 
 // Writes the digits of n from `at` on, those of its tenth first, and returns the place after them.
 fn digits(buf: &mut [u8], at: usize, n: u32) -> usize

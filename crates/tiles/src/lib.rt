@@ -2,7 +2,7 @@
 ghost use mathlib.Core.Path.{_≡_};
 ghost use Prim.Native.Nat.{_<_, _≤_, _+_};
 ghost use lib.ListN.{getD};
-ghost use Rattle.tiles.specs.laws.Tally.{more as moreOf};
+ghost use Rattle.tiles.specs.Tally.{more as moreOf};
 ghost use Rattle.tiles.specs.Kinds.{isYaochu, isRunStart, doraOf};
 
 // A terminal or an honour.

@@ -2,13 +2,13 @@
 use mathlib.Core.Path.{_≡_}
 use mathlib.Core.Bool.{Bool, false, _||_, cond, not}
 use mathlib.Core.List.{List, [], _∷_, _++_}
-use Prim.Native.Nat.{ℕ, _*_, _-_}
+use Prim.Native.Nat.{ℕ, _+_, _*_, _-_}
 use lib.Dec.{ltb, eqb}
 use lib.ListN.{length, getD}
 use Rattle.bits.specs.Bits.{unpack, eights, bitsOf}
 use Rattle.hand.specs.declared.Held.{Held}
 use Rattle.hand.specs.Held.{inHeld, wrongHeld, descends, overFour}
-use Rattle.hand_record.specs.Record.{sixes, heldIn, paddingAfter, noneHeld}
+use Rattle.hand_record.specs.Record.{sixes, heldBy, noneHeld}
 use Rattle.unfinished.specs.declared.Unfinished.{Unfinished}
 
 -- ---- the layout
@@ -31,11 +31,11 @@ countIn s = getD (unpack (3 ∷ []) (bitsOf s)) 0 0
 
 -- "melds, 13 − 3m tiles": the tiles held, sound or not
 abbrev pub heldOf : List ℕ → Held
-heldOf s = heldIn 3 (countIn s) (bitsOf s)
+heldOf s = heldBy 1 (countIn s) (unpack (widths (countIn s)) (bitsOf s))
 
 -- "zero bits to the byte", as a number, 0 where none is set
-abbrev pub paddingOf : List ℕ → ℕ
-paddingOf s = paddingAfter 3 (countIn s) (padOf (countIn s)) (bitsOf s)
+unfoldable pub paddingOf : List ℕ → ℕ
+paddingOf s = getD (unpack (widths (countIn s)) (bitsOf s)) (1 + countIn s + (13 - 3 * countIn s)) 0
 
 -- ---- what is refused
 
@@ -58,6 +58,14 @@ pub record IsSound (s : List ℕ) : Type 0 where
   pub order : descends (heldOf s) ≡ false
   pub four : overFour (inHeld (heldOf s)) ≡ false
 
--- what its reader gives: the tiles held, or the refusal with "all else zero" (01)
+-- a refused input: "all else zero" (01)
+abbrev pub refusedWith : ℕ → Unfinished
+refusedWith n = record { refusal = n; held = noneHeld }
+
+-- the tiles held, or why they are refused
+unfoldable pub givenBy : Held → ℕ → Unfinished
+givenBy x padding = cond (ltb 0 (heldRefusal x padding)) (refusedWith (heldRefusal x padding)) (record { refusal = 0; held = x })
+
+-- what its reader gives: the tiles held, or the refusal
 unfoldable pub readOf : List ℕ → Unfinished
-readOf s = cond (ltb 0 (refusalOf s)) (record { refusal = refusalOf s; held = noneHeld }) (record { refusal = 0; held = heldOf s })
+readOf s = cond (ltb 0 (refusalOf s)) (refusedWith (refusalOf s)) (record { refusal = 0; held = heldOf s })

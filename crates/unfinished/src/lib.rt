@@ -3,9 +3,8 @@ ghost use mathlib.Core.Path.{_≡_};
 ghost use Prim.Native.Nat.{_≤_};
 ghost use lib.ListN.{length};
 ghost use Rattle.bits.specs.Bits.{bitsOf};
-ghost use Rattle.hand_record.specs.Record.{heldIn, paddingAfter};
-ghost use Rattle.unfinished.specs.Unfinished.{lengthOf, padOf, heldRefusal, readOf};
-ghost use Rattle.unfinished.specs.laws.Read.{refusedWith, givenBy};
+ghost use Rattle.hand_record.specs.search.Offsets.{heldIn, paddingAfter};
+ghost use Rattle.unfinished.specs.Unfinished.{lengthOf, padOf, heldRefusal, readOf, refusedWith, givenBy};
 use hand::Held;
 
 // The bytes of an unfinished hand with 0 to 4 melds.

@@ -3,6 +3,7 @@ ghost use mathlib.Core.Path.{_≡_};
 ghost use Prim.Native.Nat.{_<_};
 
 // Han: of a yaku, of the dora, and their sum h.
+#[repr(C)]
 pub struct Han(pub u16);
 
 // Fu: of an item, and the sum of the items.
@@ -10,6 +11,7 @@ pub struct Han(pub u16);
 pub struct Fu(pub u8);
 
 // Points: the basic points A, a payment, the winner's gain.
+#[repr(C)]
 pub struct Points(pub u32);
 
 // A count as han.

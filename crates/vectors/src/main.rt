@@ -94,8 +94,8 @@ fn is_told(e: &[u8], s: Scored) -> bool
     let y = s.yaku;
     let c = s.changes;
     (s.refusal == e[19])
-        & (tall(s.h) == wide(e[20]))
-        & (s.fu == e[21])
+        & (tall(s.h.0) == wide(e[20]))
+        & (s.fu.0 == e[21])
         & same_items(e, i)
         & same_yaku(e, y)
         & (long(s.tried) == wide(e[27]))

@@ -4,7 +4,7 @@ ghost use mathlib.Core.Bool.{_&&_, true, false, cond};
 ghost use Prim.Native.Nat.{ℕ, suc, _-_, _<_, _≤_};
 ghost use lib.Dec.{ltb};
 ghost use lib.ListN.{length, getD};
-ghost use Rattle.tiles.specs.laws.Tally.{more};
+ghost use Rattle.tiles.specs.Tally.{more};
 ghost use Rattle.waits.specs.Waits.{refusedWith, IsWaits};
 ghost use Rattle.waits.specs.Answer.{waitsOf};
 ghost use Rattle.waits.specs.search.Found.{reads as readsOf, waitSet, someIn};

@@ -1,13 +1,15 @@
 -- The yaku of a reading (01, Yaku), as a list of 37: yaku n at place n, and false at place 0.
 use mathlib.Core.Bool.{Bool, false, _&&_, not, cond}
 use mathlib.Core.List.{List, [], _∷_}
-use Prim.Native.Nat.{ℕ, _+_}
+use Prim.Native.Nat.{ℕ, _+_, _-_}
 use lib.ListN.{getD}
 use lib.Dec.{eqb, leb, ltb}
-use Rattle.tiles.specs.Below.{any, tabulate, anyBelow}
+use Rattle.tiles.specs.Below.{all, any, tabulate, anyBelow}
 use Rattle.tiles.specs.Kinds.{isHonour, isTerminal, isYaochu, isSimple}
+use Rattle.tiles.specs.Groups.{isRun}
 use Rattle.yaku_tiles.specs.OfTiles.{only, honourPresent, halfFlush, flush, isGreen, gates}
-use Rattle.yaku_basics.specs.Tests.{littleDragons, valueHan, pinfu, twins, inThreeSuits, straight, outside, triplets, concealed, kans, dragons, fourWinds}
+use Rattle.yaku_basics.specs.Tests.{isValue, littleDragons, valueHan, earnsWait, twins, inThreeSuits, straight, outside, triplets, concealed, kans, dragons}
+use Rattle.yaku_basics.specs.Tests.{fourWinds}
 use Rattle.yaku.specs.declared.Won.{Won}
 use Rattle.yaku.specs.declared.FullReading.{FullReading}
 
@@ -18,6 +20,14 @@ closedOnly = 1 ∷ 4 ∷ 5 ∷ 10 ∷ 11 ∷ 12 ∷ 21 ∷ 30 ∷ []
 -- 3 "value triplet 1 each": how many han it counts
 abbrev pub valueHanOf : Won → FullReading → ℕ
 valueHanOf w p = valueHan (p .groups) (w .round) (w .own) (littleDragons (p .groups) (p .pair))
+
+-- the pair or group at the place earns "wait fu"
+abbrev pub hasWaitFu : Won → FullReading → Bool
+hasWaitFu w p = earnsWait (p .place) (getD (p .groups) (p .place - 1) 0) (w .win)
+
+-- 4 "pinfu c1: four runs, place a run earning no wait fu, pair no value tile"
+unfoldable pub pinfu : Won → FullReading → Bool
+pinfu w p = w .closed && all 4 (λ i. isRun (getD (p .groups) i 0)) && not (hasWaitFu w p) && not (isValue (w .round) (w .own) (p .pair))
 
 -- each of the 36 (01, Yaku), whatever the others say; "c" is `w .closed`
 unfoldable pub testsOf : Won → FullReading → List Bool
@@ -30,7 +40,7 @@ testsOf w p =
     -- 3 "value triplet": it counts at least one
     ∷ ltb 0 (valueHanOf w p)
     -- 4 "pinfu c1"
-    ∷ pinfu (w .closed) (p .groups) (p .pair) (p .place) (w .win) (w .round) (w .own)
+    ∷ pinfu w p
     -- 5 "one twin run (a run held twice or thrice) c1"
     ∷ (w .closed && eqb (twins (p .groups)) 1)
     -- 6 "chankan"
@@ -108,6 +118,10 @@ listed y = cond (isYakuman y) (tabulate 37 0 (λ n. leb 26 n && getD y n false))
 -- the "yaku set" of a reading (01, Score)
 unfoldable pub yakuOf : Won → FullReading → List Bool
 yakuOf w p = listed (testsOf w p)
+
+-- "With a yakuman": one is among the yaku of the reading
+abbrev pub yakuman : Won → FullReading → Bool
+yakuman w p = isYakuman (yakuOf w p)
 
 -- "with a yaku": one is listed
 unfoldable pub hasYaku : List Bool → Bool

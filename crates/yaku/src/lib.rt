@@ -9,7 +9,7 @@ use units::Han;
 use yaku_tiles::TileTests;
 
 // What is the same in every reading of a hand. The tally has all tiles, kans whole; round and own are kinds of wind;
-// bare is a hand with no meld.
+// meldless says that no meld is held.
 pub struct Won {
     pub tally: [u8; 34],
     pub win: u8,

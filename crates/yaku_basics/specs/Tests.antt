@@ -1,10 +1,10 @@
 -- What the yaku and fu ask of the groups and the pair: g has the codes of the four groups (68 none), ways their ways; pair 34 is none.
 -- "Triplet includes kan here."
-use mathlib.Core.Bool.{Bool, _&&_, _||_, cond, not}
+use mathlib.Core.Bool.{Bool, _&&_, _||_, cond}
 use mathlib.Core.List.{List}
 use Prim.Native.Nat.{ℕ, _+_, _*_, _-_, _%_, _/_}
 use lib.ListN.{getD}
-use lib.Dec.{eqb, leb, ltb}
+use lib.Dec.{eqb, leb}
 use Rattle.tiles.specs.Below.{all, any, count, sumBelow}
 use Rattle.tiles.specs.Kinds.{isYaochu, isDragon, isWind}
 use Rattle.tiles.specs.Groups.{isRun, isTriplet}
@@ -38,11 +38,6 @@ unfoldable pub earnsWait : ℕ → ℕ → ℕ → Bool
 earnsWait place c win =
     eqb place 0 || (isRun c && (eqb win (c + 1) || (eqb (c % 9) 0 && eqb win (c + 2)) || (eqb (c % 9) 6 && eqb win c)))
 
--- 4 "pinfu c1: four runs, place a run earning no wait fu, pair no value tile"
-unfoldable pub pinfu : Bool → List ℕ → ℕ → ℕ → ℕ → ℕ → ℕ → Bool
-pinfu closed g pair place win round own =
-    closed && all 4 (λ i. isRun (getD g i 0)) && not (earnsWait place (getD g (place - 1) 0) win) && not (isValue round own pair)
-
 -- "a run held twice or thrice": how many of the four groups are c
 abbrev pub held : List ℕ → ℕ → ℕ
 held g c = count 4 (λ i. eqb (getD g i 0) c)
@@ -51,13 +46,10 @@ held g c = count 4 (λ i. eqb (getD g i 0) c)
 unfoldable pub twins : List ℕ → ℕ
 twins g = sumBelow 27 (λ c. held g c / 2)
 
--- "in three suits": c is of man, whose codes start at low (0 for runs, 34 for triplets), and the same of pin and of sou are among the four
-unfoldable pub inThreeAt : ℕ → List ℕ → ℕ → Bool
-inThreeAt low g c = leb low c && ltb c (low + 9) && has g (c + 9) && has g (c + 18)
-
--- 13 "same run in three suits", 16 "same triplet in three suits"
+-- 13 "same run in three suits", 16 "same triplet in three suits": the group of some number i is there in each suit s; the codes start at low,
+-- 0 for runs and 34 for triplets, and a suit has nine, of which the last two are no run
 unfoldable pub inThreeSuits : ℕ → List ℕ → Bool
-inThreeSuits low g = any 4 (λ i. inThreeAt low g (getD g i 0))
+inThreeSuits low g = any 9 (λ i. all 3 (λ s. has g (low + i + 9 * s)))
 
 -- 14 "123 456 789 of a suit"
 unfoldable pub straight : List ℕ → Bool

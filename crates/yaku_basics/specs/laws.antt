@@ -1,2 +1,3 @@
 pub mod Twins
+pub mod Suits
 pub mod Ways

@@ -87,7 +87,7 @@ pub fn little_dragons(g: [u8; 4], pair: u8) -> bool
     (dragons(g) == 2) & ((31 <= pair) & (pair <= 33))
 }
 
-// The han that yaku 3 counts: 1 for each triplet of dragons, of the round wind, of the own wind. `little` is yaku 24.
+// The han that yaku 3 counts: 1 for each triplet of dragons, of the round wind, of the own wind. With yaku 24, `little`, the dragons are left out.
 pub fn value_han(g: [u8; 4], round: u8, own: u8, little: bool) -> Han
     requires { ⌜ (round < 34) × (own < 34) ⌝ }
     ensures { λ r. ⌜ r .0 ≡ valueHan g round own little ⌝ }

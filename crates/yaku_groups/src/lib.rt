@@ -3,11 +3,11 @@
 ghost use mathlib.Core.Path.{_≡_};
 ghost use mathlib.Core.Bool.{_&&_, cond};
 ghost use Prim.Native.Nat.{_+_, _≤_, _%_};
-ghost use lib.Dec.{ltb};
+ghost use lib.Dec.{ltb, leb};
 ghost use lib.ListN.{getD};
 ghost use Rattle.tiles.specs.Below.{all, any};
 ghost use Rattle.tiles.specs.Groups.{isRun};
-ghost use Rattle.yaku_basics.specs.Tests.{has as hasOf, twins as twinsOf, inThreeAt, inThreeSuits, straight as straightOf, winds as windsOf, hasYaochu as hasYaochuOf, outside as outsideOf, triplets as tripletsOf, isConcealed, concealed as concealedOf, kans as kansOf, fourWinds};
+ghost use Rattle.yaku_basics.specs.Tests.{has as hasOf, twins as twinsOf, inThreeSuits, straight as straightOf, winds as windsOf, hasYaochu as hasYaochuOf, outside as outsideOf, triplets as tripletsOf, isConcealed, concealed as concealedOf, kans as kansOf, fourWinds};
 ghost use Rattle.yaku_basics.specs.search.Ways.{waysAt};
 use yaku_basics::has;
 use yaku_basics::one;
@@ -39,7 +39,7 @@ pub fn twins(g: [u8; 4]) -> u8
 // The group c is of man, and the same of pin and of sou are among the four.
 fn in_three_at(low: u8, g: [u8; 4], c: u8) -> bool
     requires { ⌜ low ≤ 34 ⌝ }
-    ensures { λ r. ⌜ r ≡ inThreeAt low g c ⌝ }
+    ensures { λ r. ⌜ r ≡ (leb low c && ltb c (low + 9) && hasOf g (c + 9) && hasOf g (c + 18)) ⌝ }
 {
     if c < low {
         return false;

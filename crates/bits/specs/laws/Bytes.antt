@@ -8,7 +8,7 @@ use native.Mathlib.Omega.{arith}
 use lib.ListN.{length, getD, take, drop, set, replicate, length-drop}
 use lib.Seq.{take-append-le, drop-append-le, drop-append-add, drop-drop, drop-nil, getD-drop, sets}
 use lib.Pow.{shr-shr, high, low}
-use Rattle.bits.specs.Bits.{digits, val, unpack, EachBelow, bitsOf}
+use Rattle.bits.specs.Bits.{digits, val, unpack, EachBelow, bitsOf, joined}
 use Rattle.bits.specs.laws.Pack.{length-digits, val-digits, below-digits, digits-of-val}
 
 -- the last k of p + k digits, and the first w of w + q
@@ -42,11 +42,6 @@ val-part p w q v = rw (drop-digits p (w + q) v, take-digits w q v) (omega (arith
 -- a part that ends within a list does not see what follows
 part : (w p : ℕ) (l r : List ℕ) → p + w ≤ length l → take w (drop p (l ++ r)) ≡ take w (drop p l)
 part w p l r h = rw (drop-append-le p l r (omega arith)) (take-append-le w (drop p l) r (omega (arith, length-drop p l)))
-
--- the number that is a and after it k bytes, f 0 the first
-abbrev pub joined : ℕ → ℕ → (ℕ → ℕ) → ℕ
-joined a zero f = a
-joined a (suc k) f = joined (a * 256 + f 0) k (λ d. f (suc d))
 
 -- a part of n digits and of the bytes after them is a part of the number that they are with k of these bytes, if it ends within them
 joined-part : (k n l a p w : ℕ) (s : List ℕ) (f : ℕ → ℕ) → ((d : ℕ) → getD s d 0 ≡ f d) → ((d : ℕ) → f d < 256)

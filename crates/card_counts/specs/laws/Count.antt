@@ -8,7 +8,7 @@ use borrow.Author.Tests.{lt-ltb}
 use lib.ListN.{length, getD, replicate, length-append, length-map}
 use Rattle.tiles.specs.Below.{allBelow}
 use Rattle.tiles.specs.Groups.{isGroup}
-use Rattle.tiles.specs.laws.Tally.{more}
+use Rattle.tiles.specs.Tally.{more}
 use Rattle.reading.specs.search.Readings.{isEmpty, less, fits, without}
 use Rattle.reading.specs.All.{Each, none, also as each}
 use Rattle.reading_splits.specs.search.SplitsInto.{lowest, pieceAt, splitsInto}

@@ -6,8 +6,9 @@ use Prim.Native.Nat.{ℕ, _+_, _-_, _<_}
 use native.Mathlib.Omega.{arith}
 use borrow.Author.Needs.{needs}
 use lib.ListN.{length, getD, set, take}
-use Rattle.tiles.specs.laws.Tally.{more}
-use Rattle.card_writer.specs.laws.Put.{Left, left-all, left-same, left-put, left-room, put-done, written, leaf-room, put-leaf, put-over, written-end}
+use Rattle.tiles.specs.Tally.{more}
+use Rattle.card_writer.specs.search.Written.{written}
+use Rattle.card_writer.specs.laws.Put.{Left, left-all, left-same, left-put, left-room, put-done, leaf-room, put-leaf, put-over, written-end}
 use Rattle.card_writer.specs.laws.Put.{written-skip, turn-with}
 use borrow.Fn.Kinds.{In}
 use borrow.Fn.PlainCycle.{Measures, is, falls, and}

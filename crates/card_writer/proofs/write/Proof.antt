@@ -4,9 +4,13 @@ use Prim.Native.Nat.{ℕ, _+_, _-_, _*_, _/_, _≤_}
 use native.Mathlib.Nat.{mul-le-mul, le-refl}
 use native.Mathlib.Omega.{arith}
 use borrow.Author.Needs.{needs}
+use borrow.Author.Tests.{not-true, not-false}
 use lib.ListN.{length, take, replicate}
-use Rattle.card_writer.specs.laws.Put.{written}
-use Rattle.card_writer.specs.laws.Call.{countOf, Known, known, kept-suit, kept-size, kept-short, all-drawn, put-all, whole}
+use Rattle.cards.specs.CardList.{cardsOf}
+use Rattle.card_counts.specs.laws.Count.{whole}
+use Rattle.card_writer.specs.search.Written.{written}
+use Rattle.card_writer.specs.laws.Count.{counted-few}
+use Rattle.card_writer.specs.laws.Call.{Known, known, count-all, kept-suit, kept-size, kept-short, all-drawn, put-all}
 use Rattle.card_writer.proofs.write.Statement.{statement}
 use Rattle.card_writer.proofs.write.Tie as tie
 
@@ -18,16 +22,32 @@ module _ (c : tie.Else2) where
   suited : start .args .suit ≤ 2
   suited = omega (arith, c .before .before .if1 .left)
 
-  sized : Known (start .args .suit) (start .args .size)
-  sized = known (start .args .suit) (start .args .size) suited (λ z. c .if2 .left (c .before .count-of .ensures .0 ∙ z))
+  sized : Known (start .args .size)
+  sized = known (start .args .size) (sym (c .before .is-size .ensures) ∙ not-false _ (c .if2 .left))
 
-  product : start .args .size * c .before .count-of .result ≡ start .args .size * countOf (start .args .size)
-  product = ap (λ (m : ℕ). start .args .size * m) (c .before .count-of .ensures .0)
+-- and their number
+module _ (c : tie.After-count) where
+  abbrev suit : ℕ
+  suit = start (c .before) .args .suit
+
+  abbrev size : ℕ
+  size = start (c .before) .args .size
+
+  count : c .count .result ≡ length (cardsOf suit size)
+  count = c .count .ensures ∙ count-all suit size (suited (c .before))
+
+  product : size * c .count .result ≡ size * length (cardsOf suit size)
+  product = ap (λ (m : ℕ). size * m) count
+
+  few : c .count .result ≤ 12870
+  few =
+      let n = counted-few ((size - 2) / 3) size (9 * suit + 9) (9 * suit) (replicate 34 0) (sized (c .before) .few) (omega arith) in
+      omega (arith, c .count .ensures)
 
   -- what is drawn has as many bytes as were asked for
-  bytes : length (written (take (start .args .size - start .args .size) (replicate 8 0)) ((start .args .size - 2) / 3) (start .args .size)
-      (9 * start .args .suit + 9) (9 * start .args .suit) (replicate 34 0)) ≡ start .args .size * countOf (start .args .size)
-  bytes = ap length (all-drawn (start .args .suit) (start .args .size) (replicate 8 0) suited) ∙ whole (start .args .suit) (start .args .size) sized
+  bytes : length (written (take (size - size) (replicate 8 0)) ((size - 2) / 3) size (9 * suit + 9) (9 * suit) (replicate 34 0))
+      ≡ size * length (cardsOf suit size)
+  bytes = ap length (all-drawn suit size (replicate 8 0) (suited (c .before))) ∙ whole suit size
 
 pub write-spec : {M : Type 1} → statement M
 write-spec =
@@ -41,32 +61,35 @@ write-spec =
     (λ c κs. search needs)
     (λ c κs. search needs)
     (λ c.
-    let s = c .before .before .before .before .before .args in
     let n = c .before .before in
-    let k = kept-size (s .suit) (s .size) (s .buf .now) (n .before .if1 .left) (sym (n .count-of .ensures .0) ∙ c .before .if2 .taken) in
+    let s = n .before .before .before .args in
+    let k = kept-size (s .suit) (s .size) (s .buf .now) (n .before .if1 .left) (sym (n .is-size .ensures) ∙ not-true _ (c .before .if2 .taken)) in
     (c .refused2 .ensures ∙ k .0, k .1))
+    (λ c. omega (arith, sized c .many))
+    (λ c. search needs)
+    (λ c. search needs)
+    (λ c. search needs)
+    (λ c κs. (sized c .few, omega (arith, suited c), omega arith))
     (λ c. search needs)
     (λ c.
-    let m : start c .args .size * c .before .count-of .result ≤ 8 * 996 = mul-le-mul (sized c .few) (c .before .count-of .ensures .1) in
+    let m : size c * c .count .result ≤ 8 * 12870 = mul-le-mul (sized (c .before) .few) (few c) in
     omega arith)
     (λ c κs. search needs)
     (λ c.
     let d = c .before .before in
-    let s = start d .args in
-    let k = kept-short (s .suit) (s .size) (s .buf .now) (suited d) (sized d) (omega (arith, c .before .if3 .taken, product d)) in
+    let k = kept-short (suit d) (size d) (start (d .before) .args .buf .now) (suited (d .before)) (sized (d .before))
+    (omega (arith, c .before .if3 .taken, product d)) in
     (c .refused3 .ensures ∙ k .0, k .1))
     (λ c. search needs)
     (λ c. search needs)
     (λ c. search needs)
-    (λ c. omega (arith, sized (c .before .before) .many))
     (λ c κs.
     let d = c .before .before in
-    (le-refl _, sized d .few, omega (arith, suited d), omega (arith, bytes d, product d, c .before .if3 .left)))
+    (le-refl _, sized (d .before) .few, omega (arith, suited (d .before)), omega (arith, bytes d, product d, c .before .if3 .left)))
     (λ c. search needs)
     (λ c.
-    let d = c .before .before .before .before .before in
-    let s = start d .args in
-    let e = all-drawn (s .suit) (s .size) (replicate 8 0) (suited d) in
-    let p = put-all (s .suit) (s .size) (s .buf .now) (c .before .before .draw .last .0) (c .before .before .draw .result) (suited d) (sized d)
-    (omega (arith, product d, c .before .before .before .before .if3 .left)) (rw e at (c .before .before .draw .ensures)) in
-    (ap (λ (m : ℕ). record { refusal = 0; count = m }) (d .before .count-of .ensures .0) ∙ p .0, p .1)))
+    let drawn = c .before .before in
+    let d = drawn .before .before .before in
+    let e = all-drawn (suit d) (size d) (replicate 8 0) (suited (d .before)) in
+    put-all (suit d) (size d) (start (d .before) .args .buf .now) (drawn .draw .last .0) (drawn .draw .result) (d .count .result) (suited (d .before))
+    (sized (d .before)) (count d) (omega (arith, product d, drawn .before .before .if3 .left)) (rw e at (drawn .draw .ensures))))

@@ -9,13 +9,15 @@ use native.Mathlib.Omega.{arith}
 use borrow.Author.Tests.{lt-ltb, le-ltb}
 use lib.ListN.{length, getD, set, take, length-append}
 use lib.Seq.{sets, take-suc-set, length-sets, slice, slice-cons, slice-empty, length-take-le}
-use Rattle.tiles.specs.laws.Tally.{more}
+use Rattle.tiles.specs.Tally.{more}
 use Rattle.bits.specs.laws.Pack.{sets-append}
-use Rattle.text.specs.laws.Put.{Put, put-none}
+use Rattle.text.specs.Put.{Put}
+use Rattle.text.specs.laws.Put.{put-none}
 use Rattle.reading.specs.search.Readings.{concatMap}
 use Rattle.reading.specs.laws.Lists.{concat-append}
 use Rattle.reading_splits.specs.search.SplitsInto.{splitsInto}
 use Rattle.cards.specs.search.Draws.{draw, draws}
+use Rattle.card_writer.specs.search.Written.{bytesOf, written}
 
 -- what is left to put gives the whole
 pub record Left (old : List ℕ) (at : ℕ) (whole now : List ℕ) (next : ℕ) (rest : List ℕ) : Type 0 where
@@ -42,14 +44,6 @@ pub put-done : {b m w r : List ℕ} {at e : ℕ} → r ≡ [] → Left b at w m 
 put-done {b} {m} {w} {r} {at} {e} h l =
     let z : length r ≡ 0 = ap length h in
     record { place = omega (arith, l .place); bytes = ap (sets m e) (sym h) ∙ l .bytes }
-
--- the tiles so far before each of the lists, one after the other
-unfoldable pub bytesOf : List ℕ → List (List ℕ) → List ℕ
-bytesOf prefix ls = concatMap (λ (l : List ℕ). prefix ++ l) ls
-
--- what is written behind the tiles so far
-unfoldable pub written : List ℕ → ℕ → ℕ → ℕ → ℕ → List ℕ → List ℕ
-written prefix n left end low t = bytesOf prefix (draws n left (end - low) low t)
 
 bytes-taken : (prefix : List ℕ) (a : ℕ) (x : List (List ℕ)) → bytesOf prefix (map (λ (l : List ℕ). a ∷ l) x) ≡ bytesOf (prefix ++ (a ∷ [])) x
 unfolding bytesOf concatMap

@@ -11,7 +11,8 @@ use lib.Dec.{ltb, eqb}
 use lib.ListN.{length, getD, set, length-set}
 use lib.Seq.{getD-set-same, getD-set-other}
 use Rattle.tiles.specs.Groups.{atKind}
-use Rattle.tiles.specs.laws.Tally.{more, ofKind}
+use Rattle.tiles.specs.Tally.{more}
+use Rattle.tiles.specs.laws.Tally.{ofKind}
 use Rattle.reading.specs.Order.{Lex}
 use Rattle.reading.specs.All.{Each, none, also as each, Pairwise, ended}
 use Rattle.reading.specs.search.Readings.{when}

@@ -5,7 +5,7 @@ use mathlib.Core.Bool.{true}
 use Prim.Native.Nat.{ℕ, zero, suc, _+_, _-_, _*_, _/_}
 use lib.Dec.{ltb}
 use lib.ListN.{getD, replicate}
-use Rattle.tiles.specs.laws.Tally.{more}
+use Rattle.tiles.specs.Tally.{more}
 use Rattle.reading.specs.search.Readings.{when}
 use Rattle.reading_splits.specs.search.SplitsInto.{splitsInto}
 

@@ -14,7 +14,7 @@ use Rattle.points_value.specs.declared.Value.{Value}
 use Rattle.score_best.specs.declared.HandCommon.{HandCommon}
 use Rattle.score_best.specs.declared.Best.{Best}
 use Rattle.score_best.specs.search.HandCommon.{worthIn}
-use Rattle.score_best.specs.search.Best.{noneOf, keepBetterBy, keepBetter, bestOf}
+use Rattle.score_best.specs.search.Best.{noneOf, keepBetterBy, keepBetter, searchFor}
 use Rattle.score_best.specs.laws.Keep.{none-going}
 use Rattle.score.specs.Readings.{all-kinds}
 use Rattle.score.specs.Named.{worth}
@@ -29,9 +29,9 @@ use Rattle.claim.proofs.verdict.Tie as tie
 
 -- the first reading that is judged is kept where it has a yaku
 weighed-first : (worth : Reading → Value) (r : Reading) (gain most : ℕ) (y : Bool) → hasYaku (worth r .yaku) ≡ y
-    → weighedAs (keepBetter worth noneOf r .valued) (keepBetter worth noneOf r .value .gain .0) gain most
+    → weighedAs (keepBetter worth (noneOf 0) r .valued) (keepBetter worth (noneOf 0) r .value .gain .0) gain most
     ≡ weighedAs (hasYaku (worth r .yaku)) (worth r .gain .0) gain most
-unfolding keepBetterBy noneOf weighedAs
+unfolding keepBetterBy keepBetter noneOf weighedAs
 weighed-first worth r gain most true e = rw e
 weighed-first worth r gain most false e = rw e
 
@@ -45,8 +45,8 @@ module _ (h : Hand) (dealer wind : ℕ) (r : Reading) (gain : ℕ) (f : IsFormed
   none e = rw (reading-is ∙ not-true x e)
 
   weighs : not x ≡ false → h .held .m ≤ 4 → length (h .held .melds) ≡ 4
-      → (t : HandCommon) (n v b : Best) (w : ℕ) → t ≡ handCommonOf h dealer wind → n ≡ noneOf → v ≡ keepBetter (worthIn t) n r
-      → b ≡ bestOf (worthIn t) c (h .held .m) (h .fields .winning)
+      → (t : HandCommon) (n v b : Best) (w : ℕ) → t ≡ handCommonOf h dealer wind → n ≡ noneOf 0 → v ≡ keepBetter (worthIn t) n r
+      → b ≡ searchFor (worthIn t) 0 c (h .held .m) (h .fields .winning)
       → w ≡ weighedAs (v .valued) (v .value .gain .0) gain (b .value .gain .0) → w ≡ verdictOf h dealer wind r gain
   unfolding verdictOf
   weighs x-is few long t n v b w et en ev eb ew =
@@ -73,13 +73,13 @@ verdict-spec =
     let i = c .before in
     let t = i .before in
     let a = t .before .args in
-    none (a .h) (a .dealer) (a .wind) (a .r) (a .gain) (t .before .pre .4) (t .concealed-tally .result) (i .is-reading .result) (t .concealed-tally .ensures)
+    none (a .h) (a .dealer) (a .wind) (a .r) (a .gain .0) (t .before .pre .4) (t .concealed-tally .result) (i .is-reading .result) (t .concealed-tally .ensures)
     (i .is-reading .ensures) (c .if1 .taken))
     (λ c κs. search needs) (λ c κs. search needs)
     (λ c κs.
     let k = c .before in
     let s = k .before .before .before .before in
-    (k .hand-common-of .ensures .1, formed-bounds (s .args .h .held .m) (s .args .r) (s .pre .4) .0, none-going (c .none .result) (c .none .ensures)))
+    (k .hand-common-of .ensures .1, formed-bounds (s .args .h .held .m) (s .args .r) (s .pre .4) .0, none-going 0 (c .none .result) (c .none .ensures)))
     (λ c κs. search needs) (λ c κs. search needs)
     (λ c.
     let b = c .before in
@@ -91,7 +91,8 @@ verdict-spec =
     let t = i .before in
     let s = t .before in
     let a = s .args in
-    weighs (a .h) (a .dealer) (a .wind) (a .r) (a .gain) (s .pre .4) (t .concealed-tally .result) (i .is-reading .result) (t .concealed-tally .ensures)
+    weighs (a .h) (a .dealer) (a .wind) (a .r) (a .gain .0) (s .pre .4) (t .concealed-tally .result) (i .is-reading .result) (t .concealed-tally .ensures)
     (i .is-reading .ensures)
-    (e .if1 .left) (s .pre .0) (long-melds s) (k .hand-common-of .result) (n .none .result) (v .keep-better .result) (b .best-of .result) (c .weighed .result)
-    (k .hand-common-of .ensures .0) (n .none .ensures) (v .keep-better .ensures) (b .best-of .ensures) (c .weighed .ensures)))
+    (e .if1 .left) (s .pre .0) (long-melds s) (k .hand-common-of .result) (n .none .result) (v .keep-better .result) (b .search-for .result)
+    (c .weighed .result)
+    (k .hand-common-of .ensures .0) (n .none .ensures) (v .keep-better .ensures) (b .search-for .ensures) (c .weighed .ensures)))

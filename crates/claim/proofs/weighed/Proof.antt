@@ -9,6 +9,14 @@ unfolding weighedAs
 weighed-spec =
     tie.close
     (tie.spec (λ c. rw (c .if1 .taken))
-    (λ c. rw (c .before .if1 .left, ne-eqb _ _ (c .if2 .taken)))
-    (λ c. rw (c .before .before .if1 .left, eq-eqb _ _ (c .before .if2 .left), lt-ltb _ _ (c .if3 .taken)))
-    (λ c. rw (c .before .before .if1 .left, eq-eqb _ _ (c .before .if2 .left), le-ltb _ _ (c .if3 .left))))
+    (λ c.
+    let paying = c .before .before in
+    rw (paying .before .if1 .left, ne-eqb _ _ (c .if2 .taken)))
+    (λ c.
+    let most = c .before .before .before in
+    let paying = most .before .before in
+    rw (paying .before .if1 .left, eq-eqb _ _ (most .if2 .left), lt-ltb _ _ (c .if3 .taken)))
+    (λ c.
+    let most = c .before .before .before in
+    let paying = most .before .before in
+    rw (paying .before .if1 .left, eq-eqb _ _ (most .if2 .left), le-ltb _ _ (c .if3 .left))))

@@ -38,7 +38,7 @@ module _ (m n : ℕ) (b : List ℕ) where
   unfolding claimedIn
   claimed-faulty e = rw e
 
-  pub claimed-sound : faultyIn m n b ≡ false → record { sound = true; reading = readingIn m b; gain = gainOf m b } ≡ claimedIn m n b
+  pub claimed-sound : faultyIn m n b ≡ false → record { sound = true; reading = readingIn m b; gain = record { 0 = gainOf m b } } ≡ claimedIn m n b
   unfolding claimedIn
   claimed-sound e = rw e
 
@@ -85,10 +85,10 @@ module _ (m : ℕ) (b : List ℕ) (z : shapeIn b ≡ 0) (pair place gain pad : �
   reading-is = rw (z, e1, e2, e3)
 
   pub regular-sound : ltb 33 pair || not a || ltb (4 - m) place || ltb 0 pad ≡ false
-      → record { sound = true; reading = record { shape = 0; pair = pair; groups = groups; place = place }; gain = gain } ≡ claimedIn m (lengthOf 0 m) b
+      → record { sound = true; reading = record { shape = 0; pair = pair; groups = groups; place = place }; gain = record { 0 = gain } } ≡ claimedIn m (lengthOf 0 m) b
   regular-sound t =
-      ap (λ (r : Reading). record { sound = true; reading = r; gain = gain }) reading-is
-      ∙ ap (λ (k : ℕ). record { sound = true; reading = readingIn m b; gain = k }) gain-is
+      ap (λ (r : Reading). record { sound = true; reading = r; gain = record { 0 = gain } }) reading-is
+      ∙ ap (λ (k : ℕ). record { sound = true; reading = readingIn m b; gain = record { 0 = k } }) gain-is
       ∙ claimed-sound m (lengthOf 0 m) b (test ∙ t)
 
 -- ---- shapes 1 and 2
@@ -112,10 +112,10 @@ module _ (m shape : ℕ) (b : List ℕ) (s : shapeIn b ≡ shape) (p : 0 < shape
   unfolding gainOf
   shape-gain = rw (s, not-0) e1
 
-  pub shape-sound : (r : Reading) → r ≡ ofShape shape → ltb 0 pad ≡ false → record { sound = true; reading = r; gain = gain } ≡ claimedIn m 3 b
+  pub shape-sound : (r : Reading) → r ≡ ofShape shape → ltb 0 pad ≡ false → record { sound = true; reading = r; gain = record { 0 = gain } } ≡ claimedIn m 3 b
   shape-sound r e t =
-      ap (λ (x : Reading). record { sound = true; reading = x; gain = gain }) (e ∙ shape-reading)
-      ∙ ap (λ (k : ℕ). record { sound = true; reading = readingIn m b; gain = k }) shape-gain
+      ap (λ (x : Reading). record { sound = true; reading = x; gain = record { 0 = gain } }) (e ∙ shape-reading)
+      ∙ ap (λ (k : ℕ). record { sound = true; reading = readingIn m b; gain = record { 0 = k } }) shape-gain
       ∙ claimed-sound m 3 b (test-shape ∙ t)
 
 pub three-bytes : (m n : ℕ) (b : List ℕ) (shape : ℕ) → shape ≡ shapeIn b → (shape ≡ 0 → ⊥) → not (eqb n 3) || eqb shape 3 ≡ true → nothing ≡ claimedIn m n b

@@ -32,7 +32,7 @@ use Rattle.claim.specs.laws.Verdict as verdicts
 
 module _ (m : ℕ) (claim : List ℕ) (few : m ≤ 4) (x : Claimed) (e : x ≡ claimedOf m claim) where
   either : {A : Type 0} → (x ≡ nothing → faultyIn m (length claim) (bitsOf claim) ≡ true → A)
-      → (x ≡ record { sound = true; reading = readingIn m (bitsOf claim); gain = gainOf m (bitsOf claim) } → faultyIn m (length claim) (bitsOf claim) ≡ false
+      → (x ≡ record { sound = true; reading = readingIn m (bitsOf claim); gain = record { 0 = gainOf m (bitsOf claim) } } → faultyIn m (length claim) (bitsOf claim) ≡ false
       → A) → A
   unfolding claimedIn
   either {A} f g = go (faultyIn m (length claim) (bitsOf claim)) refl
@@ -42,10 +42,10 @@ module _ (m : ℕ) (claim : List ℕ) (few : m ≤ 4) (x : Claimed) (e : x ≡ c
       go false q = g (e ∙ rw q) q
 
   -- sound: it names what was read
-  pub sound-names : x .sound ≡ true → Names m claim (x .reading) (x .gain)
+  pub sound-names : x .sound ≡ true → Names m claim (x .reading) (x .gain .0)
   sound-names t =
       either (λ k q. absurd (false≢true (ap (λ (y : Claimed). y .sound) (sym k) ∙ t)))
-      (λ k q. subst (λ (y : Claimed). Names m claim (y .reading) (y .gain)) (sym k) (names-of m claim few q))
+      (λ k q. subst (λ (y : Claimed). Names m claim (y .reading) (y .gain .0)) (sym k) (names-of m claim few q))
 
   -- not sound: it names nothing
   pub unsound-names : x .sound ≡ false → (r : Reading) (g : ℕ) → Names m claim r g → ⊥
@@ -70,12 +70,12 @@ module _ (s claim : List ℕ) (dealer wind : ℕ) where
         x : Claimed
         x = claimedOf (hand .held .m) claim
 
-        go : (b : Bool) → x .sound ≡ b → Judges (cond b (judgedAs (verdictOf hand dealer wind (x .reading) (x .gain))) (refusedWith 22))
+        go : (b : Bool) → x .sound ≡ b → Judges (cond b (judgedAs (verdictOf hand dealer wind (x .reading) (x .gain .0))) (refusedWith 22))
         go false q = faulty d w (sound s .1 e) (unsound-names (hand .held .m) claim (read-bounds s e .few) x refl q)
         go true q =
             let n = sound-names (hand .held .m) claim (read-bounds s e .few) x refl q in
             passed (record { seat = d; round = w; sound = sound s .1 e; names = n })
-            (verdicts.named hand dealer wind (read-paid s dealer d e) (x .reading) (x .gain) (formed-of (hand .held .m) claim (read-bounds s e .few) n))
+            (verdicts.named hand dealer wind (read-paid s dealer d e) (x .reading) (x .gain .0) (formed-of (hand .held .m) claim (read-bounds s e .few) n))
 
     by-answer : (a : Answer) → readOf s .answer ≡ a → Judges (foundBy a hand claim dealer wind)
     unfolding foundBy

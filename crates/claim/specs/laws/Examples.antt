@@ -11,22 +11,22 @@ use Rattle.tiles.specs.Tally.{tallyOf}
 use Rattle.hand.specs.Held.{meldHolds, inMelds, inOthers, inHeld, tileOver33, wrongHeld, descends, overFour}
 use Rattle.hand.specs.Hand.{inConcealed, inHand, concealedTally, handTally}
 use Rattle.hand.specs.Refusals.{wrongFields, inRecord, wrongSituation, refusalOf}
-use Rattle.hand_record.specs.Record.{headOf, meldsOf, tilesOf, heldIn, paddingAfter, handIn, answerBy, answerIn, readOf, widths, valuesOf, recordOf}
+use Rattle.hand_record.specs.Record.{headOf, heldBy, handIn, paddingOf, answerBy, answerIn, readOf, widths, valuesOf, recordOf}
 use Rattle.reading.specs.Reading.{holds, isSevenPairs, isOrphans}
 use Rattle.reading.specs.search.Readings.{concatMap, isEmpty, less, fits, without, passes, step, splits, placedAt, placed, paired, shaped, readings}
 use Rattle.reading.specs.search.Folded.{folded}
-use Rattle.yaku_basics.specs.Tests.{littleDragons, valueHan, earnsWait, pinfu, twins, inThreeAt, inThreeSuits, straight, hasYaochu, outside, concealed, kans}
+use Rattle.yaku_basics.specs.Tests.{littleDragons, valueHan, earnsWait, twins, inThreeSuits, straight, hasYaochu, outside, concealed, kans}
 use Rattle.yaku_basics.specs.Tests.{fourWinds}
 use Rattle.yaku_tiles.specs.OfTiles.{only, halfFlush, flush, gates}
-use Rattle.yaku.specs.Yaku.{testsOf, isYakuman, listed, yakuOf, hasYaku}
+use Rattle.yaku.specs.Yaku.{pinfu, testsOf, isYakuman, listed, yakuOf, hasYaku}
 use Rattle.points.specs.Points.{plain, limit, ordinary, basic, hundreds, share, pays, gain, change, changes}
-use Rattle.points_value.specs.Han.{hanBy, yakuHan, hanOf}
-use Rattle.points_fu.specs.Fu.{tripletFu, groupFu, groupItems, earned, added, rounded, itemsOf, fuOf}
+use Rattle.points_value.specs.Han.{yakuHan, hanOf}
+use Rattle.points_fu.specs.Fu.{tripletFu, groupFu, added, rounded, regularItems, itemsOf, fuOf}
 use Rattle.points_value.specs.Value.{valueOf}
 use Rattle.score_best.specs.search.Best.{beats, counted, noneOf, keepBetterBy, bestOf}
 use Rattle.score.specs.Named.{wonOf, groupsOf, waysOf, fullReadingOf, worth}
 use Rattle.score.specs.search.HandScore.{keptOf}
-use Rattle.score_table.specs.Table.{won}
+use Rattle.score_table.specs.laws.Table.{byKinds}
 use Rattle.claim.specs.Judge.{judgedOf}
 use Rattle.claim.specs.search.Claimed.{codesIn, gainOf, paddingIn, ascends, faultyRegular, faultyIn, readingIn, claimedIn}
 use Rattle.claim.specs.search.Verdict.{strip, regularly, reads, weighedAs, verdictOf}
@@ -35,11 +35,11 @@ use Rattle.claim.specs.laws.Judged.{found-is-judged}
 
 -- 5: "112233m 778899p 55s, seat 1 ron 5s: h 3, fu 40, 5,200."
 abbrev pub five : Hand
-five = won 1 1 3 22 0 (0 ∷ 0 ∷ 0 ∷ 0 ∷ []) (0 ∷ 0 ∷ 1 ∷ 1 ∷ 2 ∷ 2 ∷ 15 ∷ 15 ∷ 16 ∷ 16 ∷ 17 ∷ 17 ∷ 22 ∷ [])
+five = byKinds 1 1 3 22 0 (0 ∷ 0 ∷ 0 ∷ 0 ∷ []) (0 ∷ 0 ∷ 1 ∷ 1 ∷ 2 ∷ 2 ∷ 15 ∷ 15 ∷ 16 ∷ 16 ∷ 17 ∷ 17 ∷ 22 ∷ [])
 
 -- 7: "Chi 123m, 456p 789s 234s 99p, seat 1 ron 9s: 7."
 abbrev pub seven : Hand
-seven = won 1 1 3 26 1 (0 ∷ 0 ∷ 0 ∷ 0 ∷ []) (12 ∷ 13 ∷ 14 ∷ 17 ∷ 17 ∷ 19 ∷ 20 ∷ 21 ∷ 24 ∷ 25 ∷ 0 ∷ 0 ∷ 0 ∷ [])
+seven = byKinds 1 1 3 26 1 (0 ∷ 0 ∷ 0 ∷ 0 ∷ []) (12 ∷ 13 ∷ 14 ∷ 17 ∷ 17 ∷ 19 ∷ 20 ∷ 21 ∷ 24 ∷ 25 ∷ 0 ∷ 0 ∷ 0 ∷ [])
 
 -- what a claim for a hand is answered
 pub record Answered (hand : Hand) (claim : List ℕ) (refusal verdict : ℕ) : Type 0 where
@@ -71,11 +71,11 @@ by hand claim refusal verdict e = record { told = sym (found-is-judged (recordOf
 -- claims for hands of the table
 pub worked-claims : Worked
 unfolding widths valuesOf recordOf allBelow anyBelow countBelow sumBelow doraOf isGroup atKind uses tallyOf meldHolds inMelds inOthers inHeld inConcealed inHand
-    concealedTally handTally tileOver33 wrongHeld wrongFields descends inRecord overFour wrongSituation refusalOf headOf meldsOf tilesOf heldIn paddingAfter
-    handIn answerBy answerIn readOf holds isSevenPairs isOrphans concatMap isEmpty less fits without passes step splits placedAt placed paired shaped readings
-    folded littleDragons valueHan earnsWait pinfu twins inThreeAt inThreeSuits straight hasYaochu outside concealed kans fourWinds only halfFlush flush gates
-    testsOf isYakuman listed yakuOf hasYaku plain limit ordinary basic hundreds share pays gain change changes hanBy yakuHan hanOf tripletFu groupFu
-    groupItems earned added rounded itemsOf fuOf valueOf beats counted noneOf keepBetterBy bestOf wonOf groupsOf waysOf fullReadingOf worth keptOf codesIn
+    concealedTally handTally tileOver33 wrongHeld wrongFields descends inRecord overFour wrongSituation refusalOf headOf heldBy
+    handIn paddingOf answerBy answerIn readOf holds isSevenPairs isOrphans concatMap isEmpty less fits without passes step splits placedAt placed paired shaped readings
+    folded littleDragons valueHan earnsWait pinfu twins inThreeSuits straight hasYaochu outside concealed kans fourWinds only halfFlush flush gates
+    testsOf isYakuman listed yakuOf hasYaku plain limit ordinary basic hundreds share pays gain change changes yakuHan hanOf tripletFu groupFu
+    regularItems added rounded itemsOf fuOf valueOf beats counted noneOf keepBetterBy bestOf wonOf groupsOf waysOf fullReadingOf worth keptOf codesIn
     gainOf paddingIn ascends faultyRegular faultyIn readingIn claimedIn strip regularly reads weighedAs verdictOf passedAs foundBy foundOf
 worked-claims = record {
   accepted = by _ _ _ _ refl;

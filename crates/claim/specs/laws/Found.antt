@@ -45,6 +45,6 @@ module _ (s claim : List ℕ) (dealer wind : ℕ) (r : HandRead) (q : ltb 3 deal
     unfolding passedAs
     found-faulty a z ea = ea ∙ rw z at found-passed
 
-    pub found-verdict : (v : ℕ) → x .sound ≡ true → v ≡ verdictOf hand dealer wind (x .reading) (x .gain) → judgedAs v ≡ foundOf s claim dealer wind
+    pub found-verdict : (v : ℕ) → x .sound ≡ true → v ≡ verdictOf hand dealer wind (x .reading) (x .gain .0) → judgedAs v ≡ foundOf s claim dealer wind
     unfolding passedAs
     found-verdict v z ev = ap judgedAs ev ∙ rw z at found-passed

@@ -67,10 +67,10 @@ readingIn m b =
     cond (eqb (shapeIn b) 0) (record { shape = 0; pair = pairIn b; groups = codesIn m b ++ replicate m 68; place = placeIn m b }) (ofShape (shapeIn b))
 
 abbrev pub nothing : Claimed
-nothing = record { sound = false; reading = ofShape 1; gain = 0 }
+nothing = record { sound = false; reading = ofShape 1; gain = record { 0 = 0 } }
 
 unfoldable pub claimedIn : ℕ → ℕ → List ℕ → Claimed
-claimedIn m n b = cond (faultyIn m n b) nothing (record { sound = true; reading = readingIn m b; gain = gainOf m b })
+claimedIn m n b = cond (faultyIn m n b) nothing (record { sound = true; reading = readingIn m b; gain = record { 0 = gainOf m b } })
 
 -- of its bytes
 abbrev pub claimedOf : ℕ → List ℕ → Claimed

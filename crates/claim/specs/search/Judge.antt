@@ -15,7 +15,7 @@ use Rattle.claim.specs.search.Verdict.{verdictOf}
 
 -- 22, or the verdict on what was claimed
 unfoldable pub passedAs : Hand → Claimed → ℕ → ℕ → Judged
-passedAs h x dealer wind = cond (x .sound) (judgedAs (verdictOf h dealer wind (x .reading) (x .gain))) (refusedWith 22)
+passedAs h x dealer wind = cond (x .sound) (judgedAs (verdictOf h dealer wind (x .reading) (x .gain .0))) (refusedWith 22)
 
 -- by what Read answers
 unfoldable pub foundBy : Answer → Hand → List ℕ → ℕ → ℕ → Judged

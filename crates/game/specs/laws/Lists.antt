@@ -13,7 +13,7 @@ use Rattle.position.specs.laws.Kept.{fresh-kept, kept-form, after-kept}
 use Rattle.game.specs.declared.Game.{Game}
 use Rattle.game.specs.Game.{Entry, booking, correction, freshGame, gameRefusal, withEntry, gameAfter, gameFrom}
 use Rattle.game.specs.Runs.{Runs, done, next, Every, refusalsFrom}
-use Rattle.game.specs.laws.After.{and-false, both-in, as-now}
+use Rattle.game.specs.laws.After.{and-false, both-in, past-nine, as-now}
 
 -- ---- what is kept
 
@@ -56,8 +56,7 @@ module _ (k : Game) (p : Both k) where
   plain-refusal = as-now k (rw (kept-in-form (k .earlier) (p .1)) (and-false (isSet (k .correctable))))
 
   pub correction-refusal : (r : Result) → gameRefusal k (correction r) ≡ cond (isSet (k .correctable)) (refusalFor (k .earlier) (result r)) 20
-  unfolding gameRefusal
-  correction-refusal r = rw (both-in k (kept-in-form (k .now) (p .0)) (kept-in-form (k .earlier) (p .1)))
+  correction-refusal r = past-nine k r (both-in k (kept-in-form (k .now) (p .0)) (kept-in-form (k .earlier) (p .1)))
 
 -- ---- bookings alone
 

@@ -24,7 +24,7 @@ Correctable bs [] k = isSet (k .correctable) ≡ false
 Correctable bs (b ∷ none) k = (isSet (k .correctable) ≡ true) × (k .earlier ≡ ledger bs) × (none ≡ []) × ((r : Result) × (b ≡ result r))
 
 -- each of a list is accepted, one after the other
-abbrev AllIn : Position → List Booking → Type 0
+abbrev pub AllIn : Position → List Booking → Type 0
 AllIn l [] = Unit {0}
 AllIn l (b ∷ bs) = (refusalFor l b ≡ 0) × AllIn (after l b) bs
 
@@ -135,6 +135,9 @@ ends xs = left-standing xs [] [] freshGame fresh-both fresh-stands
 pub game-standing : (xs : List Entry) → gameFrom freshGame xs .now ≡ ledger (standing xs)
 game-standing xs = let e = ends xs in e .stands .0 ∙ ap ledger (sym (e .all))
 
+pub standing-in : (xs : List Entry) → AllIn fresh (standing xs)
+standing-in xs = let e = ends xs in subst (AllIn fresh) (sym (e .all)) (e .stands .2)
+
 pub earlier-kept : (xs : List Entry) → let k = gameFrom freshGame xs in
     isSet (k .correctable) ≡ true → (bs : List Booking) × (r : Result) × (standing xs ≡ bs ++ (result r ∷ [])) × (k .earlier ≡ ledger bs)
 earlier-kept xs h = let e = ends xs in go (e .bs) (e .last) (e .all) (e .stands .1)
@@ -163,4 +166,4 @@ again (c ∷ cs) k p a =
     rw e (ap (λ (ns : List ℕ). 0 ∷ ns) (again cs (gameAfter k (booking c)) (after-both k (booking c) p) (then-in k c cs e (a .1))))
 
 pub standing-accepted : (xs : List Entry) → refusalsFrom freshGame (map booking (standing xs)) ≡ replicate (length (standing xs)) 0
-standing-accepted xs = let e = ends xs in again (standing xs) freshGame fresh-both (fresh-in (standing xs) (subst (AllIn fresh) (sym (e .all)) (e .stands .2)))
+standing-accepted xs = again (standing xs) freshGame fresh-both (fresh-in (standing xs) (standing-in xs))

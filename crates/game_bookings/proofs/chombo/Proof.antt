@@ -16,6 +16,6 @@ chombo-spec =
     (λ c κs. search needs)
     (λ c.
     let b = c .before .before in
-    let a = c .before .before .before .before .args in
+    let a = b .before .before .args in
     rw (c .book .ensures) (booking-books (a .g) _ _ (result (chombo (a .seat))) (rw (b .before .checked .ensures) at (b .chombo .ensures)) 1
     (result-finishes (a .g .now) (chombo (a .seat))) refl)))

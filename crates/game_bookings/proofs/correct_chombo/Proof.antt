@@ -11,4 +11,7 @@ correct-chombo-spec =
     (tie.spec
     (λ c κs. search needs)
     (λ c κs. search needs)
-    (λ c. let a = c .before .before .before .args in rw (c .correct .ensures) (correction-books (a .g) _ _ (chombo (a .seat)) (c .before .chombo .ensures))))
+    (λ c.
+    let b = c .before in
+    let a = b .before .before .args in
+    rw (c .correct .ensures) (correction-books (a .g) _ _ (chombo (a .seat)) (b .chombo .ensures))))

@@ -11,4 +11,7 @@ correct-draw-spec =
     (tie.spec
     (λ c κs. search needs)
     (λ c κs. search needs)
-    (λ c. let a = c .before .before .before .args in rw (c .correct .ensures) (correction-books (a .g) _ _ (draw (a .bits)) (c .before .draw .ensures))))
+    (λ c.
+    let b = c .before in
+    let a = b .before .before .args in
+    rw (c .correct .ensures) (correction-books (a .g) _ _ (draw (a .bits)) (b .draw .ensures))))

@@ -11,5 +11,8 @@ correct-multi-ron-spec =
     (tie.spec
     (λ c κs. search needs)
     (λ c κs. search needs)
-    (λ c. let a = c .before .before .before .before .args in
-    rw (c .correct .ensures) (correction-books (a .g) _ _ (multiRon (a .number) (a .s .now)) (c .before .multi-ron .ensures))))
+    (λ c.
+    let b = c .before in
+    let e = b .before in
+    let a = e .before .before .args in
+    rw (c .correct .ensures) (correction-books (a .g) _ _ (multiRon (a .number) (a .s .now)) (b .multi-ron .ensures))))

@@ -11,5 +11,8 @@ correct-win-spec =
     (tie.spec
     (λ c κs. search needs)
     (λ c κs. search needs)
-    (λ c. let a = c .before .before .before .before .args in
-    rw (c .correct .ensures) (correction-books (a .g) _ _ (win (a .s .now)) (c .before .win .ensures))))
+    (λ c.
+    let b = c .before in
+    let e = b .before in
+    let a = e .before .before .args in
+    rw (c .correct .ensures) (correction-books (a .g) _ _ (win (a .s .now)) (b .win .ensures))))

@@ -16,6 +16,6 @@ draw-spec =
     (λ c κs. search needs)
     (λ c.
     let b = c .before .before in
-    let a = c .before .before .before .before .args in
+    let a = b .before .before .args in
     rw (c .book .ensures) (booking-books (a .g) _ _ (result (draw (a .bits))) (rw (b .before .checked .ensures) at (b .draw .ensures)) 1
     (result-finishes (a .g .now) (draw (a .bits))) refl)))

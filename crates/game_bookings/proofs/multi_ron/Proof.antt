@@ -16,6 +16,7 @@ multi-ron-spec =
     (λ c κs. search needs)
     (λ c.
     let b = c .before .before in
-    let a = c .before .before .before .before .before .args in
+    let e = b .before in
+    let a = e .before .before .args in
     rw (c .book .ensures) (booking-books (a .g) _ _ (result (multiRon (a .number) (a .s .now)))
-    (rw (b .before .checked .ensures) at (b .multi-ron .ensures)) 1 (result-finishes (a .g .now) (multiRon (a .number) (a .s .now))) refl)))
+    (rw (e .checked .ensures) at (b .multi-ron .ensures)) 1 (result-finishes (a .g .now) (multiRon (a .number) (a .s .now))) refl)))

@@ -16,6 +16,6 @@ pao-spec =
     (λ c κs. search needs)
     (λ c.
     let b = c .before .before in
-    let a = c .before .before .before .before .args in
+    let a = b .before .before .args in
     rw (c .book .ensures) (booking-books (a .g) _ _ (pao (a .holder) (a .feeder) (a .yaku)) (rw (b .before .checked .ensures) at (b .pao .ensures)) 0
     (pao-goes-on (a .g .now) (a .holder) (a .feeder) (a .yaku)) refl)))

@@ -16,6 +16,6 @@ riichi-spec =
     (λ c κs. search needs)
     (λ c.
     let b = c .before .before in
-    let a = c .before .before .before .before .args in
+    let a = b .before .before .args in
     rw (c .book .ensures) (booking-books (a .g) _ _ (riichi (a .seat)) (rw (b .before .checked .ensures) at (b .riichi .ensures)) 0
     (riichi-goes-on (a .g .now) (a .seat)) refl)))

@@ -16,6 +16,7 @@ win-spec =
     (λ c κs. search needs)
     (λ c.
     let b = c .before .before in
-    let a = c .before .before .before .before .before .args in
-    rw (c .book .ensures) (booking-books (a .g) _ _ (result (win (a .s .now))) (rw (b .before .checked .ensures) at (b .win .ensures)) 1
+    let e = b .before in
+    let a = e .before .before .args in
+    rw (c .book .ensures) (booking-books (a .g) _ _ (result (win (a .s .now))) (rw (e .checked .ensures) at (b .win .ensures)) 1
     (result-finishes (a .g .now) (win (a .s .now))) refl)))

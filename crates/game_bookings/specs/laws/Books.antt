@@ -10,9 +10,13 @@ use Rattle.position.specs.Booking.{Result, Booking, result}
 use Rattle.position.specs.Ledger.{isSet, mark, outOfForm, refusalFor, effectOf, after, Moves}
 use Rattle.position.specs.laws.Each.{accepted-form}
 use Rattle.game.specs.declared.Game.{Game}
-use Rattle.game.specs.Game.{booking, correction, correctionRefusal, gameRefusal, withEntry, gameAfter}
+use Rattle.game.specs.Game.{booking, correction, gameOutOfForm, gameRefusal, withEntry, gameAfter}
 use Rattle.game.specs.Runs.{Books}
-use Rattle.game.specs.laws.After.{as-in-earlier, as-now}
+use Rattle.game.specs.laws.After.{correction-listed, as-in-earlier, as-now}
+
+-- a correction meets 9, 20, or the refusal n of its result
+abbrev pub correctionRefusal : Game → ℕ → ℕ
+correctionRefusal g n = cond (gameOutOfForm g) 9 (cond (isSet (g .correctable)) n 20)
 
 -- ---- a booking
 
@@ -62,5 +66,5 @@ module _ (g : Game) (n : ℕ) (p : Position) where
   -- ---- a correction, where n and p are what its result gives in the earlier position
   pub correction-books : (r : Result) → Moves (g .earlier) (result r) n p
       → Books g (correction r) (correctionRefusal g n) (cond (ltb 0 (correctionRefusal g n)) g (record { now = p; earlier = g .earlier; correctable = 1 }))
-  unfolding gameRefusal gameAfter withEntry
-  correction-books r m = rw (← m .0, ← m .1) (refl, refl)
+  unfolding gameAfter withEntry
+  correction-books r m = rw (correction-listed g r, ← m .0, ← m .1) (refl, refl)

@@ -7,7 +7,8 @@ use mathlib.Core.List.{List}
 use native.Mathlib.Omega.{arith}
 use lib.ListN.{length, getD}
 use Rattle.tiles.specs.Groups.{atKind}
-use Rattle.tiles.specs.laws.Tally.{more, at-le, tally-bound, more-adds}
+use Rattle.tiles.specs.Tally.{more}
+use Rattle.tiles.specs.laws.Tally.{at-le, tally-bound, more-adds}
 use Rattle.hand.specs.Held.{meldHolds}
 use Rattle.hand.proofs.add_meld.Statement.{statement}
 use Rattle.hand.proofs.add_meld.Tie as tie

@@ -11,7 +11,8 @@ use lib.Seq.{set-out}
 use Rattle.tiles.specs.Below.{countBelow}
 use Rattle.tiles.specs.Groups.{atKind}
 use Rattle.tiles.specs.laws.Below.{number-none, number-more, number-le}
-use Rattle.tiles.specs.laws.Tally.{tally-ext, tally-bound, more, more-adds}
+use Rattle.tiles.specs.Tally.{more}
+use Rattle.tiles.specs.laws.Tally.{tally-ext, tally-bound, more-adds}
 use Rattle.hand.proofs.tally_of.Statement.{statement}
 use Rattle.hand.proofs.tally_of.Tie as tie
 

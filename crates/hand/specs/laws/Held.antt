@@ -8,8 +8,8 @@ use lib.Dec.{ltb, eqb}
 use lib.ListN.{length, getD}
 use Rattle.tiles.specs.laws.Below.{number-le, cond-le}
 use Rattle.tiles.specs.Groups.{atKind}
-use Rattle.tiles.specs.Tally.{tallyOf}
-use Rattle.tiles.specs.laws.Tally.{more, at-le, getD-tally, tally-bound, tally-ext, more-adds}
+use Rattle.tiles.specs.Tally.{tallyOf, more}
+use Rattle.tiles.specs.laws.Tally.{at-le, getD-tally, tally-bound, tally-ext, more-adds}
 use Rattle.hand.specs.declared.Held.{Held}
 use Rattle.hand.specs.declared.Hand.{Hand}
 use Rattle.hand.specs.Held.{meldTile, meldKind, meldHolds, inMelds, inOthers, inHeld, others}

@@ -10,7 +10,7 @@ use Rattle.hand.specs.Hand.{inHand}
 use Rattle.hand.specs.Refusals.{wrongFields, inRecord, wrongSituation, refusalOf}
 use Rattle.tiles.specs.Below.{allBelow, anyBelow, countBelow}
 use Rattle.tiles.specs.Groups.{atKind}
-use Rattle.hand_record.specs.Record.{headOf, meldsOf, tilesOf, heldIn, paddingAfter, handIn, soundAs, answerBy, answerIn, readOf, widths, valuesOf}
+use Rattle.hand_record.specs.Record.{headOf, heldBy, handIn, paddingOf, soundAs, answerBy, answerIn, readOf, widths, valuesOf}
 use Rattle.hand_record.specs.Record.{recordOf}
 
 -- "indicator North, no riichi, ordinary": how (0 tsumo, 1 ron), winner, discarder, winning tile, m, melds, other concealed tiles
@@ -127,7 +127,7 @@ Table =
 -- each row reads and writes back
 pub table : Table
 unfolding allBelow anyBelow countBelow atKind meldHolds inMelds inOthers inHeld inHand tileOver33 wrongHeld wrongFields descends inRecord overFour wrongSituation
-    refusalOf headOf meldsOf tilesOf heldIn paddingAfter handIn answerBy answerIn readOf widths valuesOf recordOf
+    refusalOf headOf heldBy handIn paddingOf answerBy answerIn readOf widths valuesOf recordOf
 table = (
   record { read = refl; write = refl },
   record { read = refl; write = refl },

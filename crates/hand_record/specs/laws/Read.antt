@@ -15,8 +15,10 @@ use Rattle.hand.specs.declared.Fields.{Fields}
 use Rattle.hand.specs.declared.Held.{Held}
 use Rattle.hand.specs.Refusals.{refusalOf}
 use Rattle.hand_record.specs.declared.Head.{Head}
-use Rattle.hand_record.specs.Record.{head, headBy, sixes, lengthOf, padOf, headOf, meldsOf, tilesOf, heldIn, paddingAfter, paddingOf, handIn}
+use Rattle.hand_record.specs.Record.{head, headBy, sixes, lengthOf, padOf, headOf}
 use Rattle.hand_record.specs.Record.{refusedWith, wrongLength, countIn, answerBy, answerIn, readOf}
+use Rattle.hand_record.specs.search.Offsets.{meldsOf, tilesOf, heldIn, paddingAfter}
+use Rattle.hand_record.specs.laws.Offsets.{padding-is, hand-at}
 
 pub bool-true : (b : Bool) → (b ≡ false → ⊥) → b ≡ true
 bool-true true h = refl
@@ -104,7 +106,7 @@ padding-last at m n s e =
     ap (λ (i : ℕ). val 0 (take n (drop i (bitsOf s)))) k
 
 -- a record of the right length, by what the calls of its reader gave
-pub answer-in-by : (m : ℕ) (b : List ℕ) (f : Fields) (x : Held) (p j : ℕ) → f ≡ headOf b .fields → x ≡ heldIn 25 m b → p ≡ paddingOf m b
+pub answer-in-by : (m : ℕ) (b : List ℕ) (f : Fields) (x : Held) (p j : ℕ) → f ≡ headOf b .fields → x ≡ heldIn 25 m b → p ≡ paddingAfter 25 m (padOf m) b
     → j ≡ refusalOf (record { fields = f; held = x }) p → answerBy (record { fields = f; held = x }) j ≡ answerIn m b
-unfolding answerIn handIn
-answer-in-by m b f x p j ef ex ep ej = rw (ej, ep, ex, ef)
+unfolding answerIn
+answer-in-by m b f x p j ef ex ep ej = rw (ej, ep, ex, ef, hand-at m b, padding-is m b)

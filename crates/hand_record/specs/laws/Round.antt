@@ -6,12 +6,12 @@ use mathlib.Core.List.{List, [], _∷_, _++_}
 use native.Mathlib.Omega.{arith}
 use borrow.Author.Tests.{ltb-true, ltb-false, le-ltb}
 use lib.Dec.{ltb}
-use lib.ListN.{length, getD, take, drop, length-replicate, length-take, List·getD-eq-default}
-use lib.Seq.{length-take-le, drop-drop, getD-take}
+use lib.ListN.{length, getD, take, length-replicate, length-take, List·getD-eq-default}
+use lib.Seq.{length-take-le, getD-take}
 use lib.Pow.{pow-pos}
 use Rattle.tiles.specs.laws.Below.{or-both}
-use Rattle.bits.specs.Bits.{pack, unpack, widthOf, eights, bitsOf, fill, EachBelow}
-use Rattle.bits.specs.laws.Pack.{FitIn, fieldsOf, unpack-fit, unpack-append, below-pack, below-take, length-unpack, sum-replicate, bytes-fields, fields-bytes}
+use Rattle.bits.specs.Bits.{pack, unpack, eights, bitsOf, fill, EachBelow}
+use Rattle.bits.specs.laws.Pack.{FitIn, fieldsOf, unpack-fit, below-pack, below-take, length-unpack, bytes-fields, fields-bytes}
 use Rattle.bits.specs.laws.Pack.{length-bitsOf, fit-cons, fit-nil, fit-all, fit-run, fit-append, app-inj}
 use Rattle.hand.specs.declared.Fields.{Fields}
 use Rattle.hand.specs.declared.Held.{Held}
@@ -21,37 +21,16 @@ use Rattle.hand.specs.Refusals.{tooLarge, refusalOf, unwritable}
 use Rattle.hand_record.specs.declared.Head.{Head}
 use Rattle.hand_record.specs.declared.HandRead.{HandRead}
 use Rattle.hand_record.specs.declared.Answer.the-variants.{Sound, Refused}
-use Rattle.hand_record.specs.Record.{head, headBy, headList, headFor, sixes, lengthOf, padOf, headOf, meldsOf, tilesOf, heldIn, paddingAfter, paddingOf}
+use Rattle.hand_record.specs.Record.{head, headBy, headList, headFor, sixes, lengthOf, padOf, headOf, paddingOf}
 use Rattle.hand_record.specs.Record.{handIn, refusedWith, soundAs, wrongLength, countIn, answerBy, answerIn, readOf, widths, valuesOf, recordOf}
+use Rattle.hand_record.specs.search.Offsets.{meldsOf, tilesOf, heldIn, handAt}
+use Rattle.hand_record.specs.laws.Offsets.{melds-length, tiles-length, hand-at, unpack-widths}
 use Rattle.hand_record.specs.laws.Clean.{clean-of, of-clean, kinds-of, Accepted, accepted-of}
 use Rattle.hand_record.specs.laws.Fill.{take-fill, fill-past, fill-take, unused-of, zeros-of}
 use Rattle.hand_record.specs.laws.Read.{whole, RightLength, length-of, length-right}
 use Rattle.hand_record.specs.laws.Write.{sum-widths, length-widths, few-melds}
 
 -- ---- the fields of a record's bits, part by part
-
-unpack-widths : (m : ℕ) (b : List ℕ) → unpack (widths m) b ≡ unpack head b ++ (meldsOf 25 m b ++ (tilesOf 25 m b ++ (paddingOf m b ∷ [])))
-unfolding widths meldsOf tilesOf paddingAfter
-unpack-widths m bits =
-    let k : ℕ = 13 - 3 * m in
-    let b1 : List ℕ = drop 25 bits in
-    let b2 : List ℕ = drop (25 + 8 * m) bits in
-    let e2 : drop (widthOf (eights m)) b1 ≡ b2 = rw sum-replicate (drop-drop (8 * m) 25 bits) in
-    let e3 : drop (widthOf (sixes k)) b2 ≡ drop (25 + 8 * m + 6 * k) bits = rw sum-replicate (drop-drop (6 * k) (25 + 8 * m) bits) in
-    let p1 = unpack-append head (eights m ++ (sixes k ++ (padOf m ∷ []))) bits in
-    let p2 : unpack (eights m ++ (sixes k ++ (padOf m ∷ []))) b1 ≡ unpack (eights m) b1 ++ unpack (sixes k ++ (padOf m ∷ [])) b2 =
-    rw e2 at (unpack-append (eights m) (sixes k ++ (padOf m ∷ [])) b1) in
-    let p3 : unpack (sixes k ++ (padOf m ∷ [])) b2 ≡ unpack (sixes k) b2 ++ unpack (padOf m ∷ []) (drop (25 + 8 * m + 6 * k) bits) =
-    rw e3 at (unpack-append (sixes k) (padOf m ∷ []) b2) in
-    p1 ∙ ap (λ (l : List ℕ). unpack head bits ++ l) (p2 ∙ ap (λ (l : List ℕ). unpack (eights m) b1 ++ l) p3)
-
-melds-length : (m : ℕ) (b : List ℕ) → length (meldsOf 25 m b) ≡ m
-unfolding meldsOf
-melds-length m b = length-unpack (eights m) (drop 25 b) ∙ length-replicate m 8
-
-tiles-length : (m : ℕ) (b : List ℕ) → length (tilesOf 25 m b) ≡ 13 - 3 * m
-unfolding tilesOf
-tiles-length m b = length-unpack (sixes (13 - 3 * m)) (drop (25 + 8 * m) b) ∙ length-replicate (13 - 3 * m) 6
 
 head-list : (b : List ℕ) → headList (headOf b) ≡ unpack head b
 unfolding headOf
@@ -108,21 +87,24 @@ as-read s h y =
 
 -- the parts of the hand that was read
 module _ (s : List ℕ) (h : Hand) (y : ReadAs s h) where
+  is-at : h ≡ handAt (countIn s) (bitsOf s)
+  is-at = y .is-hand ∙ hand-at (countIn s) (bitsOf s)
+
   count-is : h .held .m ≡ countIn s
-  unfolding handIn heldIn
-  count-is = ap (λ (x : Hand). x .held .m) (y .is-hand)
+  unfolding heldIn
+  count-is = ap (λ (x : Hand). x .held .m) is-at
 
   fields-are : headList (headFor h) ≡ unpack head (bitsOf s)
-  unfolding handIn heldIn
-  fields-are = ap (λ (x : Hand). headList (headFor x)) (y .is-hand) ∙ head-list (bitsOf s)
+  unfolding heldIn
+  fields-are = ap (λ (x : Hand). headList (headFor x)) is-at ∙ head-list (bitsOf s)
 
   melds-are : h .held .melds ≡ fill 4 (meldsOf 25 (h .held .m) (bitsOf s))
-  unfolding handIn heldIn
-  melds-are = ap (λ (x : Hand). x .held .melds) (y .is-hand) ∙ ap (λ (m : ℕ). fill 4 (meldsOf 25 m (bitsOf s))) (sym count-is)
+  unfolding heldIn
+  melds-are = ap (λ (x : Hand). x .held .melds) is-at ∙ ap (λ (m : ℕ). fill 4 (meldsOf 25 m (bitsOf s))) (sym count-is)
 
   tiles-are : h .held .concealed ≡ fill 13 (tilesOf 25 (h .held .m) (bitsOf s))
-  unfolding handIn heldIn
-  tiles-are = ap (λ (x : Hand). x .held .concealed) (y .is-hand) ∙ ap (λ (m : ℕ). fill 13 (tilesOf 25 m (bitsOf s))) (sym count-is)
+  unfolding heldIn
+  tiles-are = ap (λ (x : Hand). x .held .concealed) is-at ∙ ap (λ (m : ℕ). fill 13 (tilesOf 25 m (bitsOf s))) (sym count-is)
 
   pub length-is : RightLength (length s) (h .held .m)
   length-is = rw count-is (y .right-length)
@@ -139,9 +121,9 @@ module _ (s : List ℕ) (h : Hand) (y : ReadAs s h) where
   values-are =
       let m : ℕ = h .held .m in
       let b : List ℕ = bitsOf s in
-      let em : take m (h .held .melds) ≡ meldsOf 25 m b = ap (take m) melds-are ∙ take-fill 4 m (meldsOf 25 m b) (melds-length m b) in
+      let em : take m (h .held .melds) ≡ meldsOf 25 m b = ap (take m) melds-are ∙ take-fill 4 m (meldsOf 25 m b) (melds-length 25 m b) in
       let et : take (13 - 3 * m) (h .held .concealed) ≡ tilesOf 25 m b =
-      ap (take (13 - 3 * m)) tiles-are ∙ take-fill 13 (13 - 3 * m) (tilesOf 25 m b) (tiles-length m b) in
+      ap (take (13 - 3 * m)) tiles-are ∙ take-fill 13 (13 - 3 * m) (tilesOf 25 m b) (tiles-length 25 m b) in
       ap (λ (l : List ℕ). l ++ (take m (h .held .melds) ++ (take (13 - 3 * m) (h .held .concealed) ++ (0 ∷ [])))) fields-are
       ∙ ap (λ (l : List ℕ). unpack head b ++ (l ++ (take (13 - 3 * m) (h .held .concealed) ++ (0 ∷ [])))) em
       ∙ ap (λ (l : List ℕ). unpack head b ++ (meldsOf 25 m b ++ (l ++ (0 ∷ [])))) et
@@ -180,8 +162,8 @@ module _ (s : List ℕ) (h : Hand) (y : ReadAs s h) where
 
       not-unused : unusedNotZero (h .held) ≡ false
       not-unused = unused-of (h .held)
-          (λ i g. rw melds-are (fill-past 4 (meldsOf 25 (h .held .m) (bitsOf s)) i (omega (arith, melds-length (h .held .m) (bitsOf s)))))
-          (λ i g. rw tiles-are (fill-past 13 (tilesOf 25 (h .held .m) (bitsOf s)) i (omega (arith, tiles-length (h .held .m) (bitsOf s)))))
+          (λ i g. rw melds-are (fill-past 4 (meldsOf 25 (h .held .m) (bitsOf s)) i (omega (arith, melds-length 25 (h .held .m) (bitsOf s)))))
+          (λ i g. rw tiles-are (fill-past 13 (tilesOf 25 (h .held .m) (bitsOf s)) i (omega (arith, tiles-length 25 (h .held .m) (bitsOf s)))))
 
 -- ---- the other way: what is written fits its bits
 
@@ -266,14 +248,14 @@ module _ (h : Hand) (e : unwritable h ≡ 0) (lm : length (h .held .melds) ≡ 4
       ≡ headList (headFor h) ++ (take m (h .held .melds) ++ (take k (h .held .concealed) ++ (0 ∷ []))) =
       sym (unpack-widths m b) ∙ ap (unpack (widths m)) eb ∙ same-fields in
       let q1 = app-inj (unpack head b) (headList (headFor h)) _ _ refl q in
-      let q2 = app-inj (meldsOf 25 m b) (take m (h .held .melds)) _ _ (melds-length m b ∙ sym (length-take-le m (h .held .melds) (omega (arith, few))))
+      let q2 = app-inj (meldsOf 25 m b) (take m (h .held .melds)) _ _ (melds-length 25 m b ∙ sym (length-take-le m (h .held .melds) (omega (arith, few))))
       (q1 .1) in
-      let q3 = app-inj (tilesOf 25 m b) (take k (h .held .concealed)) _ _ (tiles-length m b ∙ sym (length-take-le k (h .held .concealed) (omega arith)))
+      let q3 = app-inj (tilesOf 25 m b) (take k (h .held .concealed)) _ _ (tiles-length 25 m b ∙ sym (length-take-le k (h .held .concealed) (omega arith)))
       (q2 .1) in
       (q1 .0, q2 .0, q3 .0, ap (λ (l : List ℕ). getD l 0 0) (q3 .1))
 
   hand-back : h ≡ handIn (h .held .m) (bitsOf (recordOf h))
-  unfolding handIn heldIn
+  unfolding heldIn
   hand-back =
       let m : ℕ = h .held .m in
       let b : List ℕ = bitsOf (recordOf h) in
@@ -281,9 +263,10 @@ module _ (h : Hand) (e : unwritable h ≡ 0) (lm : length (h .held .melds) ≡ 4
       let z = zeros-of (h .held) (y .unused) in
       let em : fill 4 (meldsOf 25 m b) ≡ h .held .melds = ap (fill 4) (p .1) ∙ fill-take 4 m (h .held .melds) lm few (z .0) in
       let et : fill 13 (tilesOf 25 m b) ≡ h .held .concealed = ap (fill 13) (p .2) ∙ fill-take 13 (13 - 3 * m) (h .held .concealed) lc (omega arith) (z .1) in
-      sym (hand-eq (handIn m b) h (ap (λ (x : Head). x .fields) (head-back (headFor h) b (p .0)))
+      sym (hand-eq (handAt m b) h (ap (λ (x : Head). x .fields) (head-back (headFor h) b (p .0)))
       (ap (λ (l : List ℕ). record { m = m; melds = l; concealed = fill 13 (tilesOf 25 m b) }) em
       ∙ ap (λ (l : List ℕ). record { m = m; melds = h .held .melds; concealed = l }) et))
+      ∙ sym (hand-at m b)
 
   pub same-hand : readOf (recordOf h) ≡ soundAs h
   same-hand =

@@ -9,7 +9,9 @@ use Rattle.bits.specs.laws.Pack.{length-fill, length-bitsOf, length-unpack, unp
 use Rattle.hand.specs.declared.Hand.{Hand}
 use Rattle.hand.specs.Refusals.{unwritable}
 use Rattle.hand_record.specs.declared.HandRead.{HandRead}
-use Rattle.hand_record.specs.Record.{sixes, refusalIn, handOf, readOf, recordOf, countIn, handIn, heldIn, meldsOf, tilesOf, IsSound, IsHand}
+use Rattle.hand_record.specs.Record.{sixes, refusalIn, handOf, readOf, recordOf, countIn, handIn, IsSound, IsHand}
+use Rattle.hand_record.specs.search.Offsets.{heldIn, meldsOf, tilesOf}
+use Rattle.hand_record.specs.laws.Offsets.{hand-at}
 use Rattle.hand_record.specs.laws.Read.{whole}
 use Rattle.hand_record.specs.laws.Clean.{Accepted, accepted-of}
 use Rattle.hand_record.specs.laws.Claims.{sound-read, read-sound, is-read}
@@ -27,7 +29,7 @@ module _ (s : List ℕ) (y : IsSound s) where
   read-accepted = subst (λ (x : Hand). Accepted x) is-h (accepted-of h (accepted-back s h (is-read s (sound-read s y))))
 
   pub read-is-hand : IsHand (handOf (readOf s))
-  unfolding handIn heldIn meldsOf tilesOf
+  unfolding heldIn meldsOf tilesOf
   read-is-hand =
       let f = is-read s (sound-read s y) .right-length in
       let m : ℕ = countIn s in
@@ -37,7 +39,7 @@ module _ (s : List ℕ) (y : IsSound s) where
       let lt : length (tilesOf 25 m b) ≡ 13 - 3 * m = length-unpack (sixes (13 - 3 * m)) (drop (25 + 8 * m) b) ∙ length-replicate (13 - 3 * m) 6 in
       let room : 8 * m ≤ length (drop 25 b) = omega (arith, length-drop 25 b, length-bitsOf s, f) in
       let fits = unpack-fit (eights m) (drop 25 b) (below-drop 2 25 b (below-pack (eights (length s)) s)) (omega (arith, sum-replicate m 8)) in
-      subst (λ (x : Hand). IsHand x) is-h (record {
+      subst (λ (x : Hand). IsHand x) (sym (hand-at m b) ∙ is-h) (record {
         melds = length-fill 4 (meldsOf 25 m b) (omega (arith, f));
         concealed = length-fill 13 (tilesOf 25 m b) (omega arith);
         bytes = below-fill 256 4 (meldsOf 25 m b) (λ k. eight m k _ (fits k));

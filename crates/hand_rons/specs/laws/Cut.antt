@@ -13,12 +13,8 @@ use Rattle.hand_record.specs.Record.{lengthOf, countIn, refusalIn, readOf}
 use Rattle.hand_record.specs.Lengths.{recordLength}
 use Rattle.hand_record.specs.laws.Lengths.{record-short, record-inside, whole-length, broken-unreadable, broken-left}
 use Rattle.hand_rons.specs.declared.First.{First}
-use Rattle.hand_rons.specs.Records.{handFor, recordsOf, firstUnreadable}
+use Rattle.hand_rons.specs.Records.{handFor, recordsOf, firstUnreadable, cutOf, IsFirst}
 use Rattle.hand_rons.specs.laws.OneTile.{Read}
-
--- of n records the last is all that is left, another as long as its m says; 0 where it is broken
-unfoldable pub cutOf : ℕ → List ℕ → ℕ
-cutOf n s = cond (eqb n 1) (length s) (recordLength s)
 
 -- the first record, and the bytes of the others
 abbrev firstOf : ℕ → List ℕ → List ℕ
@@ -68,14 +64,6 @@ cut-unreadable (suc (suc n)) s p z = rw (broken-unreadable s (omega (arith, cut-
 -- no bytes are Read's 1
 none-unreadable : (s : List ℕ) (k : ℕ) → k ≡ 0 → refusalIn (readOf (take k s) .answer) ≡ 1
 none-unreadable s k z = ap (λ (i : ℕ). refusalIn (readOf (take i s) .answer)) z ∙ broken-left [] (record-short [] (omega arith))
-
--- the first of n records and where it ends, or its refusal
-pub record IsFirst (n : ℕ) (s : List ℕ) (r : First) : Type 0 where
-  pub refused : 0 < r .refusal → firstUnreadable (recordsOf n s) ≡ r .refusal
-  pub inside : r .end ≤ length s
-  pub reads : r .refusal ≡ 0 → Read (take (r .end) s)
-  pub hand : r .refusal ≡ 0 → r .hand ≡ handFor (take (r .end) s)
-  pub others : r .refusal ≡ 0 → recordsOf n s ≡ take (r .end) s ∷ recordsOf (n - 1) (drop (r .end) s)
 
 -- so many records, the first of them k bytes long
 module _ (n : ℕ) (s : List ℕ) (p : 0 < n) (k : ℕ) (e : k ≡ cutOf n s) where

@@ -11,9 +11,8 @@ use Rattle.hand.specs.declared.Fields.{Fields}
 use Rattle.hand.specs.declared.Hand.{Hand}
 use Rattle.hand.specs.Hand.{isRon}
 use Rattle.hand_rons.specs.declared.First.{First}
-use Rattle.hand_rons.specs.Records.{handFor, recordsOf, firstUnreadable, conflict, conflicts, notOnOneTile, isWinner}
+use Rattle.hand_rons.specs.Records.{handFor, recordsOf, firstUnreadable, conflict, conflicts, notOnOneTile, isWinner, IsFirst}
 use Rattle.hand_rons.specs.laws.OneTile.{records-length}
-use Rattle.hand_rons.specs.laws.Cut.{IsFirst}
 
 -- ---- the array is filled
 

@@ -1,7 +1,7 @@
 -- Lengths and offsets given out, against those given.
 use mathlib.Core.Path.{_≡_, refl, ap, _∙_}
 use mathlib.Core.Bool.{Bool, true, false, cond}
-use mathlib.Core.List.{List, [], _∷_}
+use mathlib.Core.List.{List}
 use Prim.Native.Nat.{ℕ, _≤_}
 use native.Mathlib.Omega.{arith}
 use borrow.Author.Tests.{ltb-true, ltb-false, leb-true, leb-false}
@@ -12,8 +12,10 @@ use Rattle.hand.specs.Refusals.{unwritable}
 use Rattle.hand_record.specs.declared.Written.{Written}
 use Rattle.hand_record.specs.Record.{lengthOf, writeRefusal, writtenOf}
 use Rattle.text.specs.Text.{lengthIn}
-use Rattle.log.specs.Log.{partAt, refusalAt, partsOf}
-use Rattle.log.specs.laws.Next.{part-inside, none-empty, none-left}
+use Rattle.log.specs.Next.{Next, end, entry, bad}
+use Rattle.log.specs.Log.{nextOf, partIn, partAt}
+use Rattle.log.specs.laws.Parts.{none-empty}
+use Rattle.log.specs.laws.Next.{part-inside, none-left}
 use Rattle.log.specs.laws.Walk.{parts-none}
 use Rattle.log_walk.specs.declared.Walk.{Walk}
 use Rattle.log_walk.specs.declared.Printed.{Printed}
@@ -42,13 +44,14 @@ written-within h buf = go (ltb 0 (writeRefusal h buf)) refl
     go true e = omega arith
     go false e = fits h buf e
 
-entry-length : (part : List ℕ) (refusal : ℕ) → nextEntryBy part refusal .length ≡ length part
-entry-length [] refusal = refl
-entry-length (x ∷ part) refusal = refl
+entry-length : (n : Next) → nextEntryBy n .length ≡ length (partIn n)
+entry-length end = refl
+entry-length (entry x) = refl
+entry-length bad = refl
 
 pub entry-within : (log : List ℕ) (at : ℕ) → nextEntryOf log at .length ≤ length log
-unfolding nextEntryOf
-entry-within log at = omega (arith, entry-length (partAt log at) (refusalAt log at), part-inside log at)
+unfolding nextEntryOf partAt
+entry-within log at = let p : length (partAt log at) ≤ length log = omega (arith, part-inside log at) in omega (arith, entry-length (nextOf log at), p)
 
 pub line-within : (buf line : List ℕ) → lengthIn buf line ≤ length buf
 line-within buf line = go (leb (length line) (length buf)) refl

@@ -2,9 +2,9 @@
 use mathlib.Core.Path.{refl, sym, ap, _∙_}
 use native.Mathlib.Omega.{arith}
 use borrow.Author.Needs.{needs}
-use Rattle.log.specs.Kinds.{withHeader}
+use Rattle.log.specs.search.Lengths.{withHeader}
 use Rattle.log.specs.laws.Lengths.{kind-none, correction-argument, correction-under, correction-over, correction-inside, by-most}
-use Rattle.log.specs.laws.Next.{length-by-header}
+use Rattle.log.specs.laws.Parts.{length-by-header}
 use Rattle.log.proofs.correction_length.Statement.{statement}
 use Rattle.log.proofs.correction_length.Tie as tie
 

@@ -2,7 +2,7 @@
 use mathlib.Core.Path.{sym}
 use native.Mathlib.Omega.{arith}
 use borrow.Author.Needs.{needs}
-use Rattle.log.specs.laws.Next.{none-empty, length-by-header, correction-by-header}
+use Rattle.log.specs.laws.Parts.{none-empty, length-by-header, correction-by-header}
 use Rattle.log.proofs.entry_length.Statement.{statement}
 use Rattle.log.proofs.entry_length.Tie as tie
 

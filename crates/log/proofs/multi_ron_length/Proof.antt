@@ -2,7 +2,7 @@
 use mathlib.Core.Path.{sym, ap, _∙_}
 use native.Mathlib.Omega.{arith}
 use borrow.Author.Needs.{needs}
-use Rattle.log.specs.Kinds.{withHeader}
+use Rattle.log.specs.search.Lengths.{withHeader}
 use Rattle.log.specs.laws.Records.{records-inside}
 use Rattle.log.specs.laws.Lengths.{multi-ron-none, multi-ron-over, multi-ron-records}
 use Rattle.log.proofs.multi_ron_length.Statement.{statement}

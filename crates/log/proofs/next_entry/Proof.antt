@@ -5,8 +5,9 @@ use Prim.Native.Nat.{ℕ}
 use native.Mathlib.Omega.{arith}
 use lib.ListN.{drop, length-drop}
 use borrow.Author.Needs.{needs}
-use Rattle.log.specs.Kinds.{entryLength}
-use Rattle.log.specs.laws.Next.{from-on, length-inside, part-past, part-is}
+use Rattle.log.specs.search.Lengths.{entryLength}
+use Rattle.log.specs.laws.Parts.{from-on, length-inside}
+use Rattle.log.specs.laws.Next.{part-past, part-is}
 use Rattle.log.proofs.next_entry.Statement.{statement}
 use Rattle.log.proofs.next_entry.Tie as tie
 

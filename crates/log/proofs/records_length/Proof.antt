@@ -7,9 +7,9 @@ use lib.ListN.{length, drop, length-drop}
 use borrow.Author.Needs.{needs}
 use Rattle.hand_record.specs.Lengths.{recordLength}
 use Rattle.hand_record.specs.laws.Lengths.{record-inside}
-use Rattle.log.specs.Kinds.{recordsLength}
+use Rattle.log.specs.search.Lengths.{recordsLength}
 use Rattle.log.specs.laws.Records.{lengthFrom, from-start, from-end, from-broken, turn-at}
-use Rattle.log.specs.laws.Next.{from-on}
+use Rattle.log.specs.laws.Parts.{from-on}
 use Rattle.log.proofs.records_length.Statement.{statement}
 use Rattle.log.proofs.records_length.Tie as tie
 

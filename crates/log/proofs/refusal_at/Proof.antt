@@ -2,9 +2,9 @@
 use mathlib.Core.Path.{_≡_, sym, ap, _∙_}
 use lib.ListN.{drop}
 use borrow.Author.Needs.{needs}
-use Rattle.log.specs.Kinds.{entryLength}
-use Rattle.log.specs.laws.Refusals.{refusal-end, refusal-bad, refusal-entry}
-use Rattle.log.specs.laws.Next.{from-on}
+use Rattle.log.specs.search.Lengths.{entryLength}
+use Rattle.log.specs.laws.Next.{refusal-end, refusal-bad, refusal-entry}
+use Rattle.log.specs.laws.Parts.{from-on}
 use Rattle.log.proofs.refusal_at.Statement.{statement}
 use Rattle.log.proofs.refusal_at.Tie as tie
 
@@ -25,4 +25,4 @@ refusal-at-spec =
     (λ c. sym (refusal-bad (c .before .before .before .before .before .args .log .now) (c .before .before .before .before .before .args .at)
     (c .before .before .before .if1 .left) (sym (length-is (c .before)) ∙ c .if2 .taken)))
     (λ c. sym (refusal-entry (c .before .before .before .before .before .args .log .now) (c .before .before .before .before .before .args .at)
-    (c .before .before .before .if1 .left) (λ z. c .if2 .left (length-is (c .before) ∙ z)))))
+    (λ z. c .if2 .left (length-is (c .before) ∙ z)))))

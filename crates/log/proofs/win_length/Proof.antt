@@ -3,7 +3,7 @@ use mathlib.Core.Path.{sym, ap, _∙_}
 use native.Mathlib.Omega.{arith}
 use borrow.Author.Needs.{needs}
 use Rattle.hand_record.specs.laws.Lengths.{record-inside}
-use Rattle.log.specs.Kinds.{withHeader}
+use Rattle.log.specs.search.Lengths.{withHeader}
 use Rattle.log.specs.laws.Lengths.{win-argument, win-record}
 use Rattle.log.proofs.win_length.Statement.{statement}
 use Rattle.log.proofs.win_length.Tie as tie

@@ -1,22 +1,20 @@
--- How long an entry of each kind is, case by case; what n bytes of an entry tell; and that a bad one has none.
+-- How long an entry of each kind is, case by case, and what n bytes of an entry tell.
 use mathlib.Core.Path.{_≡_, refl, ap, _∙_}
 use mathlib.Core.Bool.{Bool, true, false, _&&_, _||_, and-false, cond}
-use mathlib.Core.Logic.{_⊎_, inl, inr, ⊎-elim}
+use mathlib.Core.Logic.{_⊎_, inl, inr}
 use mathlib.Core.List.{List, [], _∷_}
 use Prim.Native.Nat.{ℕ, zero, suc, _+_, _%_, _≤_, _<_}
 use native.Mathlib.Omega.{arith}
-use borrow.Author.Tests.{ltb-true, ltb-false, leb-true, leb-false, lt-ltb, le-ltb, le-leb, lt-leb, eq-eqb, ne-eqb, eqb-true, eqb-false}
+use borrow.Author.Tests.{ltb-false, leb-true, leb-false, lt-ltb, le-ltb, le-leb, lt-leb, eq-eqb, ne-eqb, eqb-true, eqb-false}
 use lib.Dec.{ltb, leb, eqb}
-use lib.ListN.{length, getD, take, drop}
+use lib.ListN.{length, getD, drop}
 use Rattle.tiles.specs.laws.Below.{or-both, and-true}
 use Rattle.hand_record.specs.Record.{countIn, lengthOf}
 use Rattle.hand_record.specs.Lengths.{isBroken, recordLength}
 use Rattle.hand_record.specs.laws.Lengths.{unbroken, broken-or-whole}
-use Rattle.log.specs.Kinds.{kindIn, argumentIn, hasBroken, spanOf, recordsLength, isOtherForm, withHeader, winLength, multiRonLength, paoLength}
-use Rattle.log.specs.Kinds.{lengthBy, correctionLength, entryLength}
-use Rattle.log.specs.Log.{refusalAt}
-use Rattle.log.specs.laws.Records.{all-unbroken, record-again, records-again}
-use Rattle.log.specs.laws.Refusals.{bad-length}
+use Rattle.log.specs.search.Lengths.{kindIn, argumentIn, hasBroken, spanOf, recordsLength, isOtherForm, withHeader, winLength, multiRonLength, paoLength}
+use Rattle.log.specs.search.Lengths.{lengthBy, correctionLength, entryLength}
+use Rattle.log.specs.laws.Records.{all-unbroken}
 
 -- the byte of a pao
 pub pao-form : (s : List ℕ) → isOtherForm s ≡ false → (1 ≤ length s) × (getD s 0 0 % 8 ≤ 0)
@@ -30,11 +28,6 @@ with-header-none n e = simp (eq-eqb n 0 e)
 pub with-header-some : (n : ℕ) → (n ≡ 0 → ⊥) → withHeader n ≡ n + 1
 with-header-some n h = simp (ne-eqb n 0 h)
 
--- 0 whatever a test says
-no-length : (t : Bool) → _≡_ {A = ℕ} (cond t 0 0) 0
-no-length true = refl
-no-length false = refl
-
 module _ (a : ℕ) (rest : List ℕ) where
   -- a win
   pub win-argument : (a ≡ 0 → ⊥) → winLength a rest ≡ 0
@@ -42,15 +35,6 @@ module _ (a : ℕ) (rest : List ℕ) where
 
   pub win-record : a ≡ 0 → winLength a rest ≡ withHeader (recordLength rest)
   win-record e = rw (eq-eqb a 0 e)
-
-  -- and where the record is broken, or stands alone
-  win-broken : isBroken rest ≡ true → winLength a rest ≡ 0
-  unfolding recordLength
-  win-broken e = rw e (no-length (eqb a 0))
-
-  pub win-again : a ≡ 0 → isBroken rest ≡ false → let n = lengthOf (countIn rest) in winLength a (take n rest) ≡ n + 1
-  win-again z e =
-      let n = lengthOf (countIn rest) in rw (eq-eqb a 0 z, record-again rest n e (omega arith)) (with-header-some n (λ z. omega (arith, z, unbroken rest e)))
 
   -- two or three rons
   pub multi-ron-none : a ≡ 0 → multiRonLength a rest ≡ 0
@@ -62,22 +46,9 @@ module _ (a : ℕ) (rest : List ℕ) where
   pub multi-ron-records : (a ≡ 0 → ⊥) → a ≤ 3 → multiRonLength a rest ≡ withHeader (recordsLength a rest)
   multi-ron-records h l = simp (ne-eqb a 0 h, le-ltb 3 a l)
 
-  -- and where one is broken, or they stand alone
-  multi-ron-broken : hasBroken a rest ≡ true → multiRonLength a rest ≡ 0
-  unfolding recordsLength
-  multi-ron-broken e = rw e (no-length (eqb a 0 || ltb 3 a))
-
-  pub multi-ron-again : 0 < a → a ≤ 3 → hasBroken a rest ≡ false → let n = spanOf a rest in multiRonLength a (take n rest) ≡ n + 1
-  multi-ron-again p o e =
-      let n = spanOf a rest in
-      rw (ne-eqb a 0 (λ z. omega (arith, p, z)), le-ltb 3 a o, records-again a rest e) (with-header-some n (λ z. omega (arith, p, z, all-unbroken a rest e)))
-
   -- a pao
   pub pao-argument : (a ≡ 0 → ⊥) → paoLength a rest ≡ 0
   pao-argument h = rw (ne-eqb a 0 h)
-
-  pao-other : isOtherForm rest ≡ true → paoLength a rest ≡ 0
-  pao-other e = rw e (no-length (eqb a 0))
 
   pub pao-missing : a ≡ 0 → length rest < 1 → paoLength a rest ≡ 0
   pao-missing e h = simp (eq-eqb a 0 e, lt-ltb (length rest) 1 h)
@@ -170,20 +141,9 @@ module _ (a : ℕ) (rest : List ℕ) where
 
 -- ---- what n bytes of an entry tell
 
--- "kind over 3, win argument not 0, m over 4, or bytes missing", of a kind, an argument and the bytes after the header;
--- S-6: of kind 4 "an argument of 0 or over 3, a record with m over 4, or missing bytes"; S-8: kind 5 in "any other form";
--- S-10: of kind 6 "another argument or another kind of entry inside", or what is 14 of that
-abbrev pub IsBad : ℕ → ℕ → List ℕ → Type 0
-IsBad k a rest =
-    (6 < k)
-    ⊎ ((k ≡ 1) × ((a ≡ 0 → ⊥) ⊎ (isBroken rest ≡ true)))
-    ⊎ ((k ≡ 4) × ((a ≡ 0) ⊎ (3 < a) ⊎ (hasBroken a rest ≡ true)))
-    ⊎ ((k ≡ 5) × ((a ≡ 0 → ⊥) ⊎ (isOtherForm rest ≡ true)))
-    ⊎ ((k ≡ 6) × ((a ≡ 0 → ⊥) ⊎ (kindIn rest < 1) ⊎ (4 < kindIn rest) ⊎ (refusalAt rest 0 ≡ 14)))
-
 -- n bytes of an entry: none, a win's, those of a multiple ron, a pao's, a header, or one and the entry inside a correction
 pub data Told (k a : ℕ) (rest : List ℕ) (n : ℕ) : Type 0 where
-  bad : IsBad k a rest → n ≡ 0 → Told k a rest n
+  bad : n ≡ 0 → Told k a rest n
   won : k ≡ 1 → a ≡ 0 → isBroken rest ≡ false → n ≡ lengthOf (countIn rest) + 1 → Told k a rest n
   multiRon : k ≡ 4 → 0 < a → a ≤ 3 → hasBroken a rest ≡ false → n ≡ spanOf a rest + 1 → Told k a rest n
   pao : k ≡ 5 → a ≡ 0 → isOtherForm rest ≡ false → n ≡ 2 → Told k a rest n
@@ -195,14 +155,14 @@ told-win a rest = go (eqb a 0) refl
   where
     both : a ≡ 0 → ((isBroken rest ≡ true) × (recordLength rest ≡ 0)) ⊎ ((isBroken rest ≡ false) × (recordLength rest ≡ lengthOf (countIn rest)))
         → Told 1 a rest (winLength a rest)
-    both e (inl b) = bad (inr (inl (refl, inr (b .0)))) (win-record a rest e ∙ with-header-none (recordLength rest) (b .1))
+    both e (inl b) = bad (win-record a rest e ∙ with-header-none (recordLength rest) (b .1))
     both e (inr u) =
         won refl e (u .0) (win-record a rest e ∙ with-header-some (recordLength rest) (λ z. omega (arith, z, u .1, unbroken rest (u .0)))
         ∙ ap (λ (n : ℕ). n + 1) (u .1))
 
     go : (t : Bool) → eqb a 0 ≡ t → Told 1 a rest (winLength a rest)
     go true e = both (eqb-true a 0 e) (broken-or-whole rest)
-    go false e = bad (inr (inl (refl, inl (eqb-false a 0 e)))) (win-argument a rest (eqb-false a 0 e))
+    go false e = bad (win-argument a rest (eqb-false a 0 e))
 
 told-multi-ron : (a : ℕ) (rest : List ℕ) → Told 4 a rest (multiRonLength a rest)
 unfolding recordsLength
@@ -210,9 +170,9 @@ told-multi-ron a rest = go (eqb a 0) refl (ltb 3 a) refl (hasBroken a rest) refl
   where
     go : (z : Bool) → eqb a 0 ≡ z → (o : Bool) → ltb 3 a ≡ o → (b : Bool) → hasBroken a rest ≡ b
         → Told 4 a rest (cond (z || o) 0 (withHeader (cond b 0 (spanOf a rest))))
-    go true e o f b g = bad (inr (inr (inl (refl, inl (eqb-true a 0 e))))) refl
-    go false e true f b g = bad (inr (inr (inl (refl, inr (inl (ltb-true 3 a f)))))) refl
-    go false e false f true g = bad (inr (inr (inl (refl, inr (inr g))))) refl
+    go true e o f b g = bad refl
+    go false e true f b g = bad refl
+    go false e false f true g = bad refl
     go false e false f false g =
         let n = eqb-false a 0 e in
         let p : 0 < a = omega (arith, n) in
@@ -222,22 +182,20 @@ told-pao : (a : ℕ) (rest : List ℕ) → Told 5 a rest (paoLength a rest)
 told-pao a rest = go (eqb a 0) refl (isOtherForm rest) refl
   where
     go : (t : Bool) → eqb a 0 ≡ t → (o : Bool) → isOtherForm rest ≡ o → Told 5 a rest (cond t (cond o 0 2) 0)
-    go true e true f = bad (inr (inr (inr (inl (refl, inr f))))) refl
+    go true e true f = bad refl
     go true e false f = pao refl (eqb-true a 0 e) f refl
-    go false e o f = bad (inr (inr (inr (inl (refl, inl (eqb-false a 0 e)))))) refl
+    go false e o f = bad refl
 
 told-correction : (a : ℕ) (rest : List ℕ) → Told 6 a rest (correctionLength a rest)
 told-correction a rest = go (eqb a 0) refl (leb 1 (kindIn rest)) refl (leb (kindIn rest) 4) refl (eqb (entryLength rest) 0) refl
   where
     go : (z : Bool) → eqb a 0 ≡ z → (l : Bool) → leb 1 (kindIn rest) ≡ l → (h : Bool) → leb (kindIn rest) 4 ≡ h → (n : Bool) → eqb (entryLength rest) 0 ≡ n
         → Told 6 a rest (correctionLength a rest)
-    go false e l f h g n i = let z = eqb-false a 0 e in bad (inr (inr (inr (inr (refl, inl z))))) (correction-argument a rest z)
-    go true e false f h g n i = let k = leb-false 1 (kindIn rest) f in bad (inr (inr (inr (inr (refl, inr (inl k)))))) (correction-under a rest k)
-    go true e true f false g n i = let k = leb-false (kindIn rest) 4 g in bad (inr (inr (inr (inr (refl, inr (inr (inl k))))))) (correction-over a rest k)
+    go false e l f h g n i = bad (correction-argument a rest (eqb-false a 0 e))
+    go true e false f h g n i = bad (correction-under a rest (leb-false 1 (kindIn rest) f))
+    go true e true f false g n i = bad (correction-over a rest (leb-false (kindIn rest) 4 g))
     go true e true f true g true i =
-        let l = leb-true 1 (kindIn rest) f in
-        let n = eqb-true (entryLength rest) 0 i in
-        bad (inr (inr (inr (inr (refl, inr (inr (inr (bad-length rest 0 .1 (kind-some rest l, n))))))))) (correction-bad a rest n)
+        bad (correction-bad a rest (eqb-true (entryLength rest) 0 i))
     go true e true f true g false i =
         let l = leb-true 1 (kindIn rest) f in
         let h = leb-true (kindIn rest) 4 g in
@@ -254,15 +212,14 @@ told-by (suc (suc (suc (suc zero)))) a rest n = rw (length-multi-ron a rest 4 re
 told-by (suc (suc (suc (suc (suc zero))))) a rest n = rw (length-pao a rest 5 refl) (told-pao a rest)
 told-by (suc (suc (suc (suc (suc (suc zero)))))) a rest n = absurd (n refl)
 told-by (suc (suc (suc (suc (suc (suc (suc k))))))) a rest n =
-    let h : 6 < suc (suc (suc (suc (suc (suc (suc k)))))) = omega arith in
-    bad (inl h) (length-over a rest _ (omega arith))
+    bad (length-over a rest _ (omega arith))
 
 -- it is 40 bytes at most
 pub by-most : (k a : ℕ) (rest : List ℕ) → (k ≡ 6 → ⊥) → lengthBy k a rest ≤ 40
 by-most k a rest n = go (told-by k a rest n)
   where
     go : Told k a rest (lengthBy k a rest) → lengthBy k a rest ≤ 40
-    go (bad b e) = omega (arith, e)
+    go (bad e) = omega (arith, e)
     go (won w z u e) = omega (arith, e, unbroken rest u)
     go (multiRon w p o u e) = omega (arith, e, o, all-unbroken a rest u)
     go (pao w z u e) = omega (arith, e)
@@ -287,32 +244,3 @@ module _ (s : List ℕ) (some : 0 < length s) where
       go : (b : Bool) → eqb kind 6 ≡ b → Told kind argument rest (entryLength s)
       go true e = let k = eqb-true kind 6 e in rw (length-correction s some k, k) (told-correction argument rest)
       go false e = let k = eqb-false kind 6 e in rw (length-is s some k) (told-by kind argument rest k)
-
-  -- it has no bytes where it is bad, and nowhere else
-  pub zero-bad : entryLength s ≡ 0 → IsBad kind argument rest
-  zero-bad z = go told
-    where
-      go : Told kind argument rest (entryLength s) → IsBad kind argument rest
-      go (bad b e) = b
-      go (won k a u e) = absurd (omega (arith, e, z))
-      go (multiRon k p o u e) = absurd (omega (arith, e, z))
-      go (pao k a u e) = absurd (omega (arith, e, z))
-      go (plain k h e) = absurd (omega (arith, e, z))
-      go (corrected k a l h p e) = absurd (omega (arith, e, z))
-
-  -- of kind 5 at most, by that kind's law
-  by-kind : {n : ℕ} (k : ℕ) → kind ≡ k → k ≤ 5 → lengthBy kind argument rest ≡ n → entryLength s ≡ n
-  by-kind k e l h = length-is s some (λ x. omega (arith, x, e, l)) ∙ h
-
-  pub bad-zero : IsBad kind argument rest → entryLength s ≡ 0
-  bad-zero (inl o) = length-is s some (λ k. omega (arith, o, k)) ∙ length-over argument rest kind (omega (arith, o))
-  bad-zero (inr (inl (k, b))) = by-kind 1 k (omega arith) (length-win argument rest kind k ∙ ⊎-elim (win-argument argument rest) (win-broken argument rest) b)
-  bad-zero (inr (inr (inl (k, b)))) =
-      by-kind 4 k (omega arith) (length-multi-ron argument rest kind k
-      ∙ ⊎-elim (multi-ron-none argument rest) (⊎-elim (multi-ron-over argument rest) (multi-ron-broken argument rest)) b)
-  bad-zero (inr (inr (inr (inl (k, b))))) =
-      by-kind 5 k (omega arith) (length-pao argument rest kind k ∙ ⊎-elim (pao-argument argument rest) (pao-other argument rest) b)
-  bad-zero (inr (inr (inr (inr (k, b))))) =
-      length-correction s some k
-      ∙ ⊎-elim (correction-argument argument rest)
-      (⊎-elim (correction-under argument rest) (⊎-elim (correction-over argument rest) (λ r. correction-bad argument rest (bad-length rest 0 .0 r .1)))) b

@@ -1,19 +1,21 @@
--- Records end to end: how long they are, case by case, and what those of the right length are.
+-- Records end to end: how long they are, case by case; that those found are whole, and that whole ones are found, whatever follows.
 use mathlib.Core.Path.{_≡_, refl, sym, ap, _∙_, subst}
 use mathlib.Core.Bool.{Bool, true, false, cond}
-use mathlib.Core.List.{List, [], _∷_, _++_}
+use mathlib.Core.List.{List, [], _∷_, _++_, append-assoc}
 use Prim.Native.Nat.{ℕ, zero, suc, _+_, _*_, _-_, _≤_, _<_}
 use native.Mathlib.Nat.{add-zero}
 use native.Mathlib.Omega.{arith}
-use lib.ListN.{length, getD, take, drop, length-take, length-drop}
-use lib.Seq.{length-take-le, take-take, take-add, drop-at, drop-drop}
+use lib.ListN.{length, take, drop, length-append, length-take, length-drop, take-append-drop}
+use lib.Seq.{length-take-le, take-take, take-add, take-append-seam, drop-append-le, drop-at, drop-drop}
 use Rattle.tiles.specs.laws.Below.{or-both}
-use Rattle.hand_record.specs.Record.{countIn, lengthOf, wrongLength}
+use Rattle.hand_record.specs.Record.{countIn, lengthOf}
 use Rattle.hand_record.specs.Lengths.{isBroken, recordLength}
+use Rattle.hand_record.specs.laws.Read.{length-of}
 use Rattle.hand_record.specs.laws.Lengths.{unbroken, record-whole, length-zero, length-some, count-take, record-length}
 use Rattle.hand_rons.specs.Records.{recordsOf}
-use Rattle.log.specs.Kinds.{hasBroken, spanOf, recordsLength}
-use Rattle.log.specs.Log.{laid}
+use Rattle.reading.specs.All.{Each, none, also}
+use Rattle.log.specs.Entry.{IsWhole}
+use Rattle.log.specs.search.Lengths.{hasBroken, spanOf, recordsLength}
 
 -- ---- how long they are
 
@@ -89,56 +91,71 @@ module _ (n : ℕ) (s : List ℕ) (e : isBroken s ≡ false) where
   the-rest : drop L (take (L + m) s) ≡ take m (drop L s)
   the-rest = ap (drop L) (take-add L m s) ∙ drop-at (take L s) (take m (drop L s)) L (length-take-le L s (unbroken s e .3))
 
--- where nothing stands after them they are as long
-pub record-again : (s : List ℕ) (n : ℕ) → isBroken s ≡ false → lengthOf (countIn s) ≤ n → recordLength (take n s) ≡ lengthOf (countIn s)
-record-again s n e h =
-    let u = unbroken s e in
-    let l = length-take n s in
-    let c = count-take s n (omega arith) (omega arith) in
-    let b = ap lengthOf c in
-    record-whole (take n s) (omega arith) (omega arith) (omega arith) ∙ b
-
-records-kept : (n : ℕ) (s : List ℕ) → hasBroken n s ≡ false → (hasBroken n (take (spanOf n s) s) ≡ false) × (spanOf n (take (spanOf n s) s) ≡ spanOf n s)
-unfolding hasBroken spanOf
-records-kept zero s e = (refl, refl)
-records-kept (suc n) s e =
-    let p = or-both (isBroken s) (hasBroken n (drop (lengthOf (countIn s)) s)) e in
-    let r = records-kept n (drop (lengthOf (countIn s)) s) (p .1) in
-    let a = record-again s (L n s (p .0) + m n s (p .0)) (p .0) (omega arith) in
-    let b = length-some (take (L n s (p .0) + m n s (p .0)) s) (λ z. omega (arith, a, z, unbroken s (p .0))) .0 in
-    (rw (b, same-count n s (p .0), the-rest n s (p .0)) (r .0), rw (same-count n s (p .0), the-rest n s (p .0), r .1))
-
-pub records-again : (n : ℕ) (s : List ℕ) → hasBroken n s ≡ false → recordsLength n (take (spanOf n s) s) ≡ spanOf n s
-unfolding recordsLength
-records-again n s e = let k = records-kept n s e in rw (k .0) (k .1)
-
 first-and-rest : (n : ℕ) (s : List ℕ) (e : isBroken s ≡ false)
     → recordsOf (suc n) (take (L n s e + m n s e) s) ≡ take (L n s e) s ∷ recordsOf n (take (m n s e) (drop (L n s e) s))
 unfolding recordsOf spanOf
 first-and-rest zero s e = let z : L 0 s e + 0 ≡ L 0 s e = omega arith in ap (λ (k : ℕ). take k s ∷ []) z
 first-and-rest (suc n) s e = rw (same-count (suc n) s e, take-take (L (suc n) s e) (L (suc n) s e + m (suc n) s e) s (omega arith), the-rest (suc n) s e)
 
--- of a first one and n more each has the length that Read wants
-at-each : (n : ℕ) (r : List ℕ) (rs : List (List ℕ)) → wrongLength (length r) (countIn r) ≡ false
-    → ((k : ℕ) → k < n → wrongLength (length (getD rs k [])) (countIn (getD rs k [])) ≡ false) → (k : ℕ) → k < suc n
-    → wrongLength (length (getD (r ∷ rs) k [])) (countIn (getD (r ∷ rs) k [])) ≡ false
-at-each n r rs e h zero l = e
-at-each n r rs e h (suc k) l = h k (omega arith)
-
--- they are the bytes, n of them, each of the length that Read wants
-pub records-right : (n : ℕ) (s : List ℕ) → hasBroken n s ≡ false
-    → let rs = recordsOf n (take (spanOf n s) s) in (length rs ≡ n) × (laid rs ≡ take (spanOf n s) s)
-    × ((k : ℕ) → k < n → wrongLength (length (getD rs k [])) (countIn (getD rs k [])) ≡ false)
+-- those found: each is whole
+pub records-whole : (n : ℕ) (s : List ℕ) → hasBroken n s ≡ false → Each IsWhole (recordsOf n (take (spanOf n s) s))
 unfolding hasBroken spanOf recordsOf
-records-right zero s e = (refl, refl, λ k h. absurd (omega arith))
-records-right (suc n) s e =
+records-whole zero s e = none
+records-whole (suc n) s e =
     let L = lengthOf (countIn s) in
-    let m = spanOf n (drop L s) in
     let p = or-both (isBroken s) (hasBroken n (drop L s)) e in
-    let r = records-right n (drop L s) (p .1) in
-    let f = first-and-rest n s (p .0) in (
-      ap length f ∙ ap suc (r .0),
-      ap laid f ∙ ap (λ (l : List ℕ). take L s ++ l) (r .1) ∙ sym (take-add L m s),
-      λ k h. subst (λ (rs : List (List ℕ)). wrongLength (length (getD rs k [])) (countIn (getD rs k [])) ≡ false) (sym f)
-          (at-each n (take L s) (recordsOf n (take m (drop L s))) (record-length s (p .0)) (r .2) k h),
-    )
+    subst (Each IsWhole) (sym (first-and-rest n s (p .0))) (also (record-length s (p .0)) (records-whole n (drop L s) (p .1)))
+
+-- ---- whole ones, with bytes after them
+
+-- one
+pub whole-before : (s rest : List ℕ) → IsWhole s → (isBroken (s ++ rest) ≡ false) × (lengthOf (countIn (s ++ rest)) ≡ length s)
+whole-before s rest w =
+    let f = length-of (length s) (countIn s) w in
+    let four = f .four in
+    let few = f .few in
+    let l = length-append s rest in
+    let c : countIn s ≡ countIn (s ++ rest) = ap countIn (sym (take-append-seam s rest))
+    ∙ count-take (s ++ rest) (length s) four (omega (arith, l, four)) in
+    let n : lengthOf (countIn (s ++ rest)) ≡ length s = ap lengthOf (sym c) ∙ sym (f .right) in
+    let whole = record-whole (s ++ rest) (omega (arith, l, four)) (omega (arith, c, few)) (omega (arith, n, l)) in
+    (length-some (s ++ rest) (λ z. omega (arith, z, whole, n, four)) .0, n)
+
+pub record-before : (s rest : List ℕ) → IsWhole s → (recordLength (s ++ rest) ≡ length s) × (4 ≤ length s)
+unfolding recordLength
+record-before s rest w = let b = whole-before s rest w in (rw (b .0) (b .1), length-of (length s) (countIn s) w .four)
+
+-- the first of several, as long as its m says
+first-before : (s rest : List ℕ) → let L = lengthOf (countIn s) in IsWhole (take L s)
+    → (L ≤ length s) × (isBroken (s ++ rest) ≡ false) × (lengthOf (countIn (s ++ rest)) ≡ L)
+first-before s rest w =
+    let L = lengthOf (countIn s) in
+    let f = length-of (length (take L s)) (countIn (take L s)) w in
+    let four = f .four in
+    let t = length-take L s in
+    let c : countIn (take L s) ≡ countIn s = count-take s L (omega (arith, t, four)) (omega (arith, t, four)) in
+    let n : length (take L s) ≡ L = f .right ∙ ap lengthOf c in
+    let b = whole-before (take L s) (drop L s ++ rest) w in
+    let a : take L s ++ (drop L s ++ rest) ≡ s ++ rest = sym (append-assoc (take L s) (drop L s) rest)
+    ∙ ap (λ (x : List ℕ). x ++ rest) (take-append-drop L s) in
+    (omega (arith, t, n), ap isBroken (sym a) ∙ b .0, ap (λ (x : List ℕ). lengthOf (countIn x)) (sym a) ∙ b .1 ∙ n)
+
+-- n + 1 of them
+pub records-before : (n : ℕ) (s rest : List ℕ) → Each IsWhole (recordsOf (suc n) s)
+    → (hasBroken (suc n) (s ++ rest) ≡ false) × (spanOf (suc n) (s ++ rest) ≡ length s)
+unfolding hasBroken spanOf recordsOf
+records-before zero s rest (also w o) = let b = whole-before s rest w in (rw (b .0), rw (b .1) (omega arith))
+records-before (suc n) s rest (also w o) =
+    let L = lengthOf (countIn s) in
+    let b = first-before s rest w in
+    let d : drop L (s ++ rest) ≡ drop L s ++ rest = drop-append-le L s rest (b .0) in
+    let r = records-before n (drop L s) rest o in
+    (rw (b .1, b .2, d) (r .0), rw (b .2, d, r .1) (omega (arith, b .0, length-drop L s)))
+
+pub span-before : (n : ℕ) (s rest : List ℕ) → 0 < n → Each IsWhole (recordsOf n s) → (recordsLength n (s ++ rest) ≡ length s) × (4 ≤ length s)
+unfolding recordsLength
+span-before zero s rest h o = absurd (omega arith)
+span-before (suc n) s rest h o =
+    let b = records-before n s rest o in
+    let u = all-unbroken (suc n) (s ++ rest) (b .0) in
+    (rw (b .0) (b .1), omega (arith, u, b .1))

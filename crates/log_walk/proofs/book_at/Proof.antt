@@ -5,7 +5,8 @@ use native.Mathlib.Omega.{arith}
 use lib.ListN.{length}
 use Prim.Native.Nat.{_<_}
 use Rattle.log.specs.Log.{partAt}
-use Rattle.log.specs.Claims.{correction-entry}
+use Rattle.log.specs.laws.Exact.{correction-some}
+use Rattle.log.specs.laws.Next.{part-is-entry}
 use Rattle.log_walk.specs.laws.Turn.{step-none, step-entry}
 use Rattle.log_walk.proofs.book_at.Statement.{statement}
 use Rattle.log_walk.proofs.book_at.Tie as tie
@@ -23,8 +24,11 @@ book-part-requires c κs =
     let e = c .before in
     let n = e .before in
     let a = n .before .before .args in
-    let some : 0 < length (partAt (a .s .now) (a .at)) = rw (← n .next-entry .ensures) (omega (arith, e .if1 .left)) in
-    (omega (arith, e .if1 .left), λ k. rw (n .next-entry .ensures) (correction-entry (a .s .now) (a .at) some (rw (← n .next-entry .ensures) k) .3))
+    let some : 0 < length (partAt (a .s .now) (a .at)) = rw (← n .next-entry .ensures) (omega (arith, e .if1 .left)) in (
+      omega (arith, e .if1 .left),
+      λ k.
+          rw (n .next-entry .ensures) (correction-some (part-is-entry (a .s .now) (a .at) some) (rw (← n .next-entry .ensures) k)),
+    )
 
 returns-2 : tie.Need-returns-2
 returns-2 c =
@@ -33,7 +37,7 @@ returns-2 c =
     let e = b .before .before in
     let n = e .before in
     let a = n .before .before .args in
-    step-entry (a .g) (a .s .now) (a .at) _ (n .next-entry .ensures) (e .if1 .left) _ (c .letter .ensures ∙ rw (k .kind .ensures)) _ _ (b .book-part .ensures)
+    step-entry (a .g) (a .s .now) (a .at) _ (n .next-entry .ensures) (e .if1 .left) _ (rw (← k .kind .ensures) (c .letter .ensures)) _ _ (b .book-part .ensures)
 
 pub book-at-spec : {M : Type 1} → statement M
 book-at-spec =

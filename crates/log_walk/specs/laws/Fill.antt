@@ -8,9 +8,11 @@ use borrow.Author.Tests.{leb-true, leb-false, lt-ltb, le-ltb, le-leb, lt-leb, eq
 use lib.Dec.{ltb, leb, eqb}
 use lib.ListN.{length, take, drop, length-append, length-drop, take-append-drop}
 use lib.Seq.{length-take-le, take-append-seam, drop-append-seam, drop-drop}
-use Rattle.log.specs.Kinds.{letterOf, kindIn}
-use Rattle.log.specs.Log.{partAt, partsOf}
-use Rattle.log.specs.laws.Next.{from-on, none-empty, none-left}
+use Rattle.log.specs.Entry.{letterOf}
+use Rattle.log.specs.Next.{LogEntry}
+use Rattle.log.specs.Log.{entriesOf}
+use Rattle.log.specs.laws.Parts.{from-on, none-empty}
+use Rattle.log.specs.laws.Next.{none-left, entryAt}
 use Rattle.log.specs.laws.Walk.{parts-none}
 use Rattle.text.specs.Text.{digitsOf, spaced, lineOf, lengthIn, bufferWith}
 use Rattle.position.specs.declared.Position.{Position}
@@ -19,7 +21,7 @@ use Rattle.game.specs.Game.{gameRefusal, gameAfter}
 use Rattle.log_walk.specs.declared.Step.{Step}
 use Rattle.log_walk.specs.declared.Walk.{Walk}
 use Rattle.log_walk.specs.declared.Printed.{Printed}
-use Rattle.log_walk.specs.Walk.{entryOf, stepOf, entryLine, textFrom, textLeft, filled, linesOf}
+use Rattle.log_walk.specs.Walk.{stepOf, entryLine, textFrom, textLeft, filled, linesOf}
 use Rattle.log_walk.specs.laws.Turn.{no-parts, step-is, parts-are, inside}
 
 -- a line has a byte at least
@@ -64,15 +66,15 @@ rest-put n buf out =
 
 -- ---- the lines of parts
 
-module _ (room n : ℕ) (w : Walk) (p : List ℕ) (rest : List (List ℕ)) where
+module _ (room n : ℕ) (w : Walk) (p : LogEntry) (rest : List LogEntry) where
   abbrev pub gameNext : Game
-  gameNext = gameAfter (w .game) (entryOf p)
+  gameNext = gameAfter (w .game) (p .entry)
 
   abbrev pub lineNext : List ℕ
-  lineNext = entryLine (w .entry) (letterOf (kindIn p)) (gameRefusal (w .game) (entryOf p)) (gameNext .now)
+  lineNext = entryLine (w .entry) (letterOf (p .entry)) (gameRefusal (w .game) (p .entry)) (gameNext .now)
 
   abbrev pub walkNext : Walk
-  walkNext = record { game = gameNext; entry = w .entry + 1; at = w .at + length p }
+  walkNext = record { game = gameNext; entry = w .entry + 1; at = w .at + length (p .part) }
 
   pub filled-on : n + length lineNext ≤ room → (w .entry ≡ 4294967295 → ⊥) → filled room n w (p ∷ rest) ≡ filled room (n + length lineNext) walkNext rest
   unfolding filled
@@ -96,7 +98,7 @@ unfolding filled
 filled-none room n w = refl
 
 -- where every number is taken
-pub filled-max : (room n : ℕ) (w : Walk) (parts : List (List ℕ)) → w .entry ≡ 4294967295 → filled room n w parts ≡ record { written = n; walk = w }
+pub filled-max : (room n : ℕ) (w : Walk) (parts : List LogEntry) → w .entry ≡ 4294967295 → filled room n w parts ≡ record { written = n; walk = w }
 filled-max room n w [] e = filled-none room n w
 filled-max room n w (p ∷ rest) e = filled-last room n w p rest e
 
@@ -104,9 +106,9 @@ text-none : (j : ℕ) (k : Game) → textFrom j k [] ≡ []
 unfolding textFrom
 text-none j k = refl
 
-pub text-some : (j : ℕ) (k : Game) (p : List ℕ) (rest : List (List ℕ))
-    → textFrom j k (p ∷ rest) ≡ entryLine j (letterOf (kindIn p)) (gameRefusal k (entryOf p)) (gameAfter k (entryOf p) .now)
-    ++ textFrom (j + 1) (gameAfter k (entryOf p)) rest
+pub text-some : (j : ℕ) (k : Game) (p : LogEntry) (rest : List LogEntry)
+    → textFrom j k (p ∷ rest) ≡ entryLine j (letterOf (p .entry)) (gameRefusal k (p .entry)) (gameAfter k (p .entry) .now)
+    ++ textFrom (j + 1) (gameAfter k (p .entry)) rest
 unfolding textFrom
 text-some j k p rest = refl
 
@@ -119,7 +121,7 @@ module _ (log : List ℕ) (w : Walk) (old : List ℕ) where
     pub room : n ≤ length old
     pub text : take n buf ++ textLeft v log ≡ textLeft w log
     pub past : drop n buf ≡ drop n old
-    pub left : filled (length old) n v (partsOf (drop (v .at) log)) ≡ linesOf (length old) w log
+    pub left : filled (length old) n v (entriesOf (drop (v .at) log)) ≡ linesOf (length old) w log
 
   -- what `lines` gives
   abbrev pub Gives : Printed → List ℕ → Type 0
@@ -140,15 +142,15 @@ module _ (log : List ℕ) (w : Walk) (old : List ℕ) where
         ∙ take-append-seam (take n buf) (textLeft v log) in
         sym (take-append-drop n buf) ∙ ap (λ (x : List ℕ). x ++ drop n buf) (sym t) ∙ ap (λ (x : List ℕ). take n (textLeft w log) ++ x) (k .past)
 
-    gives : filled (length old) n v (partsOf (drop (v .at) log)) ≡ record { written = n; walk = v }
+    gives : filled (length old) n v (entriesOf (drop (v .at) log)) ≡ record { written = n; walk = v }
         → (83 + n ≤ length old → v .entry < 4294967295 → textLeft v log ≡ []) → Gives (record { written = n; walk = v }) buf
     gives e f = (sym e ∙ k .left, (bytes, f))
 
     -- no entry is left
-    none-gives : partsOf (drop (v .at) log) ≡ [] → Gives (record { written = n; walk = v }) buf
+    none-gives : entriesOf (drop (v .at) log) ≡ [] → Gives (record { written = n; walk = v }) buf
     none-gives e = gives (ap (filled (length old) n v) e ∙ filled-none (length old) n v) (λ h l. none e)
       where
-        none : partsOf (drop (v .at) log) ≡ [] → textLeft v log ≡ []
+        none : entriesOf (drop (v .at) log) ≡ [] → textLeft v log ≡ []
         none e = ap (textFrom (v .entry) (v .game)) e ∙ text-none (v .entry) (v .game)
 
     pub past-gives : length log ≤ v .at → Gives (record { written = n; walk = v }) buf
@@ -156,7 +158,7 @@ module _ (log : List ℕ) (w : Walk) (old : List ℕ) where
 
     -- no number is left
     pub max-gives : v .entry ≡ 4294967295 → Gives (record { written = n; walk = v }) buf
-    max-gives e = gives (filled-max (length old) n v (partsOf (drop (v .at) log)) e) (λ h l. absurd (omega (arith, e, l)))
+    max-gives e = gives (filled-max (length old) n v (entriesOf (drop (v .at) log)) e) (λ h l. absurd (omega (arith, e, l)))
 
     -- b is the entry there, booked
     module _ (b : Step) (eb : b ≡ stepOf (v .game) log (v .at)) where
@@ -164,11 +166,11 @@ module _ (log : List ℕ) (w : Walk) (old : List ℕ) where
       end-gives z = none-gives (no-parts (v .game) log (v .at) (rw eb at z))
 
       module _ (l : b .len ≡ 0 → ⊥) where
-        abbrev p : List ℕ
-        p = partAt log (v .at)
+        abbrev p : LogEntry
+        p = entryAt log (v .at)
 
-        abbrev rest : List (List ℕ)
-        rest = partsOf (drop (v .at + length p) log)
+        abbrev rest : List LogEntry
+        rest = entriesOf (drop (v .at + length (p .part)) log)
 
         abbrev line : List ℕ
         line = entryLine (v .entry) (b .letter) (b .refusal) (b .game .now)
@@ -183,7 +185,7 @@ module _ (log : List ℕ) (w : Walk) (old : List ℕ) where
         walk-is : record { game = b .game; entry = v .entry + 1; at = v .at + b .len } ≡ walkNext (length old) n v p rest
         walk-is = rw (eb, step-is (v .game) log (v .at) there)
 
-        parts : partsOf (drop (v .at) log) ≡ p ∷ rest
+        parts : entriesOf (drop (v .at) log) ≡ p ∷ rest
         parts = parts-are (v .game) log (v .at) there
 
         pub line-inside : (0 < b .len) × (v .at + b .len ≤ length log)
@@ -253,7 +255,7 @@ module _ (log : List ℕ) (w : Walk) (old : List ℕ) where
                   past =
                       ap (drop (n + m)) out-is ∙ ap (λ (j : ℕ). drop j ((take n buf ++ line) ++ drop m (drop n buf))) (sym front-length)
                       ∙ drop-append-seam (take n buf ++ line) (drop m (drop n buf)) ∙ ap (drop m) (k .past) ∙ drop-drop m n old;
-                  left = ap (λ (x : Walk). filled (length old) (n + m) x (partsOf (drop (x .at) log))) walk-is ∙ sym filled-turn ∙ k .left;
+                  left = ap (λ (x : Walk). filled (length old) (n + m) x (entriesOf (drop (x .at) log))) walk-is ∙ sym filled-turn ∙ k .left;
                 }
               where
                 front : take (n + m) out ≡ take n buf ++ line
@@ -267,7 +269,7 @@ module _ (log : List ℕ) (w : Walk) (old : List ℕ) where
                     ∙ ap (λ (x : List ℕ). x ++ textLeft (walkNext (length old) n v p rest) log) (sym line-is)
                     ∙ ap (λ (x : Walk). line ++ textLeft x log) (sym walk-is)
 
-                filled-turn : filled (length old) n v (partsOf (drop (v .at) log)) ≡ filled (length old) (n + m) (walkNext (length old) n v p rest) rest
+                filled-turn : filled (length old) n v (entriesOf (drop (v .at) log)) ≡ filled (length old) (n + m) (walkNext (length old) n v p rest) rest
                 filled-turn =
                     ap (filled (length old) n v) parts ∙ filled-on (length old) n v p rest (rw (← line-is) (omega (arith, m-is, line-room))) max
                     ∙ ap (λ (j : ℕ). filled (length old) (n + j) (walkNext (length old) n v p rest) rest) (sym (m-is ∙ ap length line-is))

@@ -8,9 +8,11 @@ use borrow.Author.Tests.{leb-true, leb-false, eqb-true, eqb-false}
 use lib.Dec.{leb, eqb}
 use lib.ListN.{length, take, drop, length-append, length-drop}
 use lib.Seq.{take-append-seam, drop-drop, take-all, take-take}
-use Rattle.log.specs.Kinds.{entryLength}
-use Rattle.log.specs.Log.{partsOf}
-use Rattle.log.specs.laws.Next.{firstPart, length-inside, part-length}
+use Rattle.log.specs.Next.{LogEntry}
+use Rattle.log.specs.Log.{entriesOf}
+use Rattle.log.specs.search.Lengths.{entryLength}
+use Rattle.log.specs.laws.Parts.{length-inside, part-length}
+use Rattle.log.specs.laws.Next.{firstEntry}
 use Rattle.log.specs.laws.Walk.{along, parts-none, parts-some}
 use Rattle.log_walk.specs.declared.Walk.{Walk}
 use Rattle.log_walk.specs.declared.Printed.{Printed}
@@ -43,43 +45,43 @@ module _ (log : List ℕ) (room : ℕ) where
         fits = λ h. h;
       }
 
-  moved-from : (s : List ℕ) (w : Walk) (n : ℕ) → drop (w .at) log ≡ s → Moved w n (filled room n w (partsOf s))
+  moved-from : (s : List ℕ) (w : Walk) (n : ℕ) → drop (w .at) log ≡ s → Moved w n (filled room n w (entriesOf s))
   moved-from =
-      along (λ s. (w : Walk) (n : ℕ) → drop (w .at) log ≡ s → Moved w n (filled room n w (partsOf s)))
+      along (λ s. (w : Walk) (n : ℕ) → drop (w .at) log ≡ s → Moved w n (filled room n w (entriesOf s)))
       (λ s e w n d. stays w n _ (ap (filled room n w) (parts-none s e) ∙ filled-none room n w)) turn
     where
       turn : (s : List ℕ) → 0 < entryLength s → ((w : Walk) (n : ℕ) → drop (w .at) log ≡ drop (entryLength s) s
-          → Moved w n (filled room n w (partsOf (drop (entryLength s) s)))) → (w : Walk) (n : ℕ) → drop (w .at) log ≡ s
-          → Moved w n (filled room n w (partsOf s))
+          → Moved w n (filled room n w (entriesOf (drop (entryLength s) s)))) → (w : Walk) (n : ℕ) → drop (w .at) log ≡ s
+          → Moved w n (filled room n w (entriesOf s))
       turn s p r w n d = go (leb (n + length line) room) refl (eqb (w .entry) 4294967295) refl
         where
-          rest : List (List ℕ)
-          rest = partsOf (drop (entryLength s) s)
+          rest : List LogEntry
+          rest = entriesOf (drop (entryLength s) s)
 
           line : List ℕ
-          line = lineNext room n w (firstPart s) rest
+          line = lineNext room n w (firstEntry s) rest
 
-          go : (f : Bool) → leb (n + length line) room ≡ f → (m : Bool) → eqb (w .entry) 4294967295 ≡ m → Moved w n (filled room n w (partsOf s))
-          go false f m e = stays w n _ (ap (filled room n w) (parts-some s p) ∙ filled-long room n w (firstPart s) rest (leb-false (n + length line) room f))
-          go true f true e = stays w n _ (filled-max room n w (partsOf s) (eqb-true (w .entry) 4294967295 e))
+          go : (f : Bool) → leb (n + length line) room ≡ f → (m : Bool) → eqb (w .entry) 4294967295 ≡ m → Moved w n (filled room n w (entriesOf s))
+          go false f m e = stays w n _ (ap (filled room n w) (parts-some s p) ∙ filled-long room n w (firstEntry s) rest (leb-false (n + length line) room f))
+          go true f true e = stays w n _ (filled-max room n w (entriesOf s) (eqb-true (w .entry) 4294967295 e))
           go true f false e = rw same (step (r next (n + length line) there))
             where
               next : Walk
-              next = walkNext room n w (firstPart s) rest
+              next = walkNext room n w (firstEntry s) rest
 
               there : drop (next .at) log ≡ drop (entryLength s) s
               there = ap (λ (j : ℕ). drop (w .at + j) log) (part-length s) ∙ sym (drop-drop (entryLength s) (w .at) log) ∙ ap (drop (entryLength s)) d
 
-              same : filled room n w (partsOf s) ≡ filled room (n + length line) next rest
+              same : filled room n w (entriesOf s) ≡ filled room (n + length line) next rest
               same =
-                  ap (filled room n w) (parts-some s p) ∙ filled-on room n w (firstPart s) rest (leb-true (n + length line) room f)
+                  ap (filled room n w) (parts-some s p) ∙ filled-on room n w (firstEntry s) rest (leb-true (n + length line) room f)
                   (eqb-false (w .entry) 4294967295 e)
 
               text-turn : textLeft w log ≡ line ++ textLeft next log
               text-turn =
-                  ap (λ (x : List ℕ). textFrom (w .entry) (w .game) (partsOf x)) d ∙ ap (textFrom (w .entry) (w .game)) (parts-some s p)
-                  ∙ text-some (w .entry) (w .game) (firstPart s) rest
-                  ∙ ap (λ (x : List ℕ). line ++ textFrom (next .entry) (next .game) (partsOf x)) (sym there)
+                  ap (λ (x : List ℕ). textFrom (w .entry) (w .game) (entriesOf x)) d ∙ ap (textFrom (w .entry) (w .game)) (parts-some s p)
+                  ∙ text-some (w .entry) (w .game) (firstEntry s) rest
+                  ∙ ap (λ (x : List ℕ). line ++ textFrom (next .entry) (next .game) (entriesOf x)) (sym there)
 
               step : Moved next (n + length line) (filled room (n + length line) next rest) → Moved w n (filled room (n + length line) next rest)
               step q =

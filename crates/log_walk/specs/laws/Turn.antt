@@ -9,28 +9,17 @@ use lib.Seq.{drop-drop}
 use Rattle.game.specs.declared.Game.{Game}
 use Rattle.game.specs.Game.{booking, correction, gameRefusal, gameAfter}
 use Rattle.game.specs.Runs.{Books}
-use Rattle.log.specs.Kinds.{letterOf, kindIn, argumentIn}
-use Rattle.log.specs.Log.{partAt, refusalAt, partsOf}
-use Rattle.log.specs.laws.Next.{from-on, part-inside}
+use Rattle.log.specs.Entry.{letterOf}
+use Rattle.log.specs.Log.{partAt, refusalAt, entriesOf}
+use Rattle.log.specs.search.Lengths.{kindIn, argumentIn}
+use Rattle.log.specs.search.Found.{resultBy, bookingBy, resultOf, bookingOf, entryOf}
+use Rattle.log.specs.laws.Parts.{from-on}
+use Rattle.log.specs.laws.Letters.{IsLetter, letter-told}
+use Rattle.log.specs.laws.Exact.{by-place}
+use Rattle.log.specs.laws.Next.{next-end, next-bad, next-part, refusal-end, refusal-bad, length-part, part-inside, entryAt, part-is-entry}
 use Rattle.log.specs.laws.Walk.{parts-end, parts-turn}
-use Rattle.log_walk.specs.Walk.{resultBy, bookingBy, resultOf, bookingOf, entryOf, noEntry, stepBy, stepOf}
+use Rattle.log_walk.specs.Walk.{noEntry, stepBy, stepOf}
 use Rattle.log_walk.specs.declared.Step.{Step}
-
--- a part booked: nothing, or its booking
-by-none : (part : List ℕ) (refusal : ℕ) (k : Game) → length part ≡ 0 → stepBy part refusal k ≡ noEntry refusal k
-by-none [] refusal k e = refl
-by-none (x ∷ part) refusal k e = absurd (omega arith)
-
-by-some : (part : List ℕ) (refusal : ℕ) (k : Game) → 0 < length part
-    → stepBy part refusal k ≡ record {
-      refusal = gameRefusal k (entryOf part);
-      letter = letterOf (kindIn part);
-      len = length part;
-      game = gameAfter k
-          (entryOf part);
-    }
-by-some [] refusal k h = absurd (omega arith)
-by-some (x ∷ part) refusal k h = refl
 
 -- ---- the entry of a part, as the code has it: the bytes after a header are a stretch of the part
 
@@ -61,22 +50,26 @@ module _ (k : Game) (log : List ℕ) (at : ℕ) where
   part = partAt log at
 
   abbrev booked : Step
-  booked = record { refusal = gameRefusal k (entryOf part); letter = letterOf (kindIn part); len = length part; game = gameAfter k (entryOf part) }
+  booked = record { refusal = gameRefusal k (entryOf part); letter = letterOf (entryOf part); len = length part; game = gameAfter k (entryOf part) }
 
   pub step-none : length part ≡ 0 → stepOf k log at ≡ noEntry (refusalAt log at) k
   unfolding stepOf
-  step-none e = by-none part (refusalAt log at) k e
+  step-none e =
+      by-place log at (λ h. ap (stepBy k) (next-end log at h) ∙ ap (λ (n : ℕ). noEntry n k) (sym (refusal-end log at h)))
+      (λ h z. ap (stepBy k) (next-bad log at h z) ∙ ap (λ (n : ℕ). noEntry n k) (sym (refusal-bad log at h z)))
+      (λ h. absurd (omega (arith, h, e, length-part log at)))
 
   step-some : 0 < length part → stepOf k log at ≡ booked
   unfolding stepOf
-  step-some h = by-some part (refusalAt log at) k h
+  step-some h = ap (stepBy k) (next-part log at h)
 
   -- as the code has it
-  pub step-entry : (s : List ℕ) → s ≡ part → (length s ≡ 0 → ⊥) → (y : ℕ) → y ≡ letterOf (kindIn s) → (x : ℕ) (h : Game) → Books k (entryOf s) x h
+  pub step-entry : (s : List ℕ) → s ≡ part → (length s ≡ 0 → ⊥) → (y : ℕ) → IsLetter (kindIn s) y → (x : ℕ) (h : Game) → Books k (entryOf s) x h
       → record { refusal = x; letter = y; len = length s; game = h } ≡ stepOf k log at
-  step-entry s e l y ey x h b =
+  step-entry s e l y ly x h b =
       let m : 0 < length part = omega (arith, l, ap length e) in
-      rw (step-some m, ← e, ey, b .0, b .1)
+      let ey : y ≡ letterOf (entryOf part) = letter-told part (entryOf part) (part-is-entry log at m) m y (rw e at ly) in
+      rw (step-some m, ey, ← e, b .0, b .1)
 
   -- what `book_at` gives, by the length that it tells
   pub step-length : stepOf k log at .len ≡ length part
@@ -86,7 +79,7 @@ module _ (k : Game) (log : List ℕ) (at : ℕ) where
       go zero e = rw (step-none e) (sym e)
       go (suc n) e = rw (step-some (omega (arith, e)))
 
-  pub no-parts : stepOf k log at .len ≡ 0 → partsOf (drop at log) ≡ []
+  pub no-parts : stepOf k log at .len ≡ 0 → entriesOf (drop at log) ≡ []
   no-parts z = parts-end log at (sym step-length ∙ z)
 
   module _ (l : stepOf k log at .len ≡ 0 → ⊥) where
@@ -100,7 +93,7 @@ module _ (k : Game) (log : List ℕ) (at : ℕ) where
     pub step-is : stepOf k log at ≡ booked
     step-is = step-some some-part
 
-    pub parts-are : partsOf (drop at log) ≡ part ∷ partsOf (drop (at + length part) log)
+    pub parts-are : entriesOf (drop at log) ≡ entryAt log at ∷ entriesOf (drop (at + length part) log)
     parts-are = parts-turn log at some-part
 
     pub inside : (0 < length part) × (at + length part ≤ length log)

@@ -11,12 +11,13 @@ use Rattle.yaku.specs.declared.FullReading.{FullReading}
 use Rattle.yaku.specs.declared.GroupTests.{GroupTests}
 use Rattle.yaku.specs.declared.PlaceTests.{PlaceTests}
 use Rattle.yaku.specs.search.Common.{groupTestsOf, placeTestsOf}
-use Rattle.points_fu.specs.Fu.{fu, groupItems, earned, added}
+use Rattle.points_fu.specs.Fu.{fu, added}
+use Rattle.points_fu.specs.search.Items.{itemsBy, earned}
 use Rattle.points_fu.specs.laws.Items.{groups-few}
 use Rattle.points_fu.proofs.earned.Statement.{statement}
 use Rattle.points_fu.proofs.earned.Tie as tie
 
-few : (p : FullReading) (l : List Fu) → l ≡ groupItems p → sum 4 (λ k. getD l k (fu 0) .0) ≤ 128
+few : (p : FullReading) (l : List Fu) → l ≡ itemsBy (p .groups) (p .ways) → sum 4 (λ k. getD l k (fu 0) .0) ≤ 128
 few p l e = rw e (groups-few p)
 
 returns : tie.Need-returns

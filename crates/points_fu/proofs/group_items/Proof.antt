@@ -1,11 +1,11 @@
 -- `points_fu::group_items` meets its contract: each item is what its function ensures.
 use borrow.Author.Needs.{needs}
-use Rattle.points_fu.specs.Fu.{groupItems}
+use Rattle.points_fu.specs.search.Items.{itemsBy}
 use Rattle.points_fu.proofs.group_items.Statement.{statement}
 use Rattle.points_fu.proofs.group_items.Tie as tie
 
 pub group-items-spec : {M : Type 1} → statement M
-unfolding groupItems
+unfolding itemsBy
 group-items-spec =
     tie.close
     (tie.spec

@@ -1,8 +1,9 @@
 -- What document 01 says of the sum of the items.
-use mathlib.Core.Path.{_≡_, refl}
+use mathlib.Core.Path.{_≡_, refl, sym, ap, _∙_}
 use mathlib.Core.Bool.{Bool, true, false, _&&_, not, cond}
 use mathlib.Core.List.{List, [], _∷_}
 use Prim.Native.Nat.{ℕ, zero, suc, _+_, _-_, _*_, _/_, _<_, _≤_}
+use native.Mathlib.Nat.{add-zero}
 use native.Mathlib.Omega.{arith}
 use borrow.Author.Tests.{eqb-true}
 use lib.Dec.{eqb, ltb}
@@ -14,10 +15,12 @@ use Rattle.tiles.specs.laws.Below.{and-true, cond-le}
 use Rattle.yaku_basics.specs.laws.Ways.{four, ways-open, group-placed}
 use Rattle.yaku_basics.specs.search.Ways.{waysAt}
 use Rattle.units.specs.declared.Fu.{Fu}
+use Rattle.yaku_basics.specs.Tests.{isValue}
+use Rattle.yaku.specs.Yaku.{hasWaitFu, pinfu, yakuman}
 use Rattle.yaku.specs.declared.Won.{Won}
 use Rattle.yaku.specs.declared.FullReading.{FullReading}
-use Rattle.points_fu.specs.Fu.{fu, tripletFu, groupFu, groupItems, baseAlone, earned, added, rounded, fuOf, itemsOf}
-use Rattle.points_fu.specs.search.Items.{itemsBy}
+use Rattle.points_fu.specs.Fu.{fu, tripletFu, groupFu, baseAlone, added, rounded, regularItems, itemsOf, fuOf}
+use Rattle.points_fu.specs.search.Items.{itemsBy, earned}
 
 at-least : (b : Bool) (n t : ℕ) → n ≤ t → (b ≡ true → t ≡ 20) → n ≤ cond b 30 t
 at-least true n t h e = omega (arith, e refl)
@@ -44,20 +47,53 @@ module _ (w : Won) (p : FullReading) where
   whole : ℕ
   whole = added (earned w p 0)
 
-  regular : added (earned w p (rounded (w .closed) whole - whole)) ≡ rounded (w .closed) whole
-  unfolding whole
-  regular = omega (arith, added-rounding w p (rounded (w .closed) whole - whole), rounded-up (w .closed) whole)
+  abbrev nine : ℕ
+  nine =
+      20
+      + cond (w .closed && w .ron) 10 0
+      + cond (isValue (w .round) (w .own) (p .pair)) 2 0
+      + sum 4 (λ i. groupFu (getD (p .groups) i 0) (getD (p .ways) i 0))
+      + cond (hasWaitFu w p) 2 0
+      + cond (not (w .ron) && not (pinfu w p)) 2 0
 
-  by-case : (yakuman seven : Bool) →
-      added (cond yakuman (baseAlone 0) (cond seven (baseAlone 25) (earned w p (rounded (w .closed) whole - whole))))
-      ≡ cond yakuman 0 (cond seven 25 (rounded (w .closed) whole))
+  pub regular-rounded : regularItems w p ≡ earned w p (rounded (w .closed) (added (earned w p 0)) - added (earned w p 0))
+  unfolding regularItems earned added itemsBy
+  regular-rounded = rw (add-zero nine)
+
+  regular : added (regularItems w p) ≡ rounded (w .closed) whole
+  unfolding whole
+  regular = rw regular-rounded (omega (arith, added-rounding w p (rounded (w .closed) whole - whole), rounded-up (w .closed) whole))
+
+  by-case : (y seven : Bool) →
+      added (cond y (baseAlone 0) (cond seven (baseAlone 25) (regularItems w p))) ≡ cond y 0 (cond seven 25 (rounded (w .closed) whole))
   by-case true seven = added-alone 0
   by-case false true = added-alone 25
   by-case false false = regular
 
-  pub fu-rounded : (yakuman : Bool) → fuOf w p yakuman ≡ cond yakuman 0 (cond (eqb (p .shape) 1) 25 (rounded (w .closed) (added (earned w p 0))))
+  pub fu-of-sum : fuOf w p ≡ cond (yakuman w p) 0 (cond (eqb (p .shape) 1) 25 (rounded (w .closed) (added (earned w p 0))))
   unfolding itemsOf fuOf whole
-  fu-rounded yakuman = by-case yakuman (eqb (p .shape) 1)
+  fu-of-sum = by-case (yakuman w p) (eqb (p .shape) 1)
+
+  -- without what rounding adds
+  unrounded : added (regularItems w p) - regularItems w p .rounding .0 ≡ whole
+  unfolding whole earned
+  unrounded =
+      let r = rounded (w .closed) whole in
+      rw regular-rounded (less-more (added (earned w p (r - whole))) whole (r - whole) (added-rounding w p (r - whole)))
+    where
+      less-more : (a b r : ℕ) → a ≡ b + r → a - r ≡ b
+      less-more a b r e = omega (arith, e)
+
+  again : (y seven : Bool) →
+      let i = cond y (baseAlone 0) (cond seven (baseAlone 25) (regularItems w p)) in
+      added i ≡ cond y 0 (cond seven 25 (rounded (w .closed) (added i - i .rounding .0)))
+  again true seven = added-alone 0
+  again false true = added-alone 25
+  again false false = regular ∙ ap (rounded (w .closed)) (sym unrounded)
+
+  pub fu-rounded : fuOf w p ≡ cond (yakuman w p) 0 (cond (eqb (p .shape) 1) 25 (rounded (w .closed) (fuOf w p - itemsOf w p .rounding .0)))
+  unfolding itemsOf fuOf
+  fu-rounded = again (yakuman w p) (eqb (p .shape) 1)
 
 -- no group earns over 32
 triplet-few : (way : ℕ) → tripletFu way ≤ 16
@@ -73,8 +109,8 @@ group-few c way =
     cond-le (isTriplet c) (cond (isYaochu (c - 34)) (2 * tripletFu way) (tripletFu way)) 0 32
     (cond-le (isYaochu (c - 34)) (2 * tripletFu way) (tripletFu way) 32 (omega (arith, t)) (omega (arith, t))) (omega arith)
 
-pub groups-few : (p : FullReading) → sum 4 (λ k. getD (groupItems p) k (fu 0) .0) ≤ 128
-unfolding groupItems
+pub groups-few : (p : FullReading) → sum 4 (λ k. getD (itemsBy (p .groups) (p .ways)) k (fu 0) .0) ≤ 128
+unfolding itemsBy
 groups-few p =
     let f : (i : ℕ) → groupFu (getD (p .groups) i 0) (getD (p .ways) i 0) ≤ 32 = λ i. group-few (getD (p .groups) i 0) (getD (p .ways) i 0) in
     omega (arith, f 0, f 1, f 2, f 3)
@@ -82,7 +118,7 @@ groups-few p =
 -- what is earned where the group at i is open
 items-four : (g : List ℕ) (a b c d i : ℕ) → i < 4
     → set (itemsBy g (a ∷ b ∷ c ∷ d ∷ [])) i (fu (groupFu (getD g i 0) 1)) ≡ itemsBy g (set (a ∷ b ∷ c ∷ d ∷ []) i 1)
-unfolding groupItems
+unfolding itemsBy
 items-four g a b c d zero h = refl
 items-four g a b c d (suc zero) h = refl
 items-four g a b c d (suc (suc zero)) h = refl

@@ -1,20 +1,19 @@
 -- `points_value::value_of` meets its contract.
 use borrow.Author.Needs.{needs}
-use native.Mathlib.Omega.{arith}
-use mathlib.Core.Path.{_≡_, refl, sym, ap, _∙_}
+use mathlib.Core.Path.{_≡_, sym, ap, _∙_}
 use mathlib.Core.Bool.{cond}
 use mathlib.Core.List.{List}
 use Prim.Native.Nat.{ℕ, _+_}
 use lib.Dec.{eqb}
-use Rattle.yaku.specs.Yaku.{testsOf, isYakuman, yakuOf, hasYaku}
+use Rattle.yaku.specs.Yaku.{testsOf, yakuOf, hasYaku}
 use Rattle.yaku.specs.declared.Won.{Won}
 use Rattle.yaku.specs.declared.FullReading.{FullReading}
 use Rattle.yaku.specs.declared.PlaceTests.{PlaceTests}
 use Rattle.yaku.specs.search.Common.{placeTestsOf}
-use Rattle.yaku.specs.laws.Common.{listed-yakuman, listed-any}
+use Rattle.yaku.specs.laws.Common.{yakuman-placed, listed-any}
 use Rattle.units.specs.declared.Fu.{Fu}
 use Rattle.yaku_basics.specs.Tests.{concealed, kans}
-use Rattle.points_fu.specs.Fu.{groupItems, fuOf}
+use Rattle.points_fu.specs.Fu.{fuOf}
 use Rattle.points_fu.specs.search.Items.{itemsBy}
 use Rattle.points_value.specs.Han.{hanOf}
 use Rattle.points_value.specs.Value.{valueOf}
@@ -25,22 +24,17 @@ use Rattle.points_value.proofs.value_of.Tie as tie
 
 -- by what the place says
 module _ (w : Won) (p : FullReading) (q : PlaceTests) (e : q ≡ placeTestsOf w p) where
-  yakuman-is : q .yakuman ≡ isYakuman (yakuOf w p)
-  unfolding placeTestsOf yakuOf
-  yakuman-is = ap (λ (x : PlaceTests). x .yakuman) e ∙ sym (listed-yakuman (testsOf w p))
-
   any-is : q .any ≡ hasYaku (yakuOf w p)
   unfolding placeTestsOf yakuOf
   any-is = ap (λ (x : PlaceTests). x .any) e ∙ sym (listed-any (testsOf w p))
 
   han-is : (dora before h : ℕ) → before ≡ hanBefore w dora (p .shape) (p .pair) (p .groups)
-      → h ≡ cond (q .yakuman) 0 (before + cond (q .pinfu) 1 0 + cond (eqb (q .ankou) 3) 2 0 + cond (eqb (q .kan) 3) 2 0) → h ≡ hanOf w p dora (q .yakuman)
+      → h ≡ cond (q .yakuman) 0 (before + cond (q .pinfu) 1 0 + cond (eqb (q .ankou) 3) 2 0 + cond (eqb (q .kan) 3) 2 0) → h ≡ hanOf w p dora
   unfolding placeTestsOf testsOf
-  han-is dora before h eb eh = rw (eh, eb, e) (han-with w p dora (isYakuman (testsOf w p)) refl)
+  han-is dora before h eb eh = rw (eh, eb, e) (han-with w p dora)
 
 -- what the groups earn by the ways of p
-earned-is : (p : FullReading) (ways : List ℕ) (l : List Fu) → p .ways ≡ ways → l ≡ itemsBy (p .groups) ways → l ≡ groupItems p
-unfolding groupItems
+earned-is : (p : FullReading) (ways : List ℕ) (l : List Fu) → p .ways ≡ ways → l ≡ itemsBy (p .groups) ways → l ≡ itemsBy (p .groups) (p .ways)
 earned-is p ways l ew el = rw (el, ← ew)
 
 returns : tie.Need-returns
@@ -53,7 +47,7 @@ returns c =
     let c5 = c4 .before in
     let q = c5 .before .place-tests in
     let s = c5 .before .before .before .before .before .before .before .before in
-    let m = yakuman-is (s .args .w) (s .args .p) (q .result) (q .ensures) in
+    let m = yakuman-placed (s .args .w) (s .args .p) (q .result) (q .ensures) in
     let a = s .args in
     let h =
     han-is (a .w) (a .p) (q .result) (q .ensures) (a .dora) (a .k .han .0) (c5 .hand-han .result .0) (s .pre .0 .han) (c5 .hand-han .ensures .0) in (

@@ -2,17 +2,17 @@
 use mathlib.Core.Path.{_≡_, refl}
 use mathlib.Core.Bool.{Bool, true, false, cond}
 use mathlib.Core.List.{List}
-use Prim.Native.Nat.{ℕ, zero, _+_}
+use Prim.Native.Nat.{ℕ, _+_}
 use native.Mathlib.Omega.{arith}
 use lib.ListN.{getD}
 use Rattle.tiles.specs.Below.{sumBelow}
-use Rattle.yaku_basics.specs.Tests.{pinfu}
-use Rattle.yaku.specs.Yaku.{testsOf, valueHanOf, isYakuman, yakuOf}
-use Rattle.yaku.specs.laws.Common.{listed-all, same-each}
+use Rattle.yaku.specs.Yaku.{valueHanOf, pinfu, testsOf, isYakuman, yakuOf}
+use Rattle.yaku.specs.laws.Common.{listed-all, same-each, yakuman-tested}
 use Rattle.yaku.specs.search.Common.{anyPlace, groupTestsOf}
 use Rattle.yaku.specs.declared.Won.{Won}
 use Rattle.yaku.specs.declared.FullReading.{FullReading}
-use Rattle.points_value.specs.Han.{closedHan, openHan, hanBy, yakuHan, hanOf}
+use Rattle.points_value.specs.Han.{yakuHan, hanOf}
+use Rattle.points_value.specs.laws.Han.{fixedHan, hanBy, none, values-apart}
 use Rattle.points_value.specs.search.Common.{hanBefore}
 
 -- the han that the yaku of the place and the ways add to a list without them
@@ -22,15 +22,11 @@ with-place : (y : List Bool) (han : List ℕ) → hanBy y han ≡ hanBy (anyPlac
 unfolding hanBy sumBelow anyPlace
 with-place y han = omega arith
 
-none : (b : Bool) → cond b 0 0 ≡ zero
-none true = refl
-none false = refl
-
 -- of those yaku 4 is closed only, 18 and 19 have two han, and the yakuman 30 and 31 none
 their-han : (closed a b c d e : Bool) → (closed ≡ false → a ≡ false)
-    → cond a (getD (cond closed closedHan openHan) 4 0) 0 + cond b (getD (cond closed closedHan openHan) 18 0) 0
-    + cond c (getD (cond closed closedHan openHan) 19 0) 0 + cond d (getD (cond closed closedHan openHan) 30 0) 0
-    + cond e (getD (cond closed closedHan openHan) 31 0) 0
+    → cond a (getD (fixedHan closed) 4 0) 0 + cond b (getD (fixedHan closed) 18 0) 0
+    + cond c (getD (fixedHan closed) 19 0) 0 + cond d (getD (fixedHan closed) 30 0) 0
+    + cond e (getD (fixedHan closed) 31 0) 0
     ≡ cond a 1 0 + cond b 2 0 + cond c 2 0
 their-han true a b c d e h = omega (arith, none d, none e)
 their-han false a b c d e h = rw (h refl) (omega (arith, none d, none e))
@@ -57,12 +53,14 @@ module _ (w : Won) (p : FullReading) where
 
   all-han : (dora : ℕ) → hanBefore w dora (p .shape) (p .pair) (p .groups) + cond (getD y 4 false) 1 0 + cond (getD y 18 false) 2 0 + cond (getD y 19 false) 2 0
       ≡ yakuHan y (w .closed) (valueHanOf w p) + getD (w .tally) dora 0
-  unfolding hanBefore yakuHan
+  unfolding hanBefore
   all-han dora =
-      rw (group-yaku, group-values, third)
+      let before = values-apart (anyPlace y) (w .closed) (valueHanOf w p) in
+      let after = values-apart y (w .closed) (valueHanOf w p) in
+      rw (group-yaku, group-values, before, after, third)
       (omega (
         arith,
-        with-place y (cond (w .closed) closedHan openHan),
+        with-place y (fixedHan (w .closed)),
         their-han (w .closed) (getD y 4 false) (getD y 18 false) (getD y 19 false) (getD y 30 false) (getD y 31 false) open-none,
       ))
 
@@ -70,10 +68,15 @@ module _ (w : Won) (p : FullReading) where
   unfolding yakuOf
   yaku-all e = listed-all y e
 
-  -- h, from that of the pair and the groups; b is whether a yakuman is listed
-  pub han-with : (dora : ℕ) (b : Bool) → isYakuman y ≡ b
+  by-yakuman : (dora : ℕ) (b : Bool) → isYakuman y ≡ b
       → cond b 0 (hanBefore w dora (p .shape) (p .pair) (p .groups) + cond (getD y 4 false) 1 0 + cond (getD y 18 false) 2 0 + cond (getD y 19 false) 2 0)
-      ≡ hanOf w p dora b
+      ≡ cond b 0 (yakuHan (yakuOf w p) (w .closed) (valueHanOf w p) + getD (w .tally) dora 0)
+  by-yakuman dora true e = refl
+  by-yakuman dora false e = rw (yaku-all e) (all-han dora)
+
+  -- h, from that of the pair and the groups
+  pub han-with : (dora : ℕ)
+      → cond (isYakuman y) 0 (hanBefore w dora (p .shape) (p .pair) (p .groups) + cond (getD y 4 false) 1 0 + cond (getD y 18 false) 2 0 + cond (getD y 19 false) 2 0)
+      ≡ hanOf w p dora
   unfolding hanOf
-  han-with dora true e = refl
-  han-with dora false e = rw (yaku-all e) (all-han dora)
+  han-with dora = rw (yakuman-tested w p) (by-yakuman dora (isYakuman y) refl)

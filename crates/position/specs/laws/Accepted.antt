@@ -13,7 +13,7 @@ use Rattle.score.specs.declared.Scored.{Scored}
 use Rattle.score.specs.laws.HandScore.{score-unreadable}
 use Rattle.position.specs.declared.Position.{Position}
 use Rattle.position.specs.Booking.{result, riichi, win, draw, chombo, pao}
-use Rattle.position.specs.Ledger.{isDeclared, notOpen, handFor, scoredFor, riichiMismatch, lacksStick, wrongPao, refusalFor, refusalWhen}
+use Rattle.position.specs.Ledger.{isDeclared, notOpen, handFor, scoredFor, riichiMismatch, lacksStick, wrongPao, refusalFor, refusalsOf}
 use Rattle.position.specs.laws.Form.{open-of}
 
 pub cond-zero : (b : Bool) (n m : ℕ) → cond b (suc n) m ≡ 0 → (b ≡ false) × (m ≡ 0)
@@ -23,7 +23,7 @@ cond-zero false n m e = (refl, e)
 module _ (g : Position) where
   pub riichi-accepted : (seat : ℕ) → refusalFor g (riichi seat) ≡ 0
       → (seat ≤ 3) × (notOpen g ≡ false) × (isDeclared g seat ≡ false) × (lacksStick g seat ≡ false)
-  unfolding refusalFor refusalWhen
+  unfolding refusalFor refusalsOf
   riichi-accepted seat e =
       let c : ℕ = cond (isDeclared g seat) 10 (cond (lacksStick g seat) 21 0) in
       let p = cond-zero (ltb 3 seat) 7 (cond (notOpen g) 9 c) e in
@@ -32,18 +32,18 @@ module _ (g : Position) where
       (ltb-false 3 seat (p .0), q .0, r .0, cond-zero (lacksStick g seat) 20 0 (r .1) .0)
 
   pub chombo-accepted : (seat : ℕ) → refusalFor g (result (chombo seat)) ≡ 0 → (seat ≤ 3) × (notOpen g ≡ false)
-  unfolding refusalFor refusalWhen
+  unfolding refusalFor refusalsOf
   chombo-accepted seat e =
       let p = cond-zero (ltb 3 seat) 7 (cond (notOpen g) 9 0) e in
       (ltb-false 3 seat (p .0), cond-zero (notOpen g) 8 0 (p .1) .0)
 
   pub draw-accepted : (bits : ℕ) → refusalFor g (result (draw bits)) ≡ 0 → notOpen g ≡ false
-  unfolding refusalFor refusalWhen
+  unfolding refusalFor refusalsOf
   draw-accepted bits e = cond-zero (notOpen g) 8 0 (cond-zero (ltb 15 bits) 7 (cond (notOpen g) 9 0) e .1) .0
 
   pub pao-accepted : (holder feeder yaku : ℕ) → refusalFor g (pao holder feeder yaku) ≡ 0
       → (holder ≤ 3) × (feeder ≤ 3) × (notOpen g ≡ false) × (wrongPao g holder feeder yaku ≡ false)
-  unfolding refusalFor refusalWhen
+  unfolding refusalFor refusalsOf
   pao-accepted holder feeder yaku e =
       let p = cond-zero (ltb 3 holder || ltb 3 feeder) 7 (cond (notOpen g) 9 (cond (wrongPao g holder feeder yaku) 18 0)) e in
       let q = cond-zero (notOpen g) 8 (cond (wrongPao g holder feeder yaku) 18 0) (p .1) in
@@ -60,7 +60,7 @@ module _ (g : Position) where
 
   pub win-accepted : (s : List ℕ) → refusalFor g (result (win s)) ≡ 0
       → (notOpen g ≡ false) × (refusalIn (readOf s .answer) ≡ 0) × (scoredFor g s .refusal ≡ 0) × (riichiMismatch g (handFor s) ≡ false)
-  unfolding refusalFor refusalWhen
+  unfolding refusalFor refusalsOf
   win-accepted s e =
       let m : ℕ = cond (riichiMismatch g (handFor s)) 11 0 in
       let v : ℕ = scoredFor g s .refusal in

@@ -1,20 +1,20 @@
 -- Each booking that is accepted: the position was open, and its effect is fair. Each result finishes a hand, and nothing else does.
 use mathlib.Core.Path.{_≡_, refl, sym, _∙_}
-use mathlib.Core.Bool.{Bool, true, false, not, cond, false≢true}
-use Prim.Native.Nat.{ℕ, _+_}
+use mathlib.Core.Bool.{Bool, true, false, cond, false≢true}
+use Prim.Native.Nat.{ℕ}
 use lib.Dec.{eqb}
 use Rattle.tiles.specs.Below.{any}
 use Rattle.tiles.specs.laws.Below.{or-both}
 use Rattle.position.specs.declared.Position.{Position}
 use Rattle.position.specs.Booking.{Result, Booking, result, riichi, win, draw, chombo, pao, multiRon}
-use Rattle.position.specs.Ledger.{isOver, outOfForm, notOpen, refusalFor, isReady, isAtFault, drawGives, chomboOf, finishing, effectOf}
+use Rattle.position.specs.Ledger.{isOver, outOfForm, notOpen, refusalFor, chomboOf, drawOf, isAtFault, effectOf}
 use Rattle.position.specs.laws.Accepted.{riichi-accepted, win-accepted, draw-accepted, chombo-accepted, pao-accepted}
 use Rattle.position.specs.laws.Effect.{Fair}
 use Rattle.position.specs.laws.Fair.{riichi-fair, win-fair, draw-fair, chombo-fair, pao-fair}
 use Rattle.position.specs.laws.MultiRon.{multi-ron-accepted, multi-ron-fair}
 
 module _ (g : Position) where
-  accepted-open : (b : Booking) → refusalFor g b ≡ 0 → notOpen g ≡ false
+  pub accepted-open : (b : Booking) → refusalFor g b ≡ 0 → notOpen g ≡ false
   accepted-open (riichi seat) e = riichi-accepted g seat e .1
   accepted-open (result (win s)) e = win-accepted g s e .0
   accepted-open (result (draw bits)) e = draw-accepted g bits e
@@ -43,8 +43,7 @@ module _ (g : Position) where
   result-finishes (multiRon number s) = refl
   result-finishes (draw bits) = go (any 4 (isAtFault g bits))
     where
-      go : (t : Bool) → cond t (chomboOf g (isAtFault g bits))
-          (finishing (drawGives bits) (g .sticks) (not (isReady bits (g .dealer))) (g .counter + 1)) .finishes ≡ true
+      go : (t : Bool) → cond t (chomboOf g (isAtFault g bits)) (drawOf g bits) .finishes ≡ true
       go true = refl
       go false = refl
 

@@ -18,8 +18,8 @@ use Rattle.score.specs.laws.Changes.{score-within, score-child, zero-sum}
 use Rattle.position.specs.declared.Position.{Position}
 use Rattle.position.specs.Booking.{Booking, result, riichi, win, draw, chombo, pao}
 use Rattle.position.specs.Ledger.{lastHand, mark, isDeclared, declarations, notOpen, isReady, handFor, scoredFor, readySeats, shareOf, refusalFor}
-use Rattle.position.specs.Ledger.{wrongPao, finishing, riichiGives, paidByOthers, wholeOf, paoPays, isSet, isDealersWin, gainGives, counterGives}
-use Rattle.position.specs.Ledger.{paoFor, winGives, drawGives, fineOf, backTo, chomboGives, chomboOf, isAtFault, effectOf}
+use Rattle.position.specs.Ledger.{wrongPao, riichiGives, paidByOthers, wholeOf, paoPays, isSet, isDealersWin, gainGives, counterGives}
+use Rattle.position.specs.Ledger.{paoFor, winGives, drawGives, fineOf, backTo, chomboGives, chomboOf, drawOf, isAtFault, effectOf}
 use Rattle.position.specs.laws.Bounds.{costs, worst}
 use Rattle.position.specs.laws.Form.{open-of}
 use Rattle.position.specs.laws.Accepted.{riichi-accepted, chombo-accepted, draw-accepted, win-accepted, pao-accepted}
@@ -284,12 +284,11 @@ module _ (g : Position) where
   unfolding effectOf
   draw-fair bits e = go (draw-accepted g bits e) (any 4 (isAtFault g bits))
     where
-      go : notOpen g ≡ false → (t : Bool)
-          → Fair g (cond t (chomboOf g (isAtFault g bits)) (finishing (drawGives bits) (g .sticks) (not (isReady bits (g .dealer))) (g .counter + 1)))
+      go : notOpen g ≡ false → (t : Bool) → Fair g (cond t (chomboOf g (isAtFault g bits)) (drawOf g bits))
       go q true = chombo-fair g (isAtFault g bits) q
       go q false =
           let o = open-of g q in
-          finishing-fair g (drawGives bits) (g .sticks) (not (isReady bits (g .dealer))) (g .counter + 1) (o .hands)
+          finishing-fair g (drawGives bits) (g .sticks) (drawOf g bits .passes) (g .counter + 1) (o .hands)
           (omega (arith, o .form .counter)) (draw-balanced bits (g .sticks)) (λ i l. omega (arith, draw-bounded bits i))
 
 -- ---- a named feeder: nothing is given

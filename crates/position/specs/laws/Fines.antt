@@ -3,7 +3,6 @@ use mathlib.Core.Path.{_≡_, refl}
 use mathlib.Core.Bool.{Bool, true, false, cond}
 use Prim.Native.Nat.{ℕ, _+_, _-_, _*_, _≤_, _<_}
 use native.Mathlib.Omega.{arith}
-use lib.Dec.{eqb}
 use lib.IntN.{ℤ, pos, negℤ, _+ℤ_}
 use Rattle.tiles.specs.Below.{count, sum}
 use Rattle.points.specs.laws.Balance.{below-four}
@@ -63,19 +62,3 @@ module _ (at : ℕ → Bool) where
       = λ i. by-count (at i) (count 4 at) (sum 4 (λ j. finePaid at j i)) (sum 4 (finePaid at i)) (omega arith) in
       below-four (λ i. finedBy (count 4 at) (at i) ≡ pos (sum 4 (λ j. finePaid at j i)) +ℤ negℤ (pos (sum 4 (finePaid at i))))
       (seat 0 (omega arith) (omega arith)) (seat 1 (omega arith) (omega arith)) (seat 2 (omega arith) (omega arith)) (seat 3 (omega arith) (omega arith))
-
--- ---- one seat, and all four
-
-abbrev OfOne : ℕ → ℕ → Type 0
-OfOne seat i = fineOf (λ j. eqb j seat) i ≡ cond (eqb i seat) (negℤ (pos 9000)) (pos 3000)
-
-pub of-one : (seat : ℕ) → seat < 4 → (i : ℕ) → i < 4 → OfOne seat i
-unfolding fineOf
-of-one =
-    below-four (λ seat. (i : ℕ) → i < 4 → OfOne seat i)
-    (below-four (OfOne 0) refl refl refl refl) (below-four (OfOne 1) refl refl refl refl) (below-four (OfOne 2) refl refl refl refl)
-    (below-four (OfOne 3) refl refl refl refl)
-
-pub of-four : (i : ℕ) → i < 4 → fineOf (λ j. true) i ≡ pos 0
-unfolding fineOf
-of-four = below-four (λ i. fineOf (λ j. true) i ≡ pos 0) refl refl refl refl

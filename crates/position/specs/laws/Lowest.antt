@@ -1,6 +1,6 @@
 -- The lowest score that a list of bookings leads to: a seat pays for a stick in the first hand alone, since later it has 1,000 left only where it is far above.
 use mathlib.Core.Path.{_≡_, refl, ap, _∙_}
-use mathlib.Core.Bool.{Bool, true, false, not, _||_, cond}
+use mathlib.Core.Bool.{Bool, true, false, _||_, cond}
 use mathlib.Core.List.{List, [], _∷_}
 use mathlib.Core.Logic.{_⊎_, inl, inr, ⊎-elim}
 use Prim.Native.Nat.{ℕ, zero, suc, _+_, _-_, _*_, _≤_, _<_}
@@ -16,8 +16,8 @@ use Rattle.hand_rons.specs.Records.{recordsOf, firstWinner}
 use Rattle.hand_rons.specs.laws.OneTile.{records-length}
 use Rattle.position.specs.declared.Position.{Position}
 use Rattle.position.specs.Booking.{Booking, result, riichi, win, draw, chombo, pao, multiRon}
-use Rattle.position.specs.Ledger.{lastHand, mark, fresh, scoreAt, isDeclared, notOpen, isReady, refusalFor, Effect, finishing, riichiGives}
-use Rattle.position.specs.Ledger.{isDealersWin, drawGives, chomboOf, isAtFault, effectOf, handsAfter, applied, after, ledgerFrom, ledger}
+use Rattle.position.specs.Ledger.{lastHand, mark, fresh, scoreAt, isDeclared, notOpen, refusalFor, Effect, riichiGives}
+use Rattle.position.specs.Ledger.{isDealersWin, chomboOf, drawOf, isAtFault, effectOf, handsAfter, applied, after, ledgerFrom, ledger}
 use Rattle.position.specs.laws.Bounds.{costs}
 use Rattle.position.specs.laws.Form.{open-of}
 use Rattle.position.specs.laws.Accepted.{riichi-accepted, win-accepted}
@@ -25,7 +25,7 @@ use Rattle.position.specs.laws.Effect.{mark-le, score-applied, declared-
 use Rattle.position.specs.laws.Fair.{draw-bounded, chombo-bounded, win-dn}
 use Rattle.position.specs.laws.MultiRon.{multi-ron-accepted, multi-ron-dn, once}
 use Rattle.position.specs.laws.Kept.{fresh-kept, ledger-kept}
-use Rattle.position.specs.laws.Pao.{either-finishes}
+use Rattle.position.specs.laws.Each.{result-finishes}
 
 -- ---- what h hands cost at most, sticks left out
 
@@ -67,9 +67,7 @@ module _ (g : Position) where
   unfolding effectOf
   draw-cheap bits e i l = go (any 4 (isAtFault g bits))
     where
-      go : (t : Bool) → let x = cond t (chomboOf g (isAtFault g bits))
-          (finishing (drawGives bits) (g .sticks) (not (isReady bits (g .dealer))) (g .counter + 1)) in
-          dn (x .gives i) ≤ costs (g .hands) + up (x .gives i)
+      go : (t : Bool) → let x = cond t (chomboOf g (isAtFault g bits)) (drawOf g bits) in dn (x .gives i) ≤ costs (g .hands) + up (x .gives i)
       go true = omega (arith, chombo-bounded g (isAtFault g bits) i l)
       go false = omega (arith, draw-bounded bits i)
 
@@ -166,7 +164,7 @@ module _ (g : Position) where
   accepted-lower (riichi seat) e w = when-going g (effectOf g (riichi seat)) refl (riichi-pays seat e) w
   accepted-lower (result (win s)) e w = when-finished g (effectOf g (result (win s))) refl (win-cheap g s e) w
   accepted-lower (result (draw bits)) e w =
-      when-finished g (effectOf g (result (draw bits))) (either-finishes (any 4 (isAtFault g bits)) _ _ refl refl) (draw-cheap g bits e) w
+      when-finished g (effectOf g (result (draw bits))) (result-finishes g (draw bits)) (draw-cheap g bits e) w
   accepted-lower (result (chombo seat)) e w =
       when-finished g (effectOf g (result (chombo seat))) refl (λ i l. omega (arith, chombo-bounded g (λ j. eqb j seat) i l)) w
   accepted-lower (pao holder feeder yaku) e w = when-going g (effectOf g (pao holder feeder yaku)) refl (λ i l. pao-pays holder feeder yaku i) w

@@ -16,7 +16,8 @@ use Rattle.hand_rons.specs.laws.First.{none-before}
 use Rattle.score.specs.laws.Z.{up, dn, add-law}
 use Rattle.position.specs.declared.Position.{Position}
 use Rattle.position.specs.Booking.{result, multiRon}
-use Rattle.position.specs.Ledger.{notOpen, firstRefused, refusalFor, refusalWhen, isDealersWin, winGives, multiRonGives, effectOf}
+use Rattle.position.specs.Ledger.{notOpen, refusalFor, refusalsOf, isDealersWin, winGives, multiRonGives, effectOf, recordRefusals}
+use Rattle.position.specs.laws.First.{firstRefused}
 use Rattle.position.specs.laws.Form.{open-of}
 use Rattle.position.specs.laws.Accepted.{cond-zero}
 use Rattle.position.specs.laws.Effect.{Fair, finishing-fair}
@@ -71,7 +72,7 @@ module _ (g : Position) (number : ℕ) (s : List ℕ) where
   rs = recordsOf number s
 
   pub multi-ron-accepted : refusalFor g (result (multiRon number s)) ≡ 0 → Accepted g number s
-  unfolding refusalFor refusalWhen
+  unfolding refusalFor refusalsOf
   multi-ron-accepted e =
       let c3 : ℕ = cond (notOnOneTile rs) 17 (firstRefused g rs) in
       let c2 : ℕ = cond (ltb 0 (firstUnreadable rs)) (firstUnreadable rs) c3 in

@@ -1,13 +1,11 @@
--- A draw in which a declared seat is not ready is a chombo; no booking is refused with 12.
-use mathlib.Core.Path.{_≡_, refl, sym, ap, _∙_}
+-- No booking is refused with 12 (02, S-7).
+use mathlib.Core.Path.{_≡_, ap}
 use mathlib.Core.Bool.{Bool, true, false, _||_, cond}
 use mathlib.Core.List.{List, [], _∷_}
-use Prim.Native.Nat.{ℕ, _+_, _-_, _*_, _≤_, _<_}
+use Prim.Native.Nat.{ℕ, _≤_}
 use native.Mathlib.Omega.{arith}
 use lib.Dec.{ltb, eqb}
-use lib.IntN.{pos, _+ℤ_, +ℤ-assoc}
 use lib.ListN.{length}
-use Rattle.tiles.specs.Below.{any}
 use Rattle.tiles.specs.laws.Below.{cond-le}
 use Rattle.hand.specs.declared.Hand.{Hand}
 use Rattle.hand.specs.Held.{descends, overFour}
@@ -18,56 +16,12 @@ use Rattle.score.specs.declared.Scored.{Scored}
 use Rattle.score.specs.Named.{Named, reported, six, seven}
 use Rattle.score.specs.IsScore.{IsScore, eight, unreadable, read}
 use Rattle.score.specs.Score.{scoreOf, is-score}
-use Rattle.score.specs.laws.Z.{add-law, eq-parts}
 use Rattle.position.specs.declared.Position.{Position}
 use Rattle.position.specs.Booking.{Booking, result, riichi, win, draw, chombo, pao, multiRon}
 use Rattle.hand_rons.specs.Records.{recordsOf, firstUnreadable, notOnOneTile}
-use Rattle.position.specs.Ledger.{scoreAt, isDeclared, declarations, notOpen, handFor, scoredFor, riichiMismatch, winRefusal, firstRefused, lacksStick}
-use Rattle.position.specs.Ledger.{wrongPao, refusalFor, refusalWhen, fineOf, backTo, chomboGives, chomboOf, isAtFault, effectOf, applied, after}
-use Rattle.position.specs.NotReady.{BookedAsChombo}
-use Rattle.position.specs.laws.Effect.{score-applied}
-use Rattle.position.specs.laws.Fair.{chombo-balanced}
-
--- ---- what such a draw does
-
-module _ (l : Position) (bits : ℕ) where
-  applied-is : BookedAsChombo l bits (applied l (chomboOf l (isAtFault l bits)))
-  unfolding applied chomboGives
-  applied-is = record {
-    scores = λ i h. score-applied l (chomboOf l (isAtFault l bits)) i h ∙ sym (+ℤ-assoc (scoreAt l i) (fineOf (isAtFault l bits) i) (backTo l i));
-    sticks = refl;
-    dealer = refl;
-    wind = refl;
-    counter = refl;
-    hands = refl;
-    declared = refl;
-    over = refl;
-  }
-
-  pub booked-as-chombo : refusalFor l (result (draw bits)) ≡ 0 → any 4 (isAtFault l bits) ≡ true → BookedAsChombo l bits (after l (result (draw bits)))
-  unfolding after effectOf
-  booked-as-chombo e t = rw (e, t) applied-is
-
--- ---- the four gifts and the sticks that stay are the sticks that were
-
-module _ (l : Position) (at : ℕ → Bool) where
-  pub with-sticks : declarations l ≤ l .sticks →
-      chomboGives l at 0 +ℤ chomboGives l at 1 +ℤ chomboGives l at 2 +ℤ chomboGives l at 3 +ℤ pos (1000 * (l .sticks - declarations l)) ≡ pos (1000 * l .sticks)
-  with-sticks h =
-      let x0 = chomboGives l at 0 in
-      let x1 = chomboGives l at 1 in
-      let x2 = chomboGives l at 2 in
-      let x3 = chomboGives l at 3 in
-      let k : ℕ = 1000 * (l .sticks - declarations l) in
-      eq-parts _ _ (omega (
-        arith,
-        chombo-balanced l at h,
-        add-law x0 x1,
-        add-law (x0 +ℤ x1) x2,
-        add-law (x0 +ℤ x1 +ℤ x2) x3,
-        add-law (x0 +ℤ x1 +ℤ x2 +ℤ x3)
-            (pos k),
-      ))
+use Rattle.position.specs.Ledger.{isDeclared, notOpen, handFor, scoredFor, riichiMismatch, lacksStick, recordRefusals}
+use Rattle.position.specs.laws.First.{winRefusal, firstRefused}
+use Rattle.position.specs.Ledger.{wrongPao, refusalFor, refusalsOf}
 
 -- ---- Read's refusals are 5 at most, Score's 8
 
@@ -130,12 +84,12 @@ module _ (l : Position) where
       (neither (riichiMismatch l (handFor s)) 11 0 (λ e. omega arith) (λ e. omega arith))
 
   refused-12 : (ss : List (List ℕ)) → Not12 (firstRefused l ss)
-  unfolding firstRefused
+  unfolding recordRefusals
   refused-12 [] = λ e. omega arith
   refused-12 (s ∷ ss) = neither (ltb 0 (winRefusal l s)) (winRefusal l s) _ (win-12 s) (refused-12 ss)
 
   pub never-12 : (b : Booking) → Not12 (refusalFor l b)
-  unfolding refusalFor refusalWhen
+  unfolding refusalFor refusalsOf
   never-12 (riichi seat) =
       neither (ltb 3 seat) 8 _ (λ e. omega arith)
       (neither (notOpen l) 9 _ (λ e. omega arith)

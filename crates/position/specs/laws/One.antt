@@ -15,7 +15,8 @@ use Rattle.hand_rons.specs.Records.{handFor, recordsOf, firstUnreadable, confli
 use Rattle.hand_rons.specs.laws.OneTile.{first-wins}
 use Rattle.position.specs.declared.Position.{Position}
 use Rattle.position.specs.Booking.{result, win, multiRon}
-use Rattle.position.specs.Ledger.{winRefusal, firstRefused, refusalFor, refusalWhen, winGives, multiRonGives, effectOf, applied, after}
+use Rattle.position.specs.Ledger.{refusalFor, refusalsOf, winGives, multiRonGives, effectOf, applied, after, recordRefusals}
+use Rattle.position.specs.laws.First.{winRefusal, firstRefused}
 
 either : (b : Bool) → b || false ≡ b
 either true = refl
@@ -42,7 +43,7 @@ module _ (l : Position) (s : List ℕ) (r : isRon (handFor s .fields) ≡ true) 
   on-one-tile = rw r
 
   same-refusal : refusalFor l (result (multiRon 1 s)) ≡ refusalFor l (result (win s))
-  unfolding refusalFor refusalWhen recordsOf firstUnreadable firstRefused
+  unfolding refusalFor refusalsOf recordsOf firstUnreadable recordRefusals
   same-refusal = rw (reads, on-one-tile, own (winRefusal l s))
 
   -- its winner is the first

@@ -4,22 +4,18 @@ use mathlib.Core.Bool.{Bool, true, false, _||_, not, cond, false≢true}
 use mathlib.Core.List.{List, [], _∷_}
 use Prim.Native.Nat.{ℕ, zero, suc, _+_, _-_, _*_, _/_, _%_, _≤_, _<_}
 use native.Mathlib.Omega.{arith}
-use borrow.Author.Tests.{eq-eqb, ne-eqb, eqb-true, eqb-false, lt-ltb, ltb-true, ltb-false, le-ltb}
+use borrow.Author.Tests.{eq-eqb, ne-eqb, eqb-true, eqb-false, ltb-true, ltb-false, le-ltb}
 use lib.Dec.{ltb, eqb}
 use lib.IntN.{ℤ, pos, negℤ, _+ℤ_}
-use lib.ListN.{getD, set, replicate, getD-replicate, List·getD-eq-default}
-use lib.Seq.{getD-set-other}
-use Rattle.tiles.specs.Below.{any, sum}
+use lib.ListN.{getD, set}
+use Rattle.tiles.specs.Below.{sum}
 use Rattle.tiles.specs.laws.Below.{or-both}
-use Rattle.points.specs.laws.Balance.{below-four}
 use Rattle.score.specs.laws.Z.{dn, add-law, neg-law, eq-parts}
 use Rattle.position.specs.declared.Position.{Position}
-use Rattle.position.specs.Booking.{Booking, result, riichi, win, draw, chombo, pao, multiRon}
-use Rattle.position.specs.Ledger.{isSet, feederAt, feederIndex, wrongFeeder, wrongPao, refusalFor, Effect, paidByOthers, repeatGives, wholeOf, paoPays}
-use Rattle.position.specs.Ledger.{paoIn, isAtFault, effectOf, applied, after}
+use Rattle.position.specs.Ledger.{isSet, feederAt, feederIndex, wrongFeeder, wrongPao, paidByOthers, repeatGives, wholeOf, paoPays}
+use Rattle.position.specs.Ledger.{paoIn, after}
 use Rattle.position.specs.Article67.{Article67}
 use Rattle.position.specs.laws.Form.{InForm}
-use Rattle.position.specs.laws.Accepted.{pao-accepted}
 use Rattle.position.specs.laws.Repeat.{added-at}
 use Rattle.position.specs.laws.PaidByOthers.{Even, even-zero, paid-by-others-even, paid-by-others-dn, one-pays}
 
@@ -235,56 +231,3 @@ payer-small false d k h l = omega arith
 pub payer-other : (ron : Bool) (w d k : ℕ) → (ron ≡ true → w ≡ d → ⊥) → (k ≡ 1 + w → ⊥) → ron || isSet k ≡ true → w ≡ cond ron d (k - 1) → ⊥
 payer-other true w d k h other a e = h refl e
 payer-other false w d k h other a e = other (omega (arith, ltb-true 0 k a))
-
--- ---- a finished hand leaves no feeder
-
-none-left : (i : ℕ) → _≡_ {A = ℕ} (getD (replicate 8 0) i 0) 0
-none-left i = go (ltb i 8) refl
-  where
-    go : (t : Bool) → ltb i 8 ≡ t → _≡_ {A = ℕ} (getD (replicate 8 0) i 0) 0
-    go true e = getD-replicate 8 i 0 0 (ltb-true i 8 e)
-    go false e = List·getD-eq-default (replicate 8 0) 0 (ltb-false i 8 e)
-
--- of either of two effects that leave none
-either-none : (t : Bool) (a b : Effect) → a .feeders ≡ replicate 8 0 → b .feeders ≡ replicate 8 0 → (i : ℕ) → getD (cond t a b .feeders) i 0 ≡ 0
-either-none true a b p q i = rw p (none-left i)
-either-none false a b p q i = rw q (none-left i)
-
-pub either-finishes : (t : Bool) (a b : Effect) → a .finishes ≡ true → b .finishes ≡ true → cond t a b .finishes ≡ true
-either-finishes true a b p q = p
-either-finishes false a b p q = q
-
-module _ (l : Position) where
-  lapsed : (b : Booking) → effectOf l b .finishes ≡ true → (i : ℕ) → getD (effectOf l b .feeders) i 0 ≡ 0
-  unfolding effectOf
-  lapsed (riichi seat) e i = absurd (false≢true e)
-  lapsed (result (win s)) e i = none-left i
-  lapsed (result (draw bits)) e i = either-none (any 4 (isAtFault l bits)) _ _ refl refl i
-  lapsed (result (chombo seat)) e i = none-left i
-  lapsed (pao holder feeder yaku) e i = absurd (false≢true e)
-  lapsed (result (multiRon number s)) e i = none-left i
-
-  pub feeders-lapse : (b : Booking) → refusalFor l b ≡ 0 → effectOf l b .finishes ≡ true → (i : ℕ) → feederAt (after l b) i ≡ 0
-  unfolding after applied
-  feeders-lapse b e f i = rw e (lapsed b f i)
-
-  -- ---- a feeder that is named stays till then
-
-  stays : (b : Booking) → refusalFor l b ≡ 0 → effectOf l b .finishes ≡ false → (i : ℕ) → (feederAt l i ≡ 0 → ⊥)
-      → getD (effectOf l b .feeders) i 0 ≡ feederAt l i
-  unfolding effectOf
-  stays (riichi seat) e f i k = refl
-  stays (result (win s)) e f i k = absurd (false≢true (sym f))
-  stays (result (draw bits)) e f i k = absurd (false≢true (sym f ∙ either-finishes (any 4 (isAtFault l bits)) _ _ refl refl))
-  stays (result (chombo seat)) e f i k = absurd (false≢true (sym f))
-  stays (pao holder feeder yaku) e f i k =
-      let place : ℕ = feederIndex holder yaku in
-      let free = ltb-false 0 (feederAt l place) (right-pao l holder feeder yaku (pao-accepted l holder feeder yaku e .3) .2) in
-      let other : i ≡ place → ⊥ = λ q. k (ap (feederAt l) q ∙ omega arith) in
-      getD-set-other (l .feeders) place i (1 + feeder) 0 other
-  stays (result (multiRon number s)) e f i k = absurd (false≢true (sym f))
-
-  pub feeders-stay : (b : Booking) → refusalFor l b ≡ 0 → effectOf l b .finishes ≡ false → (i : ℕ) → (feederAt l i ≡ 0 → ⊥)
-      → feederAt (after l b) i ≡ feederAt l i
-  unfolding after applied
-  feeders-stay b e f i k = rw e (stays b e f i k)

@@ -26,7 +26,8 @@ use Rattle.score.specs.laws.Named.{accepted, best, most, refused-6, refused-7, 
 use Rattle.position.specs.declared.Position.{Position}
 use Rattle.position.specs.Booking.{result, win, multiRon}
 use Rattle.hand_rons.specs.Records.{recordsOf, firstUnreadable, firstWinner}
-use Rattle.position.specs.Ledger.{scoreAt, notOpen, handFor, scoredFor, riichiMismatch, winRefusal, firstRefused, refusalFor, isSet, wholeOf}
+use Rattle.position.specs.Ledger.{scoreAt, notOpen, handFor, scoredFor, riichiMismatch, refusalFor, isSet, wholeOf, recordRefusals}
+use Rattle.position.specs.laws.First.{winRefusal, firstRefused}
 use Rattle.position.specs.Ledger.{isDealersWin, gainGives, counterGives, paoIn, holdsFourWinds, paoFor, winGives, multiRonGives, effectOf, after}
 use Rattle.position.specs.Wins.{gainBy, changeBy, sticksTo, paoBy, paidIn, PaidBy, IsBest, EachWins, MultiRonAcceptedWhen, EachBest, givenIn}
 use Rattle.position.specs.Wins.{MultiRonPaid, AcceptedWhen, PaidByBest, BestWithCounters, TilesRefused, SixOrSeven}
@@ -218,7 +219,7 @@ module _ (l : Position) (o : notOpen l ≡ false) (x : ℕ) where
   Found ss = (rs : List Reading) × EachBest l ss rs × ((i : ℕ) → multiRonGives l x ss i ≡ givenIn l x ss rs i)
 
   each-found : (ss : List (List ℕ)) → AllRead ss → firstRefused l ss ≡ 0 → Found ss
-  unfolding firstRefused multiRonGives
+  unfolding recordRefusals multiRonGives
   each-found [] r e = ([], tt, λ i. refl)
   each-found (s ∷ ss) r e =
       let v : ℕ = scoredFor l s .refusal in
@@ -255,7 +256,7 @@ module _ (l : Position) (number : ℕ) (s : List ℕ) where
 
 module _ (l : Position) (o : notOpen l ≡ false) where
   each-wins : (ss : List (List ℕ)) → AllRead ss → firstRefused l ss ≡ 0 → EachWins l ss
-  unfolding firstRefused
+  unfolding recordRefusals
   each-wins [] r e = tt
   each-wins (s ∷ ss) r e =
       let p = own-zero (winRefusal l s) (firstRefused l ss) e in
@@ -263,7 +264,7 @@ module _ (l : Position) (o : notOpen l ≡ false) where
       ((y .1, y .2, y .3), each-wins ss (r .1) (p .1))
 
   all-won : (ss : List (List ℕ)) → EachWins l ss → (firstUnreadable ss ≡ 0) × (firstRefused l ss ≡ 0)
-  unfolding firstUnreadable firstRefused
+  unfolding firstUnreadable recordRefusals
   all-won [] w = (refl, refl)
   all-won (s ∷ ss) w =
       let t = all-won ss (w .1) in

@@ -19,7 +19,8 @@ use Rattle.hand_rons.specs.laws.OneTile.{Read, AllRead}
 use Rattle.hand_rons.specs.laws.Hands.{blank, that-number, hand-at}
 use Rattle.position.specs.declared.Position.{Position}
 use Rattle.position.specs.Booking.{result, multiRon}
-use Rattle.position.specs.Ledger.{winRefusal, winGives, firstRefused, refusalFor, multiRonGives, effectOf, applied, after, Moves}
+use Rattle.position.specs.Ledger.{winGives, refusalFor, multiRonGives, effectOf, applied, after, Moves, recordRefusals}
+use Rattle.position.specs.laws.First.{winRefusal, firstRefused}
 use Rattle.position.specs.laws.Bounds.{mostGift}
 use Rattle.position.specs.laws.Sums.{Small, Gifts, paid, paid-within}
 use Rattle.position_moves.specs.laws.Steps.{finished}
@@ -107,7 +108,7 @@ module _ (g : Position) (x : ℕ) where
 
     -- all are settled
     pub given-all : n ≤ i → (rs : List (List ℕ)) → AllRead rs → map handFor rs ≡ take n hs → SettlesAll rs (record { refusal = 0; winner = x; gives = by })
-    unfolding firstRefused multiRonGives
+    unfolding recordRefusals multiRonGives
     given-all l rs r e =
         let m : i ≡ length rs = omega (arith, w .inside, that-number n hs room rs e) in
         let none : drop i rs ≡ [] = ap (λ (k : ℕ). drop k rs) m ∙ drop-length rs in (
@@ -133,13 +134,13 @@ module _ (g : Position) (x : ℕ) where
 
         -- it is refused
         pub given-refused : 0 < t .refusal → SettlesAll rs t
-        unfolding firstRefused
+        unfolding recordRefusals
         given-refused p =
             let q : winRefusal g (getD rs i []) ≡ t .refusal = sym (settled .0) in
             (sym (w .refusal rs r e ∙ ap (firstRefused g) next ∙ rw (q, lt-ltb 0 (t .refusal) p)), λ z. absurd (omega arith))
 
         next-refusal : t .refusal ≡ 0 → firstRefused g rs ≡ firstRefused g (drop (suc i) rs)
-        unfolding firstRefused
+        unfolding recordRefusals
         next-refusal z = w .refusal rs r e ∙ ap (firstRefused g) next ∙ rw (sym (settled .0) ∙ z)
 
         next-gives : t .refusal ≡ 0 → tabulate 4 0 (multiRonGives g x rs) ≡ paid (paid by (t .gives)) (tabulate 4 0 (multiRonGives g x (drop (suc i) rs)))

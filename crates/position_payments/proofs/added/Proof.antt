@@ -1,7 +1,5 @@
 -- `position_payments::added` meets its contract: who pays alone is another seat than the winner.
 use borrow.Author.Needs.{needs}
-use Rattle.hand.specs.Hand.{isRon}
-use Rattle.hand_record.specs.laws.Bounds.{other-seat}
 use Rattle.position.specs.laws.Pao.{payer-small, payer-other}
 use Rattle.position_payments.proofs.added.Statement.{statement}
 use Rattle.position_payments.proofs.added.Tie as tie
@@ -12,15 +10,15 @@ added-spec =
     (tie.spec
     (λ c κs. search needs) (λ c κs. search needs)
     (λ c κs.
-    let start = c .before .before .before in
-    let f = start .args .f in
+    let start = c .before .before in
+    let s = start .args .s in
+    let ron = start .args .ron in
     let liable = start .args .liable in
     let p = start .pre in
     rw (c .payer-of .ensures, c .before .feeder-of .ensures) (
       p .0,
-      payer-small (isRon f) (f .discarder) liable (p .1) (p .3),
-      payer-other (isRon f) (f .winner) (f .discarder) liable (other-seat f (p .2))
-          (p .4),
+      payer-small ron (s .discarder) liable (p .1) (p .3),
+      payer-other ron (s .winner) (s .discarder) liable (p .2) (p .4),
       p .5,
     ))
     (λ c. rw (c .before .payer-of .ensures, c .before .before .feeder-of .ensures) at (c .additions .ensures)))

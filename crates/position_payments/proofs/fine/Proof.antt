@@ -1,21 +1,20 @@
--- `position_payments::fine` meets its contract: 3,000 for each of four seats, and 0 less that, do not wrap.
-use Prim.Native.Nat.{ℕ, _-_, _*_, _≤_}
+-- `position_payments::fine` meets its contract: 3,000 for each of four seats does not wrap.
 use native.Mathlib.Omega.{arith}
 use borrow.Author.Needs.{needs}
-use Rattle.position.specs.laws.Bounds.{amount, mostChange}
-use Rattle.position.specs.laws.Sums.{neg-within, plain, less-fits, less-is}
+use Rattle.position.specs.laws.Sums.{held}
 use Rattle.position_payments.proofs.fine.Statement.{statement}
 use Rattle.position_payments.proofs.fine.Tie as tie
-
-small : (n : ℕ) → 3000 * (4 - n) ≤ amount
-small n = omega arith
 
 pub fine-spec : {M : Type 1} → statement M
 fine-spec =
     tie.close
     (tie.spec
-    (λ c. search needs) (λ c. search needs) (λ c. search needs)
-    (λ c. let n = c .before .args .n in less-fits (3000 * (4 - n)) (small n))
-    (λ c. search needs) (λ c. search needs)
-    (λ c. let n = c .before .args .n in rw (less-is (3000 * (4 - n)) (small n)) (rw (c .if1 .taken), neg-within (3000 * (4 - n)) mostChange (omega arith)))
-    (λ c. let p = c .before .pre in rw (plain (3000 * c .before .args .n) (omega arith)) (rw (c .if1 .left), (omega arith, omega arith))))
+    (λ c. search needs) (λ c. search needs) (λ c κs. omega arith) (λ c. search needs)
+    (λ c κs. let p = c .before .pre in omega arith)
+    (λ c.
+    let w = c .less .ensures .1 in
+    rw (held (c .less .result) (omega arith, omega arith)) (rw (c .before .if1 .taken) (c .less .ensures .0), (omega arith, omega arith)))
+    (λ c.
+    let p = c .before .before .pre in
+    let w = c .more .ensures .1 in
+    rw (held (c .more .result) (omega arith, omega arith)) (rw (c .before .if1 .left) (c .more .ensures .0), (omega arith, omega arith))))

@@ -2,7 +2,6 @@
 use mathlib.Core.Path.{refl}
 use native.Mathlib.Omega.{arith}
 use borrow.Author.Needs.{needs}
-use Rattle.position.specs.laws.Bounds.{mostChange}
 use Rattle.position.specs.laws.Sums.{neg-within, less-fits, less-is}
 use Rattle.position_payments.proofs.less.Statement.{statement}
 use Rattle.position_payments.proofs.less.Tie as tie
@@ -11,5 +10,5 @@ pub less-spec : {M : Type 1} → statement M
 less-spec =
     tie.close
     (tie.spec (λ c. search needs)
-    (λ c. let l = c .pre in less-fits (c .args .amount) (omega arith))
-    (λ c. let l = c .pre in rw (less-is (c .args .amount) (omega arith)) (refl, neg-within (c .args .amount) mostChange l)))
+    (λ c. let n = c .before .args .p .0 in less-fits n (c .before .pre))
+    (λ c. let n = c .before .args .p .0 in rw (less-is n (c .before .pre)) (refl, neg-within n n (omega arith))))

@@ -9,10 +9,16 @@ owed-spec =
     tie.close
     (tie.spec
     (λ c κs. search needs) (λ c κs. search needs)
-    (λ c. let l = c .before .before .before .pre in omega (arith, c .before .due .ensures .1, c .due2 .ensures .1))
+    (λ c.
+    let second = c .before .before in
+    let first = second .before in
+    let l = first .before .before .before .pre in
+    omega (arith, first .due .ensures .1, second .due2 .ensures .1))
     (λ c κs. search needs)
     (λ c.
-    let feeds = c .before .due .ensures in
-    let discards = c .due2 .ensures in
-    (rw (c .before .before .if1 .taken, feeds .0, discards .0), omega (arith, feeds .1, discards .1)))
+    let second = c .before .before in
+    let first = second .before in
+    let feeds = first .due .ensures in
+    let discards = second .due2 .ensures in
+    (rw (first .before .if1 .taken, feeds .0, discards .0), omega (arith, feeds .1, discards .1)))
     (λ c. (rw (c .before .if1 .left) (c .due3 .ensures .0), c .due3 .ensures .1)))

@@ -6,8 +6,6 @@ use native.Mathlib.Omega.{arith}
 use borrow.Author.Needs.{needs}
 use lib.Dec.{eqb}
 use lib.IntN.{ℤ, pos, negℤ}
-use Rattle.hand.specs.Hand.{isRon}
-use Rattle.hand_record.specs.laws.Bounds.{other-seat}
 use Rattle.position.specs.Ledger.{paidByOthers, wholeOf, paoPays}
 use Rattle.position.specs.laws.Bounds.{mostChange}
 use Rattle.position.specs.laws.Sums.{four-within}
@@ -39,22 +37,24 @@ pao-gives-spec =
     let first = second .before .before in
     let whole = first .before .before in
     let start = whole .before .before in
-    let f = start .args .f in
+    let s = start .args .s in
+    let ron = start .args .ron in
+    let dealers = eqb (s .winner) (s .dealer) in
     let p = start .pre in
-    let seat = given (f .winner) (f .discarder) (start .args .feeder) (isRon f) (start .args .dealers) (p .4) (other-seat f (p .2)) (p .3) (p .1)
-    (whole .whole-of .result) (whole .whole-of .ensures .0) in
+    let seat = given (s .winner) (s .discarder) (start .args .feeder) ron dealers (p .4) (p .2) (p .3) (p .1)
+    (whole .whole-of .result .0) (whole .whole-of .ensures .0) in
     four-within mostChange (omega arith) (first .pao-given .result) (second .pao-given2 .result) (third .pao-given3 .result) (c .pao-given4 .result)
-    (paidByOthers (f .winner) (paoPays (f .winner) (f .discarder) (start .args .feeder) (isRon f) (wholeOf (start .args .dealers)))) (
-      seat 0 (first .before .owed .result) (first .before .owed .ensures .0) (first .pao-given .result)
+    (paidByOthers (s .winner) (paoPays (s .winner) (s .discarder) (start .args .feeder) ron (wholeOf dealers))) (
+      seat 0 (first .before .owed .result .0) (first .before .owed .ensures .0) (first .pao-given .result)
           (first .pao-given .ensures .0),
       first .pao-given .ensures .1,
     ) (
-      seat 1 (second .before .owed2 .result) (second .before .owed2 .ensures .0) (second .pao-given2 .result)
+      seat 1 (second .before .owed2 .result .0) (second .before .owed2 .ensures .0) (second .pao-given2 .result)
           (second .pao-given2 .ensures .0),
       second .pao-given2 .ensures .1,
     ) (
-      seat 2 (third .before .owed3 .result) (third .before .owed3 .ensures .0) (third .pao-given3 .result)
+      seat 2 (third .before .owed3 .result .0) (third .before .owed3 .ensures .0) (third .pao-given3 .result)
           (third .pao-given3 .ensures .0),
       third .pao-given3 .ensures .1,
     )
-    (seat 3 (c .before .owed4 .result) (c .before .owed4 .ensures .0) (c .pao-given4 .result) (c .pao-given4 .ensures .0), c .pao-given4 .ensures .1)))
+    (seat 3 (c .before .owed4 .result .0) (c .before .owed4 .ensures .0) (c .pao-given4 .result) (c .pao-given4 .ensures .0), c .pao-given4 .ensures .1)))

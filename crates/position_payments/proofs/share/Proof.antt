@@ -9,7 +9,7 @@ use borrow.Author.Needs.{needs}
 use lib.Dec.{eqb}
 use Rattle.tiles.specs.laws.Below.{or-both}
 use Rattle.position.specs.laws.Bounds.{amount}
-use Rattle.position.specs.laws.Sums.{neg-within, plain, less-fits, less-is}
+use Rattle.position.specs.laws.Sums.{held}
 use Rattle.position_payments.proofs.share.Statement.{statement}
 use Rattle.position_payments.proofs.share.Tie as tie
 
@@ -29,12 +29,17 @@ share-spec =
     (tie.spec
     (λ c. (rw (c .if1 .taken), search needs))
     (λ c. between (c .before .before .args .n) (c .before .before .pre) (c .before .if1 .left) .0)
-    (λ c. let h = small (c .before .before .args .n) in record { sfits = omega arith })
+    (λ c κs. small (c .before .before .args .n))
     (λ c. search needs)
     (λ c. omega (arith, between (c .before .before .args .n) (c .before .before .pre) (c .before .if1 .left)))
-    (λ c. let h = small (4 - c .before .before .args .n) in record { sfits = omega arith })
-    (λ c. let n = c .before .before .args .n in less-fits (3000 / (4 - n)) (small (4 - n)))
-    (λ c. let n = c .before .before .args .n in let h = small n in
-    rw (plain (3000 / n) h) (rw (c .before .if1 .left, c .if2 .taken), (omega arith, omega arith)))
-    (λ c. let n = c .before .before .args .n in let h = small (4 - n) in
-    rw (less-is (3000 / (4 - n)) h) (rw (c .before .if1 .left, c .if2 .left), neg-within (3000 / (4 - n)) amount h)))
+    (λ c κs. small (4 - c .before .before .args .n))
+    (λ c.
+    let ready = c .before in
+    let h = small (ready .before .before .args .n) in
+    let w = c .more .ensures .1 in
+    rw (held (c .more .result) (omega arith, omega arith)) (rw (ready .before .if1 .left, ready .if2 .taken) (c .more .ensures .0), (omega arith, omega arith)))
+    (λ c.
+    let other = c .before in
+    let h = small (4 - other .before .before .args .n) in
+    let w = c .less .ensures .1 in
+    rw (held (c .less .result) (omega arith, omega arith)) (rw (other .before .if1 .left, other .if2 .left) (c .less .ensures .0), (omega arith, omega arith))))

@@ -18,7 +18,7 @@ won-spec =
     (λ c. search needs)
     (λ c κs.
     let p = c .before .pre in
-    let named = seat (c .before .args .liable) (c .before .args .f .winner) (c .if1 .taken) (p .3) (p .4) in
+    let named = seat (c .before .args .liable) (c .before .args .s .winner) (c .if1 .taken) (p .3) (p .4) in
     (p .0, p .1, p .2, named .0, named .1))
     (λ c. rw (lt-ltb 0 (c .before .before .args .liable) (c .before .if1 .taken)) (c .pao-gives .ensures))
     (λ c. rw (le-ltb 0 (c .before .args .liable) (c .if1 .left)) (refl, c .before .pre .5)))

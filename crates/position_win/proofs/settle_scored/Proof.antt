@@ -3,6 +3,7 @@ use mathlib.Core.Path.{sym, _∙_}
 use mathlib.Core.Bool.{true, false}
 use native.Mathlib.Omega.{arith}
 use borrow.Author.Needs.{needs}
+use Rattle.hand_record.specs.laws.Bounds.{other-seat}
 use Rattle.position_win.specs.laws.Settling.{won-refused, won-accepted, won-unscored, won-scored}
 use Rattle.position_win.proofs.settle_scored.Statement.{statement}
 use Rattle.position_win.proofs.settle_scored.Tie as tie
@@ -34,8 +35,14 @@ settle-scored-spec =
     let a = past .before .before .args in
     won-refused (a .p) (a .f) (a .v) (a .liable) (a .n) (a .k) (c .unsettled2 .result) 11 (c .unsettled2 .ensures)
     (won-scored (a .p) (a .f) (a .v) (a .liable) (a .n) (a .k) (past .if1 .left) true (sym (told .before .mismatch .ensures) ∙ told .if2 .taken)) (omega arith))
-    (λ c κs. let p = start (c .before .before) .pre in (p .1, p .2, p .3, p .5, p .6, p .4))
-    (λ c κs. let p = start (past c) .pre in (p .1, p .2, p .3, p .5, p .6, p .7))
+    (λ c κs.
+    let s = start (c .before .before) in
+    let p = s .pre in
+    (p .1, p .2, other-seat (s .args .f) (p .3), p .5, p .6, p .4))
+    (λ c κs.
+    let s = start (past c) in
+    let p = s .pre in
+    (p .1, p .2, other-seat (s .args .f) (p .3), p .5, p .6, p .7))
     (λ c κs. let p = start (past (c .before)) .pre in (c .before .won .ensures .1, c .added .ensures .1, p .8))
     (λ c.
     let added = c .before in

@@ -17,7 +17,8 @@ use Rattle.score.specs.declared.Scored.{Scored}
 use Rattle.score.specs.laws.HandScore.{score-unreadable}
 use Rattle.position.specs.declared.Position.{Position}
 use Rattle.position.specs.Booking.{result, win}
-use Rattle.position.specs.Ledger.{isSet, isDeclared, notOpen, handFor, scoredFor, winRefusal, paidByOthers, repeatGives, wholeOf, paoPays, paoFor, winGives}
+use Rattle.position.specs.Ledger.{isSet, isDeclared, notOpen, handFor, scoredFor, paidByOthers, repeatGives, wholeOf, paoPays, paoFor, winGives}
+use Rattle.position.specs.laws.First.{winRefusal}
 use Rattle.position.specs.Ledger.{effectOf, applied}
 use Rattle.position.specs.laws.Form.{Open}
 use Rattle.position.specs.laws.Sums.{Gifts, zeros-gifts}

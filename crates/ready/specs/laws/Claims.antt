@@ -5,7 +5,7 @@ use mathlib.Core.List.{List}
 use Prim.Native.Nat.{ℕ, zero, suc, _+_, _-_, _*_, _≤_, _<_}
 use native.Mathlib.Nat.{eq-or-lt-of-le, le-of-suc-le-suc}
 use native.Mathlib.Omega.{arith}
-use lib.ListN.{getD}
+use lib.ListN.{getD, replicate}
 use Rattle.tiles.specs.Below.{sumBelow}
 use Rattle.tiles.specs.Tally.{tallyOf}
 use Rattle.tiles.specs.laws.Tally.{length-tally, getD-tally}
@@ -25,7 +25,7 @@ use Rattle.ready.specs.laws.Answer.{same-melds-self}
 
 -- ---- there is one
 
-pub nearest-hand : (s : List ℕ) → refusalOf s ≡ 0 → (n : ℕ) × (y : Held) × IsNearest (heldOf s) n y
+nearest-hand : (s : List ℕ) → refusalOf s ≡ 0 → (n : ℕ) × (y : Held) × IsNearest (heldOf s) n y
 nearest-hand s e =
     let x = heldOf s in
     let (few, b) = same-melds-self s e in
@@ -86,15 +86,45 @@ module _ (x : Held) (few : x .m ≤ 4) (b : SameMelds x x) where
 
 -- ---- answers
 
-pub one-number : (s : List ℕ) (a b : Ready) → IsAnswer s a → IsAnswer s b → (a .refusal ≡ b .refusal) × (a .swaps ≡ b .swaps)
-one-number s a b (unreadable p) (unreadable q) = (refl, refl)
-one-number s a b (unreadable p) (nearest e n y q) = absurd (omega arith)
-one-number s a b (nearest e n y q) (unreadable p) = absurd (omega arith)
-one-number s a b (nearest e n y p) (nearest f m z q) =
+only : (s : List ℕ) (a b : Ready) → IsAnswer s a → IsAnswer s b → (b .refusal ≡ a .refusal) × (b .swaps ≡ a .swaps)
+only s a b (unreadable p) (unreadable q) = (refl, refl)
+only s a b (unreadable p) (nearest e n y q) = absurd (omega arith)
+only s a b (nearest e n y q) (unreadable p) = absurd (omega arith)
+only s a b (nearest e n y p) (nearest f m z q) =
     (refl, omega (arith, p .away, q .away, p .fewest z (q .hand) (q .ready), q .fewest y (p .hand) (p .ready)))
 
-pub zero-when-ready : (s : List ℕ) (r : Ready) → refusalOf s ≡ 0 → IsAnswer s r → (r .swaps ≡ 0) ↔ IsReady (heldOf s)
-zero-when-ready s r e (unreadable p) = absurd (omega arith)
-zero-when-ready s r e (nearest f n y q) =
+pub exactly-one : (s : List ℕ) → (a : Ready) × IsAnswer s a × ((b : Ready) → IsAnswer s b → (b .refusal ≡ a .refusal) × (b .swaps ≡ a .swaps))
+exactly-one s = let l : 0 ≤ refusalOf s = omega arith in ⊎-elim found refused (eq-or-lt-of-le l)
+  where
+    Exactly : Type 0
+    Exactly = (a : Ready) × IsAnswer s a × ((b : Ready) → IsAnswer s b → (b .refusal ≡ a .refusal) × (b .swaps ≡ a .swaps))
+
+    found : 0 ≡ refusalOf s → Exactly
+    found e =
+        let (n, y, q) = nearest-hand s (sym e) in
+        let a : Ready = record { refusal = 0; swaps = n; hand = y .concealed } in
+        let p : IsAnswer s a = nearest (sym e) n y q in
+        (a, p, λ b. only s a b p)
+
+    refused : 0 < refusalOf s → Exactly
+    refused l =
+        let a : Ready = record { refusal = refusalOf s; swaps = 0; hand = replicate 13 0 } in
+        let p : IsAnswer s a = unreadable l in
+        (a, p, λ b. only s a b p)
+
+pub its-refusal : (s : List ℕ) (a : Ready) → IsAnswer s a → a .refusal ≡ refusalOf s
+its-refusal s a (unreadable p) = refl
+its-refusal s a (nearest e n y q) = sym e
+
+pub its-hand : (s : List ℕ) (a : Ready) → IsAnswer s a → refusalOf s ≡ 0 → (y : Held) × IsNearest (heldOf s) (a .swaps) y
+its-hand s a (unreadable p) z = absurd (omega arith)
+its-hand s a (nearest e n y q) z = (y, q)
+
+pub its-zero : (s : List ℕ) (a : Ready) → IsAnswer s a → 0 < refusalOf s → a .swaps ≡ 0
+its-zero s a (unreadable p) l = refl
+its-zero s a (nearest e n y q) l = absurd (omega arith)
+
+pub zero-when-ready : (s : List ℕ) → refusalOf s ≡ 0 → (n : ℕ) (y : Held) → IsNearest (heldOf s) n y → (n ≡ 0) ↔ IsReady (heldOf s)
+zero-when-ready s e n y q =
     let (few, b) = same-melds-self s e in
     (λ z. zero-ready (heldOf s) few b y (subst (λ (m : ℕ). IsNearest (heldOf s) m y) z q), λ w. ready-zero (heldOf s) few b n y w q)

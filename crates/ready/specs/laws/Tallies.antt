@@ -13,8 +13,8 @@ use lib.Seq.{getD-set-same, getD-set-other}
 use Rattle.tiles.specs.Below.{countBelow, sumBelow}
 use Rattle.tiles.specs.Groups.{atKind}
 use Rattle.tiles.specs.laws.Below.{cond-le}
-use Rattle.tiles.specs.Tally.{tallyOf}
-use Rattle.tiles.specs.laws.Tally.{more, length-tally, getD-tally, tally-ext, getD-more}
+use Rattle.tiles.specs.Tally.{tallyOf, more}
+use Rattle.tiles.specs.laws.Tally.{length-tally, getD-tally, tally-ext, getD-more}
 use Rattle.hand.specs.declared.Held.{Held}
 use Rattle.hand.specs.Held.{meldKind, meldTile, meldHolds, inMelds, inOthers, inHeld}
 use Rattle.reading.specs.laws.Groups.{at-other}

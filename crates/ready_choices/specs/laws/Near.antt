@@ -11,7 +11,8 @@ use lib.ListN.{length, getD, length-set}
 use lib.Seq.{ext-getD}
 use Rattle.tiles.specs.Below.{sumBelow}
 use Rattle.tiles.specs.Groups.{isGroup, atKind, uses}
-use Rattle.tiles.specs.laws.Tally.{more, getD-more, at-le}
+use Rattle.tiles.specs.Tally.{more}
+use Rattle.tiles.specs.laws.Tally.{getD-more, at-le}
 use Rattle.reading.specs.declared.Reading.{Reading}
 use Rattle.reading.specs.Reading.{usedBy, IsReading, regular, pairs, orphans, ofShape}
 use Rattle.reading.specs.search.Readings.{less}

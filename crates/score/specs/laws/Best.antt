@@ -28,7 +28,7 @@ module _ (h : Hand) (dealer wind : ℕ) where
   -- a search, up to where it may end, held each reading of the hand against the others
   pub over-readings : (ends : Reading → Bool) → MayEnd (worth h dealer wind) ends
       → Kept (worth h dealer wind) (IsReadingOf h)
-      (folded (keepBetterBy (worth h dealer wind) ends) noneOf (readings (concealedTally h) (h .held .m) (h .fields .winning)))
+      (folded (keepBetterBy (worth h dealer wind) ends) (noneOf 0) (readings (concealedTally h) (h .held .m) (h .fields .winning)))
   over-readings ends may =
       let t = worth h dealer wind in
       let c = concealedTally h in

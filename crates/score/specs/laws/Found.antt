@@ -20,21 +20,23 @@ use Rattle.reading.specs.search.Folded.{folded}
 use Rattle.points_value.specs.declared.Value.{Value}
 use Rattle.points_value.specs.Value.{valueOf}
 use Rattle.score_best.specs.declared.Best.{Best}
+use Rattle.score_best.specs.declared.HandCommon.{HandCommon}
 use Rattle.score_best.specs.Best.{withYaku, withYakuman}
-use Rattle.score_best.specs.search.Best.{beats, noneOf, taking, passing, keepBetterBy, keepBetter, bestOf}
+use Rattle.score_best.specs.search.Best.{beats, noneOf, taking, passing, keepBetterBy, bestOf}
 use Rattle.score_best.specs.laws.Top.{basic-le}
 use Rattle.score.specs.declared.Scored.{Scored}
-use Rattle.score.specs.Named.{seatsOf, worth, refusedWith, acceptedAs}
+use Rattle.score.specs.Named.{wonOf, seatsOf, worth, refusedWith, acceptedAs}
+use Rattle.score.specs.search.HandCommon.{handCommonOf}
 use Rattle.score.specs.search.HandScore.{handScoreBy, keptOf, handScoreOf, foundBy, foundOf}
 
 -- ---- basic points are at most 8,000
 
-worth-le : (h : Hand) (dealer wind : ℕ) (r : Reading) → worth h dealer wind r .basic .0 ≤ 8000
+pub worth-le : (h : Hand) (dealer wind : ℕ) (r : Reading) → worth h dealer wind r .basic .0 ≤ 8000
 unfolding worth valueOf
 worth-le h dealer wind r = basic-le _ _ _
 
 module _ (of : Reading → Value) (le : (r : Reading) → of r .basic .0 ≤ 8000) where
-  keep-better-le : (b : Best) (r : Reading) → b .value .basic .0 ≤ 8000 → keepBetter of b r .value .basic .0 ≤ 8000
+  keep-better-le : (b : Best) (r : Reading) → b .value .basic .0 ≤ 8000 → keepBetterBy of (withYakuman of) b r .value .basic .0 ≤ 8000
   unfolding keepBetterBy
   keep-better-le b r h = go (b .done) (withYaku of r && (not (b .valued) || beats (of r) (b .value)))
     where
@@ -43,17 +45,17 @@ module _ (of : Reading → Value) (le : (r : Reading) → of r .basic .0 ≤ 800
       go false true = le r
       go false false = h
 
-  folded-le : (b : Best) (rs : List Reading) → b .value .basic .0 ≤ 8000 → folded (keepBetter of) b rs .value .basic .0 ≤ 8000
+  folded-le : (b : Best) (rs : List Reading) → b .value .basic .0 ≤ 8000 → folded (keepBetterBy of (withYakuman of)) b rs .value .basic .0 ≤ 8000
   unfolding folded
   folded-le b [] h = h
-  folded-le b (r ∷ rs) h = folded-le (keepBetter of b r) rs (keep-better-le b r h)
+  folded-le b (r ∷ rs) h = folded-le (keepBetterBy of (withYakuman of) b r) rs (keep-better-le b r h)
 
 -- ---- a sound hand, by what the search kept
 
 module _ (h : Hand) (dealer wind : ℕ) where
   pub kept-le : keptOf h dealer wind .value .basic .0 ≤ 8000
   unfolding keptOf bestOf noneOf
-  kept-le = folded-le (worth h dealer wind) (worth-le h dealer wind) noneOf (readings (concealedTally h) (h .held .m) (h .fields .winning)) (omega arith)
+  kept-le = folded-le (worth h dealer wind) (worth-le h dealer wind) (noneOf 0) (readings (concealedTally h) (h .held .m) (h .fields .winning)) (omega arith)
 
   module _ (b : Best) (e : b ≡ keptOf h dealer wind) where
     pub basic-kept : b .value .basic .0 ≤ 8000
@@ -63,10 +65,12 @@ module _ (h : Hand) (dealer wind : ℕ) where
     unfolding handScoreOf
     hand-score-by = ap (λ (x : Best). handScoreBy x (seatsOf h dealer) (isRon (h .fields))) e
 
-    pub hand-score-accepted : 0 < b .tried → b .valued ≡ true → acceptedAs (b .value) (seatsOf h dealer) (isRon (h .fields)) (b .tried)
-        ≡ handScoreOf h dealer wind
-    unfolding handScoreBy
-    hand-score-accepted s v = rw (lt-ltb 0 (b .tried) s, v) at hand-score-by
+    -- with the seats and the way of winning that every reading has in common
+    pub hand-score-accepted : (t : HandCommon) → t ≡ handCommonOf h dealer wind → 0 < b .tried → b .valued ≡ true
+        → acceptedAs (b .value) (t .seats) (t .won .ron) (b .tried) ≡ handScoreOf h dealer wind
+    unfolding handScoreBy handCommonOf wonOf
+    hand-score-accepted t c s v =
+        ap (λ (x : HandCommon). acceptedAs (b .value) (x .seats) (x .won .ron) (b .tried)) c ∙ rw (lt-ltb 0 (b .tried) s, v) at hand-score-by
 
     pub hand-score-seven : 0 < b .tried → b .valued ≡ false → refusedWith 7 ≡ handScoreOf h dealer wind
     unfolding handScoreBy

@@ -25,8 +25,9 @@ use Rattle.points_value.specs.Value.{valueOf}
 use Rattle.score_best.specs.declared.HandCommon.{HandCommon}
 use Rattle.score_best.specs.declared.Best.{Best}
 use Rattle.score_best.specs.search.HandCommon.{joined, fullReadingIn, worthIn}
-use Rattle.score_best.specs.search.Best.{noneOf, keepBetter, bestOf}
+use Rattle.score_best.specs.search.Best.{noneOf, searchFor}
 use Rattle.score_best.specs.laws.First.{folded-same}
+use Rattle.score_best.specs.laws.Keep.{best-wanted}
 use Rattle.score.specs.Readings.{all-kinds}
 use Rattle.score.specs.Named.{wonOf, seatsOf, groupsOf, waysOf, fullReadingOf, worth, IsReadingOf}
 use Rattle.score.specs.search.HandCommon.{meldCodes, meldWays, handCommonOf}
@@ -186,12 +187,17 @@ module _ (h : Hand) (few : h .held .m ≤ 4) (four : length (h .held .melds) ≡
   worth-in dealer wind r i =
       ap (λ (p : FullReading). valueOf (wonOf h dealer wind) p (doraOf (h .fields .indicator)) (seatsOf h dealer)) (full-reading-in dealer wind r i)
 
-  -- so that the search keeps the same
-  module _ (dealer wind : ℕ) (t : HandCommon) (c : List ℕ) (b : Best)
-      (et : t ≡ handCommonOf h dealer wind) (ec : c ≡ concealedTally h) (eb : b ≡ bestOf (worthIn t) c m (h .fields .winning)) where
-    pub kept-in : b ≡ keptOf h dealer wind
-    unfolding bestOf keptOf
-    kept-in =
+  module _ (dealer wind : ℕ) (t : HandCommon) (c : List ℕ) (b : Best) (et : t ≡ handCommonOf h dealer wind) (ec : c ≡ concealedTally h) where
+    -- so that the search keeps the same, whatever is wanted
+    pub search-in : (wanted : ℕ) → b ≡ searchFor (worthIn t) wanted c m (h .fields .winning)
+        → b ≡ searchFor (worth h dealer wind) wanted (concealedTally h) m (h .fields .winning)
+    unfolding searchFor
+    search-in wanted eb =
         rw (et, ec) at eb
-        ∙ folded-same (worthIn (handCommonOf h dealer wind)) (worth h dealer wind) noneOf (readings (concealedTally h) m (h .fields .winning))
+        ∙ folded-same (worthIn (handCommonOf h dealer wind)) (worth h dealer wind) (noneOf wanted) (readings (concealedTally h) m (h .fields .winning))
         (λ q n. worth-in dealer wind q (readings-sound (concealedTally h) m (h .fields .winning) (all-kinds h) q n))
+
+    -- the best
+    pub kept-in : b ≡ searchFor (worthIn t) 0 c m (h .fields .winning) → b ≡ keptOf h dealer wind
+    unfolding keptOf
+    kept-in eb = search-in 0 eb ∙ best-wanted (worth h dealer wind) (concealedTally h) m (h .fields .winning)

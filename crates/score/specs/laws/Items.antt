@@ -8,8 +8,9 @@ use Rattle.tiles.specs.Kinds.{doraOf}
 use Rattle.tiles.specs.laws.Tabulate.{getD-tabulate}
 use Rattle.hand.specs.declared.Hand.{Hand}
 use Rattle.reading.specs.declared.Reading.{Reading}
-use Rattle.points_fu.specs.Fu.{fu, groupFu, groupItems, earned, added, baseAlone, itemsOf}
-use Rattle.points_value.specs.Value.{yakuman, valueOf}
+use Rattle.yaku.specs.Yaku.{yakuman}
+use Rattle.points_fu.specs.Fu.{fu, groupFu, added, baseAlone, regularItems, itemsOf}
+use Rattle.points_value.specs.Value.{valueOf}
 use Rattle.points_value.specs.Claims.{items-add-up}
 use Rattle.points_fu.specs.laws.Items.{added-alone}
 use Rattle.score.specs.declared.Scored.{Scored}
@@ -21,7 +22,7 @@ module _ (h : Hand) (dealer wind : ℕ) where
   unfolding worth
   reading-total r = items-add-up (wonOf h dealer wind) (fullReadingOf h r) (doraOf (h .fields .indicator)) (seatsOf h dealer)
 
-  named-total : {a : Scored} → Named h dealer wind a → added (a .items) ≡ a .fu
+  named-total : {a : Scored} → Named h dealer wind a → added (a .items) ≡ a .fu .0
   named-total (reported r i) = reading-total r
   named-total (six n) = added-alone 0
   named-total (seven q i n) = added-alone 0
@@ -33,11 +34,11 @@ module _ (h : Hand) (dealer wind : ℕ) where
 
   pub group-item : (r : Reading) → r .shape ≡ 0 → yakuman (wonOf h dealer wind) (fullReadingOf h r) ≡ false →
       (i : ℕ) → i < 4 → getD (worth h dealer wind r .items .group) i (fu 0) ≡ fu (groupFu (getD (groupsOf h r) i 0) (getD (waysOf h r) i 0))
-  unfolding worth valueOf itemsOf earned groupItems fullReadingOf groupsOf waysOf
+  unfolding worth valueOf itemsOf regularItems fullReadingOf groupsOf waysOf
   group-item r e y i l = rw (y, e) (getD-tabulate (fu 0) 4 (λ k. fu (groupFu (getD (groupsOf h r) k 0) (getD (waysOf h r) k 0))) i l)
 
 module _ {s : List ℕ} {dealer wind : ℕ} where
-  pub total : {a : Scored} → IsScore s dealer wind a → added (a .items) ≡ a .fu
+  pub total : {a : Scored} → IsScore s dealer wind a → added (a .items) ≡ a .fu .0
   total (eight o) = added-alone 0
   total (unreadable d w n e) = added-alone 0
   total (read d w f e n) = named-total _ dealer wind n

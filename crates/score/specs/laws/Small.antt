@@ -18,16 +18,17 @@ use Rattle.hand.specs.declared.Hand.{Hand}
 use Rattle.hand.specs.Held.{meldKind, meldTile, meldHolds, others, inMelds, inOthers, inHeld}
 use Rattle.hand.specs.Hand.{inHand, handTally}
 use Rattle.reading.specs.declared.Reading.{Reading}
-use Rattle.yaku_basics.specs.Tests.{has, dragons, littleDragons, valueHan, isValue, earnsWait, pinfu}
+use Rattle.yaku_basics.specs.Tests.{has, dragons, littleDragons, valueHan, isValue}
 use Rattle.yaku.specs.declared.Won.{Won}
 use Rattle.yaku.specs.declared.FullReading.{FullReading}
-use Rattle.yaku.specs.Yaku.{yakuOf, valueHanOf}
+use Rattle.yaku.specs.Yaku.{valueHanOf, hasWaitFu, pinfu, yakuOf, yakuman}
 use Rattle.points.specs.declared.Seats.{Seats}
-use Rattle.points_value.specs.Han.{closedHan, openHan, hanBy, yakuHan, hanOf}
-use Rattle.points_fu.specs.Fu.{tripletFu, groupFu, groupItems, earned, added, rounded}
-use Rattle.points_value.specs.Value.{yakuman, valueOf}
-use Rattle.points_value.specs.Claims.{fu-rounded}
-use Rattle.points_value.specs.laws.Han.{han-at}
+use Rattle.points_value.specs.Han.{yakuHan, hanOf}
+use Rattle.points_fu.specs.Fu.{tripletFu, groupFu, added, rounded}
+use Rattle.points_fu.specs.search.Items.{itemsBy, earned}
+use Rattle.points_value.specs.Value.{valueOf}
+use Rattle.points_value.specs.laws.Claims.{fu-of-sum}
+use Rattle.points_value.specs.laws.Han.{fixedHan, hanBy, values-apart, han-at}
 use Rattle.score.specs.declared.Scored.{Scored}
 use Rattle.score.specs.Named.{wonOf, seatsOf, fullReadingOf, worth, Named, reported, six, seven}
 use Rattle.score.specs.IsScore.{IsScore, eight, unreadable, read}
@@ -48,11 +49,12 @@ value-han-le g round own little =
     omega (arith, cond-le little 0 (dragons g) 3 (omega arith) (dragons-le g), one-le (has g (34 + round)), one-le (has g (34 + own)))
 
 yaku-han-le : (y : List Bool) (closed : Bool) (values : ℕ) → values ≤ 5 → yakuHan y closed values ≤ 227
-unfolding yakuHan hanBy
+unfolding hanBy
 yaku-han-le y closed values h =
-    let han = cond closed closedHan openHan in
+    let han = fixedHan closed in
     omega (
       arith,
+      values-apart y closed values,
       total-le (λ n. cond (getD y n false) (getD han n 0) 0) 6 37 (λ i l. cond-le (getD y i false) (getD han i 0) 0 6 (han-at closed i l .1) (omega arith)),
       cond-le (getD y 3 false) values 0 5 h (omega arith),
     )
@@ -105,7 +107,7 @@ group-le c way =
     (cond-le (isYaochu (c - 34)) (2 * tripletFu way) (tripletFu way) 32 (omega (arith, triplet-le way)) (omega (arith, triplet-le way))) (omega arith)
 
 added-le : (w : Won) (p : FullReading) → added (earned w p 0) ≤ 164
-unfolding added earned groupItems
+unfolding added earned itemsBy
 added-le w p =
     let g : (i : ℕ) → groupFu (getD (p .groups) i 0) (getD (p .ways) i 0) ≤ 32 = λ i. group-le (getD (p .groups) i 0) (getD (p .ways) i 0) in
     let two : (b : Bool) → cond b 2 0 ≤ 2 = λ b. cond-le b 2 0 2 (omega arith) (omega arith) in
@@ -117,8 +119,8 @@ added-le w p =
       g 3,
       cond-le (w .closed && w .ron) 10 0 10 (omega arith) (omega arith),
       two (isValue (w .round) (w .own) (p .pair)),
-      two (earnsWait (p .place) (getD (p .groups) (p .place - 1) 0) (w .win)),
-      two (not (w .ron) && not (pinfu (w .closed) (p .groups) (p .pair) (p .place) (w .win) (w .round) (w .own))),
+      two (hasWaitFu w p),
+      two (not (w .ron) && not (pinfu w p)),
     )
 
 rounded-le : (closed : Bool) (n : ℕ) → rounded closed n ≤ n + 30
@@ -129,20 +131,20 @@ rounded-le closed n = cond-le (not closed && eqb ((n + 9) / 10 * 10) 20) 30 _ (n
 
 -- h and fu have at most three digits
 abbrev pub Small : Scored → Type 0
-Small a = (a .h < 1000) × (a .fu < 1000)
+Small a = (a .h .0 < 1000) × (a .fu .0 < 1000)
 
 module _ (h : Hand) (dealer wind : ℕ) where
-  han-le : (p : FullReading) (dora : ℕ) (y : Bool) → hanOf (wonOf h dealer wind) p dora y ≤ 257
+  han-le : (p : FullReading) (dora : ℕ) → hanOf (wonOf h dealer wind) p dora ≤ 257
   unfolding hanOf wonOf
-  han-le p dora y =
+  han-le p dora =
       let w = wonOf h dealer wind in
       let values = yaku-han-le (yakuOf w p) (w .closed) (valueHanOf w p) (value-han-le (p .groups) (w .round) (w .own) (littleDragons (p .groups) (p .pair))) in
-      cond-le y 0 _ 257 (omega arith) (omega (arith, values, tally-le h dora))
+      cond-le (yakuman w p) 0 _ 257 (omega arith) (omega (arith, values, tally-le h dora))
 
   fu-le : (p : FullReading) (dora : ℕ) (s : Seats) → valueOf (wonOf h dealer wind) p dora s .fu .0 ≤ 194
   fu-le p dora s =
       let w = wonOf h dealer wind in
-      rw (fu-rounded w p dora s)
+      rw (fu-of-sum w p dora s)
       (cond-le (yakuman w p) 0 _ 194 (omega arith)
       (cond-le (eqb (p .shape) 1) 25 _ 194 (omega arith) (omega (arith, rounded-le (w .closed) (added (earned w p 0)), added-le w p))))
 
@@ -151,7 +153,7 @@ module _ (h : Hand) (dealer wind : ℕ) where
   worth-small r =
       let dora = doraOf (h .fields .indicator) in
       let w = wonOf h dealer wind in
-      (omega (arith, han-le (fullReadingOf h r) dora (yakuman w (fullReadingOf h r))), omega (arith, fu-le (fullReadingOf h r) dora (seatsOf h dealer)))
+      (omega (arith, han-le (fullReadingOf h r) dora), omega (arith, fu-le (fullReadingOf h r) dora (seatsOf h dealer)))
 
   named-small : {a : Scored} → Named h dealer wind a → Small a
   named-small (reported r i) = worth-small r

@@ -14,11 +14,10 @@ use Rattle.reading.specs.All.{Pairwise, first}
 use Rattle.reading.specs.search.Folded.{folded}
 use Rattle.reading.specs.laws.Lists.{each-member}
 use Rattle.reading.specs.laws.Only.{lex-trans}
-use Rattle.yaku.specs.Yaku.{hasYaku}
 use Rattle.points_value.specs.declared.Value.{Value}
 use Rattle.score_best.specs.declared.Best.{Best}
 use Rattle.score_best.specs.Best.{withYaku, withYakuman, figures, Over}
-use Rattle.score_best.specs.search.Best.{beats, counted, noneOf, taking, passing, keepBetterBy, keepBetter}
+use Rattle.score_best.specs.search.Best.{beats, counted, noneOf, taking, passing, keepBetterBy, keepNth, keepBetter}
 use Rattle.score_best.specs.laws.Top.{AtMost, equal}
 
 -- ---- the order of values: gain, then h, then fu
@@ -96,7 +95,7 @@ never worth = record { yaku = λ x e. absurd (false≢true e); top = λ x q e. a
 abbrev With : (Reading → Type 0) → Reading → Reading → Type 0
 With S x q = S q ⊎ (q ≡ x)
 
-counted-some : (n : ℕ) → counted n ≡ 0 → ⊥
+pub counted-some : (n : ℕ) → counted n ≡ 0 → ⊥
 unfolding counted
 counted-some n e = go (ltb n 4294967295) refl e
   where
@@ -193,7 +192,7 @@ kept-same worth S T b to from k = record {
 }
 
 -- before any reading
-kept-none : (worth : Reading → Value) → Kept worth (λ q. ⊥) noneOf
+kept-none : (worth : Reading → Value) → Kept worth (λ q. ⊥) (noneOf 0)
 unfolding noneOf
 kept-none worth = record {
   untried = λ z q s. s;
@@ -216,19 +215,16 @@ module _ (worth : Reading → Value) (ends : Reading → Bool) (may : MayEnd wor
       (λ q r w m. ⊎-elim (λ s. later q r s (List·Memᴰ·tail m)) (λ z. rw z (each-member e m)) w) p)
 
   -- after a list in order: each of it was held against the others, or none could beat what is kept
-  pub kept-all : (rs : List Reading) → Pairwise Before rs → Kept worth (λ q. Member q rs) (folded (keepBetterBy worth ends) noneOf rs)
+  pub kept-all : (rs : List Reading) → Pairwise Before rs → Kept worth (λ q. Member q rs) (folded (keepBetterBy worth ends) (noneOf 0) rs)
   kept-all rs p =
       kept-same worth (λ q. ⊥ ⊎ Member q rs) (λ q. Member q rs) _ (λ q m. ⊎-elim (λ z. absurd z) (λ n. n) m) (λ q m. inr m)
-      (kept-fold rs (λ q. ⊥) noneOf (kept-none worth) (λ q r z m. absurd z) p)
+      (kept-fold rs (λ q. ⊥) (noneOf 0) (kept-none worth) (λ q r z m. absurd z) p)
 
 -- ---- two ways to say what a reading is worth
 
 keep-better-same : (f g : Reading → Value) (b : Best) (r : Reading) → f r ≡ g r → keepBetter f b r ≡ keepBetter g b r
-unfolding keepBetterBy
-keep-better-same f g b r e =
-    ap (λ (v : Value).
-    let at : Reading → Value = λ _. v in
-    cond (b .done) b (cond (hasYaku (v .yaku) && (not (b .valued) || beats v (b .value))) (taking at (withYakuman at) b r) (passing at (withYakuman at) b r))) e
+unfolding keepBetterBy keepNth keepBetter
+keep-better-same f g b r e = rw e
 
 -- where they agree on each reading of a list, the same is kept
 pub folded-same : (f g : Reading → Value) (b : Best) (rs : List Reading) → ((q : Reading) → Member q rs → f q ≡ g q)

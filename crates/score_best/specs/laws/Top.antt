@@ -15,11 +15,11 @@ use Rattle.reading.specs.declared.Reading.{Reading}
 use Rattle.reading.specs.Order.{Lex}
 use Rattle.yaku.specs.declared.Won.{Won}
 use Rattle.yaku.specs.declared.FullReading.{FullReading}
-use Rattle.yaku.specs.Yaku.{isYakuman, hasYaku}
+use Rattle.yaku.specs.Yaku.{isYakuman, hasYaku, yakuman}
 use Rattle.points.specs.declared.Seats.{Seats}
 use Rattle.points.specs.Points.{plain, limit, ordinary, basic, hundreds, share, pays, gain}
 use Rattle.points_value.specs.declared.Value.{Value}
-use Rattle.points_value.specs.Value.{yakuman, valueOf}
+use Rattle.points_value.specs.Value.{valueOf}
 use Rattle.points_value.specs.Claims.{yakuman-pays-as-one}
 use Rattle.score_best.specs.Best.{withYaku, withYakuman, figures}
 

@@ -32,7 +32,7 @@ each-spec =
     (λ c κs. let l = c .before .before in (l .before .pre .0, l .before .pre .2, l .loop .inv .1))
     (λ c.
     let l = c .before .before .before .before in
-    ranged-still (keepBetter _) _ _ _ _ (done-still _ _ _ (c .if1 .taken))
+    ranged-still (keepBetter _) _ _ _ _ (done-still _ _ (c .if1 .taken))
     ∙ ranged-turn (keepBetter _) _ _ _ _ _ (c .before .before .before .loop-test .taken) (c .before .places .ensures)
     ∙ l .loop .inv .2)
     (λ c. omega arith)

@@ -35,7 +35,7 @@ places-spec =
     (on .before .common-of .ensures, omega (arith, on .before .before .pre .1), on .loop .inv .1))
     (λ c.
     let on = c .before .before .before in
-    ranged-still (keepBetter _) _ _ _ _ (done-still _ _ _ (c .if2 .taken))
+    ranged-still (keepBetter _) _ _ _ _ (done-still _ _ (c .if2 .taken))
     ∙ ranged-turn (keepBetter _) _ _ _ _ _ (omega arith)
     (folded-with (keepBetter _) _ _ _ _ (sym (on .holds .ensures) ∙ c .before .before .if1 .taken) (c .before .keep-better-at .ensures))
     ∙ on .before .before .loop .inv .2)

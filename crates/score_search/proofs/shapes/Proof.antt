@@ -43,7 +43,7 @@ shapes-spec =
     shaped-with (keepBetter _) _ _ _ _ _ (on .before .if1 .left)
     (folded-with (keepBetter _) _ _ _ _ (sym (on .is-seven-pairs .ensures) ∙ c .before .before .before .if2 .taken)
     (c .before .keep-better .ensures ∙ ap (keepBetter _ _) (c .before .before .of-shape .ensures)))
-    (folded-still (keepBetter _) _ (done-still _ _ _ (c .if3 .taken)) _))
+    (folded-still (keepBetter _) _ (done-still _ _ (c .if3 .taken)) _))
     (λ c κs. search needs) (λ c κs. search needs)
     (λ c κs. let on = c .before .before .before in (on .before .before .before .pre .0, place-zero (c .of-shape2 .result) 2 (c .of-shape2 .ensures), going on))
     (λ c.

@@ -1,100 +1,78 @@
--- The lines that the code writes, one after the other into the parts of a page.
-use mathlib.Core.Path.{_≡_, refl}
-use mathlib.Core.Bool.{Bool, true, false, _&&_, and-false, cond}
-use mathlib.Core.List.{List, [], _∷_, _++_, append-assoc, flatMap}
-use Prim.Native.Nat.{ℕ, zero, suc, _+_, _*_, _-_, _≤_, _<_}
+-- The lines of a score, as the code writes them, one after the other into the parts of a page.
+use mathlib.Core.Path.{_≡_, refl, ap}
+use mathlib.Core.Bool.{Bool, true, false, cond}
+use mathlib.Core.List.{List, [], _∷_, _++_, append-assoc, append-nil, flatMap}
+use Prim.Native.Nat.{ℕ, zero, suc, _+_, _*_, _-_, _<_}
 use native.Mathlib.Omega.{arith}
 use native.Mathlib.Numerals.{add-one}
-use borrow.Author.Tests.{ne-eqb}
-use lib.Dec.{eqb}
 use lib.ListN.{length, take, drop, set, getD, length-append}
 use lib.Seq.{take-at, drop-at, drop-drop}
-use lib.IntN.{ℤ, pos}
-use mir.Syntax.{w32}
-use mir.Val.{SFits}
-use Rattle.text.specs.Text.{signedOf}
-use Rattle.text.specs.laws.Digits.{length-signed-32}
+use Rattle.yaku.specs.Yaku.{isYakuman}
+use Rattle.score.specs.declared.Scored.{Scored}
+use Rattle.text.specs.Text.{digitsOf, scoreText}
 use Rattle.text.specs.Words.{bytesOf}
 use Rattle.slip.specs.Line.{slipLine, labels}
-use Rattle.slip.specs.laws.Line.{line-long, label-short}
+use Rattle.slip.specs.Slip.{valuesOf, lineAt, slipText}
 
--- ---- line k
+-- ---- line k of a score
 
--- its value: a number, or the word on the first line of a yakuman
-unfoldable pub valueBy : Bool → ℤ → ℕ → List ℕ
-valueBy yakuman n k = cond (yakuman && eqb k 0) (bytesOf "YAKUMAN") (signedOf n)
-
-unfoldable pub lineBy : Bool → List ℤ → ℕ → List ℕ
-lineBy yakuman numbers k = slipLine (getD labels k []) (valueBy yakuman (getD numbers k (pos 0)) k)
-
-pub seat-label : (k : ℕ) → 1 < k → k < 6 → set (bytesOf "SEAT 0") 5 (48 + (k - 2)) ≡ getD labels k []
+pub seat-label : (seat : ℕ) → seat < 4 → set (bytesOf "SEAT 0") 5 (48 + seat) ≡ getD labels (2 + seat) []
 unfolding labels
-seat-label zero h g = absurd (omega arith)
-seat-label (suc zero) h g = absurd (omega arith)
-seat-label (suc (suc zero)) h g = refl
-seat-label (suc (suc (suc zero))) h g = refl
-seat-label (suc (suc (suc (suc zero)))) h g = refl
-seat-label (suc (suc (suc (suc (suc zero))))) h g = refl
-seat-label (suc (suc (suc (suc (suc (suc k)))))) h g = absurd (omega arith)
+seat-label zero h = refl
+seat-label (suc zero) h = refl
+seat-label (suc (suc zero)) h = refl
+seat-label (suc (suc (suc zero))) h = refl
+seat-label (suc (suc (suc (suc k)))) h = absurd (omega arith)
 
--- line 0 of a yakuman and of another hand, line 1, and those of the seats
-module _ (yakuman : Bool) (n : ℤ) (k : ℕ) where
-  abbrev line : List ℕ
-  line = slipLine (getD labels k []) (valueBy yakuman n k)
+module _ (a : Scored) where
+  pub line-han : slipLine (getD labels 0 []) (cond (isYakuman (a .yaku)) (bytesOf "YAKUMAN") (digitsOf (a .h .0))) ≡ lineAt a 0
+  unfolding lineAt valuesOf
+  line-han = refl
 
-  pub number-at : (k ≡ 0 → ⊥) → valueBy yakuman n k ≡ signedOf n
-  unfolding valueBy
-  number-at h = rw (ne-eqb k 0 h, and-false yakuman)
-
-  pub line-word : yakuman ≡ true → k ≡ 0 → slipLine (bytesOf "HAN") (bytesOf "YAKUMAN") ≡ line
-  unfolding labels valueBy
-  line-word y e = rw (y, e)
-
-  pub line-han : yakuman ≡ false → k ≡ 0 → slipLine (bytesOf "HAN") (signedOf n) ≡ line
-  unfolding labels valueBy
-  line-han y e = rw (y, e)
-
-  pub line-fu : k ≡ 1 → slipLine (bytesOf "FU") (signedOf n) ≡ line
-  unfolding labels
-  line-fu e = rw (number-at (λ z. omega arith), e)
-
-  pub line-seat : 1 < k → k < 6 → slipLine (set (bytesOf "SEAT 0") 5 (48 + (k - 2))) (signedOf n) ≡ line
-  line-seat h g = rw (seat-label k h g, number-at (λ z. omega arith))
-
--- it has 25 bytes where its number is one of 32 bits
-module _ (yakuman : Bool) (numbers : List ℤ) (fits : (k : ℕ) → SFits w32 (getD numbers k (pos 0))) where
-  pub line-by-long : (k : ℕ) → length (lineBy yakuman numbers k) ≡ 25
-  unfolding lineBy valueBy
-  line-by-long k = line-long (getD labels k []) (valueBy yakuman (getD numbers k (pos 0)) k) (label-short k) (go (yakuman && eqb k 0))
+  pub line-fu : (isYakuman (a .yaku) ≡ true → a .fu .0 ≡ 0) → slipLine (getD labels 1 []) (digitsOf (a .fu .0)) ≡ lineAt a 1
+  unfolding lineAt valuesOf
+  line-fu zero-fu = ap (slipLine (getD labels 1 [])) (go (isYakuman (a .yaku)) refl)
     where
-      go : (b : Bool) → length (cond b (bytesOf "YAKUMAN") (signedOf (getD numbers k (pos 0)))) ≤ 14
-      go true = omega arith
-      go false = omega (arith, length-signed-32 (getD numbers k (pos 0)) (fits k))
+      go : (b : Bool) → isYakuman (a .yaku) ≡ b → digitsOf (a .fu .0) ≡ cond b (digitsOf 0) (digitsOf (a .fu .0))
+      go true e = ap digitsOf (zero-fu e)
+      go false e = refl
+
+  pub line-seat : (k : ℕ) → (k ≡ 0 → ⊥) → (k ≡ 1 → ⊥) → k < 6 → slipLine (getD labels (2 + (k - 2)) []) (scoreText (a .changes) (k - 2)) ≡ lineAt a k
+  unfolding lineAt valuesOf
+  line-seat zero f g h = absurd (f refl)
+  line-seat (suc zero) f g h = absurd (g refl)
+  line-seat (suc (suc zero)) f g h = refl
+  line-seat (suc (suc (suc zero))) f g h = refl
+  line-seat (suc (suc (suc (suc zero)))) f g h = refl
+  line-seat (suc (suc (suc (suc (suc zero))))) f g h = refl
+  line-seat (suc (suc (suc (suc (suc (suc k)))))) f g h = absurd (omega arith)
 
 -- ---- line by line
 
 -- the first k lines
-unfoldable pub linesBy : (ℕ → List ℕ) → ℕ → List ℕ
-linesBy f zero = []
-linesBy f (suc k) = linesBy f k ++ f k
+unfoldable pub firstLines : (ℕ → List ℕ) → ℕ → List ℕ
+firstLines f zero = []
+firstLines f (suc k) = firstLines f k ++ f k
 
-module _ (f : ℕ → List ℕ) (long : (k : ℕ) → length (f k) ≡ 25) where
-  lines-long : (k : ℕ) → length (linesBy f k) ≡ 25 * k
-  unfolding linesBy
-  lines-long zero = refl
-  lines-long (suc k) = rw (length-append, lines-long k, long k) (omega arith)
-
-  pub flat-long : (ks : List ℕ) → length (flatMap f ks) ≡ 25 * length ks
+module _ (f : ℕ → List ℕ) where
+  pub flat-long : ((k : ℕ) → length (f k) ≡ 25) → (ks : List ℕ) → length (flatMap f ks) ≡ 25 * length ks
   unfolding flatMap
-  flat-long [] = refl
-  flat-long (k ∷ ks) = rw (length-append, long k, flat-long ks) (omega arith)
+  flat-long long [] = refl
+  flat-long long (k ∷ ks) = rw (length-append, long k, flat-long long ks) (omega arith)
+
+  pub lines-long : (k : ℕ) → length (firstLines f k) ≡ 25 * k → length (f k) ≡ 25 → length (firstLines f (k + 1)) ≡ 25 * (k + 1)
+  unfolding firstLines
+  lines-long k e l = rw (add-one, length-append, e, l) (omega arith)
 
   -- q has k lines and the rest of the page p; line k is written into its part
-  pub next-line : (k : ℕ) (p q : List ℕ) → q ≡ linesBy f k ++ drop (25 * k) p →
-      take (25 * k) q ++ (f k ++ drop 25 (drop (25 * k) q)) ≡ linesBy f (k + 1) ++ drop (25 * (k + 1)) p
-  unfolding linesBy
-  next-line k p q e =
+  pub next-line : (k : ℕ) (p q : List ℕ) → length (firstLines f k) ≡ 25 * k → q ≡ firstLines f k ++ drop (25 * k) p →
+      take (25 * k) q ++ (f k ++ drop 25 (drop (25 * k) q)) ≡ firstLines f (k + 1) ++ drop (25 * (k + 1)) p
+  unfolding firstLines
+  next-line k p q g e =
       let h : 25 * k + 25 ≡ 25 * suc k = omega arith in
-      let g : length (linesBy f k) ≡ 25 * k = lines-long k in
       let d = drop (25 * k) p in
-      rw (e, take-at (linesBy f k) d (25 * k) g, drop-at (linesBy f k) d (25 * k) g, drop-drop 25 (25 * k) p, add-one, append-assoc, h)
+      rw (e, take-at (firstLines f k) d (25 * k) g, drop-at (firstLines f k) d (25 * k) g, drop-drop 25 (25 * k) p, add-one, append-assoc, h)
+
+pub six-lines : (a : Scored) → firstLines (lineAt a) 6 ≡ slipText a
+unfolding firstLines slipText flatMap
+six-lines a = simp (append-assoc, append-nil)

@@ -13,7 +13,7 @@ use Rattle.score.specs.Score.{scoreOf}
 use Rattle.text.specs.Text.{digitsOf}
 use Rattle.slip.specs.Slip.{valuesOf, lineAt, slipText, slipRefusal, slipPage}
 use Rattle.slip.specs.laws.Score.{yakuman-zero}
-use Rattle.slip.specs.laws.Text.{page-stays, page-written}
+use Rattle.slip.specs.laws.Answer.{page-stays, page-written}
 use Rattle.slip.specs.laws.Short.{line-has-25-bytes, text-has-150-bytes}
 
 -- ---- one of several lines of 25 bytes
@@ -43,11 +43,11 @@ module _ (s : List ℕ) (dealer wind : ℕ) where
   abbrev a : Scored
   a = scoreOf s dealer wind
 
-  pub fu-line : getD (valuesOf a) 1 [] ≡ digitsOf (a .fu)
+  pub fu-line : getD (valuesOf a) 1 [] ≡ digitsOf (a .fu .0)
   unfolding valuesOf
   fu-line = go (isYakuman (a .yaku)) refl
     where
-      go : (b : Bool) → isYakuman (a .yaku) ≡ b → cond b (digitsOf 0) (digitsOf (a .fu)) ≡ digitsOf (a .fu)
+      go : (b : Bool) → isYakuman (a .yaku) ≡ b → cond b (digitsOf 0) (digitsOf (a .fu .0)) ≡ digitsOf (a .fu .0)
       go true e = ap digitsOf (sym (yakuman-zero s dealer wind e))
       go false e = refl
 

@@ -15,8 +15,8 @@ use Rattle.speech_told.specs.Messages.{itemsClips, fuMessage}
 abbrev haneman : Scored
 haneman = record {
   refusal = 0;
-  h = 6;
-  fu = 25;
+  h = record { 0 = 6 };
+  fu = record { 0 = 25 };
   items = baseAlone 25;
   yaku = set (set (replicate 37 false) 10 true) 12 true;
   tried = 1;

@@ -7,7 +7,8 @@ use native.Mathlib.Numerals.{add-one}
 use native.Mathlib.Omega.{arith}
 use borrow.Author.Tests.{eq-eqb, ne-eqb}
 use lib.ListN.{set}
-use Rattle.text.specs.laws.Put.{Put, put-none}
+use Rattle.text.specs.Put.{Put}
+use Rattle.text.specs.laws.Put.{put-none}
 use Rattle.speech_numerals.specs.Numerals.{placeOf, englishOf, easternOf, numeral}
 use Rattle.speech_numerals.specs.laws.Short.{numeral-short}
 

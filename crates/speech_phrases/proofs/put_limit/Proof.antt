@@ -19,13 +19,13 @@ put-limit-spec =
     let limit-clip = if1 .before in
     let is-limit = limit-clip .before in
     let start = is-limit .before .before in (
-      put-as (limit-some (start .args .h) (start .args .fu) _ _ (is-limit .is-limit .ensures) (limit-clip .limit-clip .ensures) (if1 .if1 .taken))
+      put-as (limit-some (start .args .h .0) (start .args .fu .0) _ _ (is-limit .is-limit .ensures) (limit-clip .limit-clip .ensures) (if1 .if1 .taken))
           (c .before .before .put-clip .ensures .0),
       c .before .before .put-clip .ensures .1,
     ))
     (λ c.
     let start = c .before .before .before .before in (
-      put-as (limit-none (start .args .h) (start .args .fu) _ _ (c .before .before .is-limit .ensures) (c .before .limit-clip .ensures) (c .if1 .left))
+      put-as (limit-none (start .args .h .0) (start .args .fu .0) _ _ (c .before .before .is-limit .ensures) (c .before .limit-clip .ensures) (c .if1 .left))
           (put-none (start .args .buf .now) (start .args .at)),
       omega arith,
     )))

@@ -17,9 +17,9 @@ unfolding worthClips
 returns-2 c =
     let put-clip3 = c .before .before .before .before .before .before in
     let number2 = put-clip3 .before .before .before .before in
-    let put-clip2 = number2 .before .before .before .before in
+    let put-clip2 = number2 .before .before .before .before .before in
     let number = put-clip2 .before .before .before .before in
-    let if1 = number .before .before in (
+    let if1 = number .before .before .before in (
       rw (if1 .if1 .left) (put-then (number .number .ensures .0)
           (put-then (put-clip2 .put-clip2 .ensures .0)
           (put-then (number2 .number2 .ensures .0) (put-then (put-clip3 .put-clip3 .ensures .0) (c .before .before .put-limit .ensures .0))))),
@@ -33,8 +33,10 @@ put-worth-spec =
     (λ c κs. search needs)
     (λ c. search needs)
     returns
+    (λ c. search needs)
     (λ c κs. search needs)
     (λ c κs. search needs)
+    (λ c. search needs)
     (λ c κs. search needs)
     (λ c κs. search needs)
     (λ c κs. search needs)

@@ -8,13 +8,7 @@ use borrow.Author.Tests.{lt-ltb, le-ltb, ltb-true, le-leb, lt-leb}
 use lib.Dec.{ltb, leb}
 use Rattle.points.specs.Points.{plain}
 use Rattle.tiles.specs.laws.Below.{both-ways}
-use Rattle.speech_told.specs.Phrases.{limitClips}
-
-unfoldable pub isLimit : ℕ → ℕ → Bool
-isLimit h fu = leb 5 h || ltb 2000 (plain h fu)
-
-unfoldable pub limitClip : ℕ → ℕ
-limitClip h = cond (leb h 5) 71 (cond (leb h 7) 72 (cond (leb h 10) 73 74))
+use Rattle.speech_told.specs.Phrases.{isLimit, limitClip, limitClips}
 
 pub limit-clips : (h fu : ℕ) → limitClips h fu ≡ cond (isLimit h fu) (limitClip h ∷ []) []
 unfolding limitClips isLimit limitClip

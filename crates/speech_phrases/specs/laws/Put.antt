@@ -7,10 +7,10 @@ use native.Mathlib.Numerals.{add-one}
 use lib.IntN.{ℤ, pos, natAbs}
 use lib.ListN.{set}
 use lib.Signed.{ltZ}
-use Rattle.text.specs.laws.Put.{Put, put-none, put-after}
+use Rattle.text.specs.Put.{Put}
+use Rattle.text.specs.laws.Put.{put-none, put-after}
 use Rattle.speech_numerals.specs.Numerals.{numeral}
-use Rattle.speech_told.specs.Phrases.{player, chosen, limitClips, amountClips, paysClips, scoreClips}
-use Rattle.speech_phrases.specs.laws.Limit.{isLimit, limitClip}
+use Rattle.speech_told.specs.Phrases.{player, chosen, limitClips, amountClips, paysClips, scoreClips, isLimit, limitClip}
 
 -- the same text by another name
 pub put-as : {old new a b : List ℕ} {at r : ℕ} → a ≡ b → Put old at a new r → Put old at b new r

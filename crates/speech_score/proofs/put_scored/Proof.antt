@@ -7,6 +7,10 @@ use borrow.Author.Needs.{needs}
 use Rattle.speech_score.proofs.put_scored.Statement.{statement}
 use Rattle.speech_score.proofs.put_scored.Tie as tie
 
+-- the start, before the fields of the score are copied
+abbrev begun : tie.After-gain-of → tie.Start
+begun c = c .before .before .before .before .before .before
+
 returns : tie.Need-returns
 returns c =
     let put-payments = c .before .before .before .before .before .before in
@@ -15,7 +19,7 @@ returns c =
     let is-yakuman = put-won .before .before in
     let player = is-yakuman .before in
     let gain-of = player .before in
-    let start = gain-of .before .before .before .before in
+    let start = begun gain-of in
     let s = start .args in (
       put-as (message-of (s .language) (s .dealer) (s .winner) (s .ron) (s .a) _ _ _ (player .player .ensures) (is-yakuman .is-yakuman .ensures)
           (gain-of .gain-of .ensures))
@@ -44,7 +48,7 @@ put-scored-spec =
     let put-payments = c .before .before .before in
     let put-worth = put-payments .before .before .before .before in
     let put-won = put-worth .before .before .before .before in
-    let pre = put-won .before .before .before .before .before .before .before .before in
+    let gain-of = put-won .before .before .before .before in
     omega (
       arith,
       put-payments .put-payments .ensures .1,
@@ -53,7 +57,7 @@ put-scored-spec =
       put-worth .put-worth .kept .0,
       put-won .put-won .ensures .1,
       put-won .put-won .kept .0,
-      pre .pre .0,
+      begun gain-of .pre .0,
     ))
     (λ c. search needs)
     returns)

@@ -14,7 +14,8 @@ use Rattle.hand_record.specs.Record.{readHandOf}
 use Rattle.yaku.specs.Yaku.{isYakuman}
 use Rattle.score.specs.declared.Scored.{Scored}
 use Rattle.score.specs.Score.{scoreOf}
-use Rattle.text.specs.laws.Put.{Put, take-put}
+use Rattle.text.specs.Put.{Put}
+use Rattle.text.specs.laws.Put.{take-put}
 use Rattle.speech_told.specs.Phrases.{player, yakuClips, worthClips, amountClips, paymentsClips}
 use Rattle.speech_told.specs.laws.Told.{read-winner}
 use Rattle.speech_score.specs.declared.Said.{Said}
@@ -73,7 +74,7 @@ module _ (l dealer winner : ℕ) (ron : Bool) (a : Scored) where
   pub message-of : (who gain : ℕ) (yakuman : Bool) → who ≡ player dealer winner → yakuman ≡ isYakuman (a .yaku)
       → gain ≡ natAbs (getD (a .changes) winner (pos 0))
       → (who ∷ cond ron 64 65 ∷ yakuClips (a .yaku)) ++
-      (worthClips l yakuman (a .h) (a .fu) ++ (paymentsClips l dealer (a .changes) ++ amountClips l who 67 gain))
+      (worthClips l yakuman (a .h .0) (a .fu .0) ++ (paymentsClips l dealer (a .changes) ++ amountClips l who 67 gain))
       ≡ scoreMessage l dealer winner ron a
   unfolding scoreMessage
   message-of who gain yakuman p y g = rw (p, y, g)

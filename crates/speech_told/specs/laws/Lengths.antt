@@ -10,7 +10,7 @@ use lib.Signed.{ltZ}
 use Rattle.points.specs.Points.{plain}
 use Rattle.speech_numerals.specs.Numerals.{numeral}
 use Rattle.speech_numerals.specs.laws.Short.{numeral-short}
-use Rattle.speech_told.specs.Phrases.{player, chosen, yakuClips, limitClips, worthClips, amountClips, paysClips, paymentsClips, countedClips}
+use Rattle.speech_told.specs.Phrases.{player, chosen, yakuClips, limitClips, isLimit, limitClip, worthClips, amountClips, paysClips, paymentsClips, countedClips}
 use Rattle.speech_told.specs.Phrases.{scoreClips, tileClips}
 
 -- ---- the parts
@@ -29,7 +29,7 @@ unfolding yakuClips
 yaku-short y = chosen-short 141 (λ k. getD y (k + 1) false) 36
 
 pub limit-short : (h fu : ℕ) → length (limitClips h fu) ≤ 1
-unfolding limitClips
+unfolding limitClips isLimit limitClip
 limit-short h fu = go (leb 5 h || ltb 2000 (plain h fu)) (cond (leb h 5) 71 (cond (leb h 7) 72 (cond (leb h 10) 73 74)))
   where
     go : (b : Bool) (c : ℕ) → length (cond b (c ∷ []) []) ≤ 1

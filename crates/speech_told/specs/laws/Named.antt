@@ -5,11 +5,11 @@ use mathlib.Core.List.{[], _∷_}
 use Prim.Native.Nat.{ℕ}
 use lib.Dec.{ltb, leb}
 use Rattle.points.specs.Points.{plain, limit, ordinary}
-use Rattle.speech_told.specs.Phrases.{limitClips}
+use Rattle.speech_told.specs.Phrases.{limitClips, isLimit, limitClip}
 use Rattle.speech_told.specs.Told.{namedAmount}
 
 pub named-as-paid : (h fu : ℕ) → namedAmount (limitClips h fu) (plain h fu) ≡ ordinary h fu
-unfolding namedAmount limitClips limit ordinary
+unfolding namedAmount limitClips isLimit limitClip limit ordinary
 named-as-paid h fu = go (plain h fu) (leb 5 h || ltb 2000 (plain h fu)) (leb h 5) (leb h 7) (leb h 10)
   where
     go : (a : ℕ) (paid five seven ten : Bool)

@@ -14,7 +14,7 @@ use Rattle.points.specs.Points.{plain}
 use Rattle.speech_numerals.specs.Numerals.{numeral}
 use Rattle.speech_numerals.specs.Heard.{onSheet}
 use Rattle.speech_numerals.specs.laws.Sheet.{on-numeral}
-use Rattle.speech_told.specs.Phrases.{player, chosen, yakuClips, limitClips, worthClips, amountClips, paysClips, paymentsClips, countedClips}
+use Rattle.speech_told.specs.Phrases.{player, chosen, yakuClips, limitClips, isLimit, limitClip, worthClips, amountClips, paysClips, paymentsClips, countedClips}
 use Rattle.speech_told.specs.Phrases.{scoreClips, tileClips}
 use Rattle.speech_told.specs.Sheet.{isPhrase, hasClip}
 
@@ -87,7 +87,7 @@ module _ (l : ℕ) where
   has-tiles w = has-chosen l 100 (λ k. getD w k false) 34 tile-row
 
   has-limit : (h fu : ℕ) → Has l (limitClips h fu)
-  unfolding limitClips isPhrase
+  unfolding limitClips isLimit limitClip isPhrase
   has-limit h fu = has-cond l (leb 5 h || ltb 2000 (plain h fu)) (has-more _ (go (leb h 5) (leb h 7) (leb h 10)) (has-none l)) (has-none l)
     where
       go : (x y z : Bool) → isPhrase (cond x 71 (cond y 72 (cond z 73 74))) ≡ true

@@ -37,7 +37,7 @@ module _ (l : ℕ) (s : List ℕ) (dealer wind : ℕ) where
       (omega (
         arith,
         yaku-short (a .yaku),
-        worth-short l (isYakuman (a .yaku)) (a .h) (a .fu) (omega (arith, small s dealer wind .0)) (omega (arith, small s dealer wind .1)),
+        worth-short l (isYakuman (a .yaku)) (a .h .0) (a .fu .0) (omega (arith, small s dealer wind .0)) (omega (arith, small s dealer wind .1)),
         payments-short l dealer (a .changes) (changes-fit s dealer wind),
         amount-short l (player dealer w) 67 (natAbs (getD (a .changes) w (pos 0))) (changes-fit s dealer wind w),
       ))
@@ -68,7 +68,7 @@ module _ (l : ℕ) (s : List ℕ) (dealer wind : ℕ) where
   fu-short = go (isYakuman (scoreOf s dealer wind .yaku))
     where
       go : (b : Bool) → length (cond b (75 ∷ [])
-          (itemsClips l (scoreOf s dealer wind .items) ++ (94 ∷ (numeral l (scoreOf s dealer wind .fu) ++ (70 ∷ []))))) ≤ 155
+          (itemsClips l (scoreOf s dealer wind .items) ++ (94 ∷ (numeral l (scoreOf s dealer wind .fu .0) ++ (70 ∷ []))))) ≤ 155
       go true = omega arith
       go false =
           let f = small s dealer wind .1 in
@@ -76,7 +76,7 @@ module _ (l : ℕ) (s : List ℕ) (dealer wind : ℕ) where
           (omega (
             arith,
             items-short (scoreOf s dealer wind .items) (omega (arith, items-total s dealer wind)),
-            numeral-short l (scoreOf s dealer wind .fu)
+            numeral-short l (scoreOf s dealer wind .fu .0)
                 (omega arith),
           ))
 
@@ -89,7 +89,7 @@ module _ (l : ℕ) (s : List ℕ) (dealer wind : ℕ) where
       let f = handOf (readOf s) .fields in
       has-more (player dealer (f .winner)) (has-player dealer (f .winner)) (has-more (cond (isRon f) 64 65) (way (isRon f))
       (has-then (has-yaku l (a .yaku)) (has-then
-      (has-worth l (isYakuman (a .yaku)) (a .h) (a .fu) (omega (arith, small s dealer wind .0)) (omega (arith, small s dealer wind .1)))
+      (has-worth l (isYakuman (a .yaku)) (a .h .0) (a .fu .0) (omega (arith, small s dealer wind .0)) (omega (arith, small s dealer wind .1)))
       (has-then (has-payments l dealer (a .changes) (changes-fit s dealer wind))
       (has-amount l (player dealer (f .winner)) 67 (natAbs (getD (a .changes) (f .winner) (pos 0))) (has-player dealer (f .winner)) (verbs .3)
       (changes-fit s dealer wind (f .winner)))))))
@@ -116,7 +116,7 @@ module _ (l : ℕ) (s : List ℕ) (dealer wind : ℕ) where
       let f = small s dealer wind .1 in
       let few : added (a .items) < 1000 = omega (arith, items-total s dealer wind) in
       has-cond l (isYakuman (a .yaku)) (has-more 75 refl (has-none l))
-      (has-then (items-has (a .items) few) (has-more 94 refl (has-then (has-numeral l (a .fu) (omega arith)) (has-more 70 refl (has-none l)))))
+      (has-then (items-has (a .items) few) (has-more 94 refl (has-then (has-numeral l (a .fu .0) (omega arith)) (has-more 70 refl (has-none l)))))
 
 -- ---- a refusal
 

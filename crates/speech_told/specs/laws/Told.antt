@@ -50,7 +50,7 @@ changes-fit s dealer wind k = abs-within (getD (scoreOf s dealer wind .changes) 
 -- ---- with a yakuman "h and fu are 0"
 
 abbrev Zeros : Scored → Type 0
-Zeros a = isYakuman (a .yaku) ≡ true → (a .h ≡ 0) × (a .fu ≡ 0)
+Zeros a = isYakuman (a .yaku) ≡ true → (a .h .0 ≡ 0) × (a .fu .0 ≡ 0)
 
 none-listed : {A : Type 0} → isYakuman (replicate 37 false) ≡ true → A
 unfolding isYakuman
@@ -102,8 +102,8 @@ module _ (l dealer w v : ℕ) (p q : Bool) (a b : Scored) (hw : w ≤ 3) (hv : v
   abbrev restB : List ℕ
   restB = paymentsClips l dealer (b .changes) ++ amountClips l (player dealer v) 67 (natAbs (getD (b .changes) v (pos 0)))
 
-  same-worth : (x y : Bool) → isYakuman (a .yaku) ≡ x → isYakuman (b .yaku) ≡ y → x ≡ y → ((x ≡ false) → (a .h ≡ b .h) × (a .fu ≡ b .fu))
-      → (a .h ≡ b .h) × (a .fu ≡ b .fu)
+  same-worth : (x y : Bool) → isYakuman (a .yaku) ≡ x → isYakuman (b .yaku) ≡ y → x ≡ y → ((x ≡ false) → (a .h .0 ≡ b .h .0) × (a .fu .0 ≡ b .fu .0))
+      → (a .h .0 ≡ b .h .0) × (a .fu .0 ≡ b .fu .0)
   same-worth true true ea eb e r =
       let s = za ea in
       let t = zb eb in
@@ -117,12 +117,12 @@ module _ (l dealer w v : ℕ) (p q : Bool) (a b : Scored) (hw : w ≤ 3) (hv : v
   same-message e =
       let ew : w ≡ v = player-same dealer w v hw hv (head-eq e) in
       let yk = yaku-same (a .yaku) (b .yaku) _ _
-      (worth-front l (isYakuman (a .yaku)) (a .h) (a .fu) restA (omega (arith, sa .0)))
-      (worth-front l (isYakuman (b .yaku)) (b .h) (b .fu) restB (omega (arith, sb .0))) (tail-eq (tail-eq e)) in
+      (worth-front l (isYakuman (a .yaku)) (a .h .0) (a .fu .0) restA (omega (arith, sa .0)))
+      (worth-front l (isYakuman (b .yaku)) (b .h .0) (b .fu .0) restB (omega (arith, sb .0))) (tail-eq (tail-eq e)) in
       let iy = yakuman-same (a .yaku) (b .yaku) (yk .0) in
-      let wo = worth-same l (isYakuman (a .yaku)) (a .h) (b .h) (a .fu) (b .fu) restA restB (omega (arith, sa .0)) (omega (arith, sb .0))
+      let wo = worth-same l (isYakuman (a .yaku)) (a .h .0) (b .h .0) (a .fu .0) (b .fu .0) restA restB (omega (arith, sa .0)) (omega (arith, sb .0))
       (omega (arith, sa .1)) (omega (arith, sb .1))
-      (yk .1 ∙ ap (λ (t : Bool). worthClips l t (b .h) (b .fu) ++ restB) (sym iy)) in
+      (yk .1 ∙ ap (λ (t : Bool). worthClips l t (b .h .0) (b .fu .0) ++ restB) (sym iy)) in
       let hf = same-worth (isYakuman (a .yaku)) (isYakuman (b .yaku)) refl refl iy (wo .0) in
       record {
         winner = ew;

@@ -5,17 +5,16 @@ use mathlib.Core.Bool.{Bool, true, false, _&&_, _||_, not, cond}
 use mathlib.Core.List.{List}
 use native.Mathlib.Omega.{arith}
 use native.Mathlib.Nat.{add-zero}
-use borrow.Author.Tests.{ltb-true, lt-ltb, le-leb, leb-true, eqb-true, eq-eqb}
 use lib.Dec.{ltb, leb, eqb}
 use lib.ListN.{getD}
-use Rattle.tiles.specs.Below.{all, any, count, sum}
+use Rattle.tiles.specs.Below.{all, any, count, sum, allBelow}
 use Rattle.tiles.specs.Kinds.{isYaochu, isDragon, isWind}
 use Rattle.tiles.specs.Groups.{isRun, isTriplet, isGroup}
-use Rattle.tiles.specs.laws.Below.{and-true, both-ways, any-counted, all-any, any-at, any-of}
-use Rattle.yaku_basics.specs.Tests.{has, isValue, dragons, winds, littleDragons, valueHan, earnsWait, pinfu, held, twins, inThreeAt, inThreeSuits, straight}
+use Rattle.tiles.specs.laws.Below.{both-ways, any-counted, all-any, any-at, any-of, every-at, every-of}
+use Rattle.yaku_basics.specs.Tests.{has, isValue, dragons, winds, littleDragons, valueHan, earnsWait, held, twins, inThreeSuits, straight}
 use Rattle.yaku_basics.specs.Tests.{hasYaochu, outside, triplets, isConcealed, concealed, kans, fourWinds}
 use Rattle.symmetry.specs.Renamed.{renamed}
-use Rattle.symmetry.specs.laws.Kinds.{Renaming, at-suit, test-other, isDragon-stays, isWind-stays, isYaochu-stays, one-of-three}
+use Rattle.symmetry.specs.laws.Kinds.{Renaming, at-suit, test-other, isDragon-stays, isWind-stays, isYaochu-stays}
 use Rattle.symmetry.specs.laws.Codes.{renamedCode, code-run, code-triplet, code-test, code-test-other, isRun-code, isTriplet-code, has-yaochu-code}
 use Rattle.symmetry.specs.laws.Codes.{wait-code}
 use Rattle.symmetry.specs.laws.Tallies.{any-suits, total-kinds}
@@ -35,31 +34,15 @@ abbrev InEach : ℕ → List ℕ → Type 0
 InEach low g = (j : ℕ) × (j < 9) × ((s : ℕ) → s < 3 → has g (low + j + 9 * s) ≡ true)
 
 each-of : (low : ℕ) (g : List ℕ) → inThreeSuits low g ≡ true → InEach low g
-unfolding inThreeSuits inThreeAt
+unfolding inThreeSuits allBelow
 each-of low g e =
-    let y = any-at (λ i. leb low (getD g i 0) && ltb (getD g i 0) (low + 9) && has g (getD g i 0 + 9) && has g (getD g i 0 + 18)) 4 e in
-    let c : ℕ = getD g (y .0) 0 in
-    let a3 = and-true (leb low c && ltb c (low + 9) && has g (c + 9)) (has g (c + 18)) (y .2) in
-    let a2 = and-true (leb low c && ltb c (low + 9)) (has g (c + 9)) (a3 .0) in
-    let a1 = and-true (leb low c) (ltb c (low + 9)) (a2 .0) in
-    let l1 = leb-true low c (a1 .0) in
-    let l2 = ltb-true c (low + 9) (a1 .1) in
-    let e0 : low + (c - low) + 0 ≡ c = omega arith in
-    let e1 : low + (c - low) + 9 ≡ c + 9 = omega arith in
-    let e2 : low + (c - low) + 18 ≡ c + 18 = omega arith in (
-      c - low,
-      omega arith,
-      one-of-three (λ s. has g (low + (c - low) + 9 * s) ≡ true)
-          (ap (has g) e0 ∙ any-of (λ k. eqb (getD g k 0) c) 4 (y .0) (y .1) (eq-eqb c c refl)) (ap (has g) e1 ∙ a2 .1) (ap (has g) e2 ∙ a3 .1),
-    )
+    let (j, l, h) = any-at (λ i. all 3 (λ s. has g (low + i + 9 * s))) 9 e in
+    (j, l, λ s k. every-at (λ s. has g (low + j + 9 * s)) 3 s h k)
 
 of-each : (low : ℕ) (g : List ℕ) → InEach low g → inThreeSuits low g ≡ true
-unfolding inThreeSuits inThreeAt
+unfolding inThreeSuits allBelow
 of-each low g (j, l, h) =
-    let z = any-at (λ i. eqb (getD g i 0) (low + j + 0)) 4 (h 0 (omega arith)) in
-    let q : getD g (z .0) 0 ≡ low + j = eqb-true _ _ (z .2) ∙ add-zero (low + j) in
-    any-of (λ i. leb low (getD g i 0) && ltb (getD g i 0) (low + 9) && has g (getD g i 0 + 9) && has g (getD g i 0 + 18)) 4 (z .0) (z .1)
-    (rw (q, le-leb low (low + j) (omega arith), lt-ltb (low + j) (low + 9) (omega arith), h 1 (omega arith), h 2 (omega arith)))
+    any-of (λ i. all 3 (λ s. has g (low + i + 9 * s))) 9 j l (every-of (λ s. has g (low + j + 9 * s)) 3 h)
 
 -- ---- the tests
 
@@ -199,8 +182,8 @@ module _ (u : Renaming) (g w r v : List ℕ) (m : Moved u g w r v) where
         go false e = let z = s .group e in rw (s .pair, z .0) (wait-code u place (getD g (place - 1) 0) win (z .1))
 
     pub pinfu-moved : (closed : Bool) (k round own : ℕ) → 27 ≤ round → 27 ≤ own
-        → pinfu closed r (renamed (u .to) k) at (renamed (u .to) win) round own ≡ pinfu closed g k place win round own
-    unfolding pinfu
+        → closed && all 4 (λ i. isRun (getD r i 0)) && not (earnsWait at (getD r (at - 1) 0) (renamed (u .to) win)) && not (isValue round own (renamed (u .to) k))
+        ≡ closed && all 4 (λ i. isRun (getD g i 0)) && not (earnsWait place (getD g (place - 1) 0) win) && not (isValue round own k)
     pinfu-moved closed k round own a b = four (all-moved isRun (isRun-code u)) wait-moved (value-pair round own k a b)
       where
         four : {p q x y z w : Bool} → p ≡ q → x ≡ y → z ≡ w → closed && p && not x && not z ≡ closed && q && not y && not w

@@ -13,12 +13,11 @@ use Rattle.tiles.specs.Groups.{isGroup, atKind, uses}
 use Rattle.tiles.specs.laws.Tally.{ofKind}
 use Rattle.reading.specs.Reading.{usedBy, Ascends}
 use Rattle.reading.specs.Order.{Lex}
-use Rattle.symmetry.specs.Renamed.{inOrder}
 use Rattle.symmetry.specs.laws.Kinds.{Renaming, back}
 use Rattle.symmetry.specs.laws.Codes.{renamedCode, code-back, at-code, isGroup-code, code-order}
 use Rattle.reading.specs.laws.Suits.{suitOf, one-suit, uses-suit}
 use Rattle.tiles.specs.laws.Sums.{sumOver, over-map, over-cong, over-length, over-kind}
-use Rattle.symmetry.specs.laws.Sorted.{All, Ordered, over-inOrder, ordered}
+use Rattle.symmetry.specs.laws.Sorted.{inOrder, All, Ordered, over-inOrder, ordered}
 use Rattle.reading.specs.laws.Order.{lex-total, first-differs, same-groups, kind-group, ascends-at, group-at, rank-later, rank-at}
 
 -- b has the groups of a, renamed: each sum over them is the same

@@ -7,8 +7,8 @@ use mathlib.Core.Logic.{inr}
 use native.Mathlib.Omega.{arith}
 use borrow.Author.Tests.{ltb-true, ltb-false, le-ltb}
 use lib.Dec.{ltb, eqb}
-use lib.IntN.{ℤ, pos}
-use lib.ListN.{length, getD}
+use lib.IntN.{ℤ}
+use lib.ListN.{length}
 use Rattle.tiles.specs.laws.Below.{or-both, cond-le}
 use Rattle.tiles.specs.Kinds.{doraOf}
 use Rattle.hand.specs.declared.Fields.{Fields}
@@ -34,9 +34,9 @@ use Rattle.score.specs.Named.{reported, six, seven, acceptedAs}
 use Rattle.score.specs.Readings.{AreReadingsOf, readingsOf, are-readings, only-readings}
 use Rattle.score.specs.Score.{scoreOf}
 use Rattle.score.specs.Claims.{scored}
-use Rattle.symmetry.specs.Rotated.{on, rotatedHand, rotatedRecord, rotatedScore}
+use Rattle.symmetry.specs.Rotated.{on, rotatedHand, rotatedRecord, RotatedScore}
 use Rattle.score_best.specs.laws.Tried.{upTo-cong}
-use Rattle.symmetry.specs.laws.Seats.{on-test, wind-stays, gain-on, changes-on, moved-at, refused-on}
+use Rattle.symmetry.specs.laws.Seats.{rotatedScore, rotated, on-test, wind-stays, gain-on, changes-on, refused-on}
 use Rattle.hand_record.specs.laws.Sound.{read-accepted, read-is-hand, written-back, written-sound}
 use Rattle.score.specs.laws.Written.{score-of, score-eight}
 
@@ -109,7 +109,7 @@ module _ (n : ℕ) (h : Hand) (dealer wind : ℕ) (hw : h .fields .winner ≤ 3)
       let v : Value = worth h dealer wind r in
       ap (λ (t : ℕ). acceptedAs (worth k d wind r) (seatsOf k d) (isRon (h .fields)) t) tried-on
       ∙ ap (λ (v : Value). acceptedAs v (seatsOf k d) (isRon (h .fields)) (triedIn h dealer wind)) (worth-stays r)
-      ∙ ap (λ (c : List ℤ). record { refusal = 0; h = v .han .0; fu = v .fu .0; items = v .items; yaku = v .yaku; tried = triedIn h dealer wind; changes = c })
+      ∙ ap (λ (c : List ℤ). record { refusal = 0; h = v .han; fu = v .fu; items = v .items; yaku = v .yaku; tried = triedIn h dealer wind; changes = c })
       (changes-on n (h .fields .winner) dealer (h .fields .discarder) (k .fields .discarder) (omega arith) (omega arith)
       (isRon (h .fields)) ron-on (v .basic .0))
 
@@ -183,7 +183,7 @@ module _ (n : ℕ) (s : List ℕ) (i : IsSound s) where
   unfolding rotatedRecord
   rotated-hand = written-back (rotatedHand n h₀) accepted is-hand
 
-  pub rotated-score : (dealer wind : ℕ) → dealer ≤ 3 → scoreOf (rotatedRecord n s) (on n dealer) wind ≡ rotatedScore n (scoreOf s dealer wind)
+  rotated-score : (dealer wind : ℕ) → dealer ≤ 3 → scoreOf (rotatedRecord n s) (on n dealer) wind ≡ rotatedScore n (scoreOf s dealer wind)
   unfolding rotatedRecord
   rotated-score dealer wind d = go (ltb 1 wind) refl
     where
@@ -197,9 +197,5 @@ module _ (n : ℕ) (s : List ℕ) (i : IsSound s) where
           score-of (rotatedHand n h₀) accepted is-hand (on n dealer) wind (omega arith) l
           (named-on n h₀ dealer wind (b .winner) d (b .discarder) (scored s dealer wind d l i))
 
-  -- seat by seat
-  pub change-moves : (dealer wind seat : ℕ) → dealer ≤ 3 → seat < 4
-      → getD (scoreOf (rotatedRecord n s) (on n dealer) wind .changes) (on n seat) (pos 0) ≡ getD (scoreOf s dealer wind .changes) seat (pos 0)
-  unfolding rotatedScore
-  change-moves dealer wind seat d l =
-      ap (λ (x : Scored). getD (x .changes) (on n seat) (pos 0)) (rotated-score dealer wind d) ∙ moved-at n seat (scoreOf s dealer wind .changes) l
+  pub rotated-scores : (dealer wind : ℕ) → dealer ≤ 3 → RotatedScore n (scoreOf s dealer wind) (scoreOf (rotatedRecord n s) (on n dealer) wind)
+  rotated-scores dealer wind d = rw (rotated-score dealer wind d) (rotated n (scoreOf s dealer wind))

@@ -7,15 +7,16 @@ use native.Mathlib.Omega.{arith}
 use lib.Dec.{eqb}
 use lib.IntN.{ℤ, pos}
 use lib.ListN.{getD, replicate}
-use Rattle.tiles.specs.Below.{sum}
+use Rattle.tiles.specs.Below.{sum, tabulate}
 use Rattle.tiles.specs.laws.Below.{same-test}
 use Rattle.tiles.specs.laws.Tabulate.{getD-tabulate}
 use Rattle.points.specs.declared.Seats.{Seats}
 use Rattle.points.specs.Points.{share, pays, gain, change, changes}
+use Rattle.score.specs.declared.Scored.{Scored}
 use Rattle.score.specs.Named.{refusedWith}
-use Rattle.symmetry.specs.Rotated.{on, rotatedChanges, rotatedScore}
+use Rattle.symmetry.specs.Rotated.{on, RotatedScore}
 
--- the seat from which it is n on
+-- the seat from which it is n on: at a table of four, 3n on is n back
 abbrev pub back : ℕ → ℕ → ℕ
 back n seat = on (3 * n) seat
 
@@ -31,12 +32,40 @@ wind-stays n w d h g = omega arith
 
 -- ---- four changes
 
+-- each seat has the change of the seat n before it
+unfoldable pub rotatedChanges : ℕ → List ℤ → List ℤ
+rotatedChanges n l = tabulate 4 0 (λ seat. getD l (back n seat) (pos 0))
+
+-- a score with its changes so
+unfoldable pub rotatedScore : ℕ → Scored → Scored
+rotatedScore n x = record {
+  refusal = x .refusal;
+  h = x .h;
+  fu = x .fu;
+  items = x .items;
+  yaku = x .yaku;
+  tried = x .tried;
+  changes = rotatedChanges n (x .changes);
+}
+
 -- what a seat had, the seat n on has
-pub moved-at : (n seat : ℕ) (l : List ℤ) → seat < 4 → getD (rotatedChanges n l) (on n seat) (pos 0) ≡ getD l seat (pos 0)
+moved-at : (n seat : ℕ) (l : List ℤ) → seat < 4 → getD (rotatedChanges n l) (on n seat) (pos 0) ≡ getD l seat (pos 0)
 unfolding rotatedChanges
 moved-at n seat l h =
     let e : back n (on n seat) ≡ seat = omega arith in
     getD-tabulate (pos 0) 4 (λ i. getD l (back n i) (pos 0)) (on n seat) (omega arith) ∙ ap (λ (x : ℕ). getD l x (pos 0)) e
+
+pub rotated : (n : ℕ) (x : Scored) → RotatedScore n x (rotatedScore n x)
+unfolding rotatedScore
+rotated n x = record {
+  refusal = refl;
+  h = refl;
+  fu = refl;
+  items = refl;
+  yaku = refl;
+  tried = refl;
+  changes = λ seat l. moved-at n seat (x .changes) l;
+}
 
 -- zeros moved on are zeros
 zero-at : (i : ℕ) → getD (replicate 4 (pos 0)) i (pos 0) ≡ pos 0

@@ -7,8 +7,17 @@ use native.Mathlib.Omega.{arith}
 use borrow.Author.Tests.{leb-true, leb-false}
 use lib.Dec.{leb}
 use lib.ListN.{length, getD}
-use Rattle.symmetry.specs.Renamed.{put, inOrder}
 use Rattle.tiles.specs.laws.Sums.{sumOver}
+
+-- x put before the first that is not lower
+unfoldable pub put : ℕ → List ℕ → List ℕ
+put x [] = x ∷ []
+put x (y ∷ l) = cond (leb x y) (x ∷ y ∷ l) (y ∷ put x l)
+
+-- in order: each put among those after it
+unfoldable pub inOrder : List ℕ → List ℕ
+inOrder [] = []
+inOrder (x ∷ l) = put x (inOrder l)
 
 over-put : (φ : ℕ → ℕ) (x : ℕ) (l : List ℕ) → sumOver φ (put x l) ≡ φ x + sumOver φ l
 unfolding sumOver put

@@ -7,18 +7,19 @@ use native.Mathlib.Omega.{arith}
 use lib.Dec.{ltb, eqb}
 use lib.ListN.{getD}
 use Rattle.tiles.specs.Kinds.{isNumber, isHonour, isTerminal, isYaochu, isSimple}
-use Rattle.yaku_basics.specs.Tests.{littleDragons, valueHan, pinfu, outside}
+use Rattle.yaku_basics.specs.Tests.{littleDragons, valueHan, outside}
 use Rattle.yaku.specs.declared.Won.{Won}
 use Rattle.yaku.specs.declared.FullReading.{FullReading}
 use Rattle.yaku_tiles.specs.OfTiles.{only, honourPresent, isGreen}
-use Rattle.yaku.specs.Yaku.{valueHanOf, testsOf, isYakuman, listed, yakuOf}
+use Rattle.yaku.specs.Yaku.{valueHanOf, pinfu, testsOf, isYakuman, listed, yakuOf, yakuman}
 use Rattle.points.specs.Points.{basic, gain}
 use Rattle.points.specs.declared.Seats.{Seats}
-use Rattle.points_fu.specs.declared.Items.{Items}
 use Rattle.points_value.specs.declared.Value.{Value}
 use Rattle.points_value.specs.Han.{yakuHan, hanOf}
-use Rattle.points_fu.specs.Fu.{fu, groupFu, groupItems, earned, added, rounded, baseAlone, itemsOf, fuOf}
-use Rattle.points_value.specs.Value.{yakuman, basicOf, valueOf}
+use Rattle.points_fu.specs.Fu.{fu, groupFu, added, rounded, baseAlone, regularItems, itemsOf, fuOf}
+use Rattle.points_fu.specs.search.Items.{itemsBy, earned}
+use Rattle.points_fu.specs.laws.Items.{regular-rounded}
+use Rattle.points_value.specs.Value.{basicOf, valueOf}
 use Rattle.symmetry.specs.Renamed.{renamed, SameItems}
 use Rattle.symmetry.specs.laws.Kinds.{Renaming, isNumber-stays, isHonour-stays, isTerminal-stays, isYaochu-stays, isSimple-stays}
 use Rattle.symmetry.specs.laws.Codes.{renamedCode, groupFu-code}
@@ -76,8 +77,8 @@ module _ (u : Renaming) (w : Won) (t : List ℕ) (e : (k : ℕ) → k < 34 → g
   numbers-stay : only t isNumber ≡ only (w .tally) isNumber
   numbers-stay = only-stays u (w .tally) t e isNumber isNumber (isNumber-stays u)
 
-  pinfu-stays : pinfu (w .closed) r (renamed (u .to) pair) at (renamed (u .to) (w .win)) (w .round) (w .own)
-      ≡ pinfu (w .closed) g pair place (w .win) (w .round) (w .own)
+  pinfu-stays : pinfu w′ q ≡ pinfu w p
+  unfolding pinfu
   pinfu-stays = pinfu-moved u g ws r v m place at here (w .win) (w .closed) pair (w .round) (w .own) hr ho
 
   tests-stay : testsOf w′ q ≡ testsOf w p
@@ -129,7 +130,7 @@ module _ (u : Renaming) (w : Won) (t : List ℕ) (e : (k : ℕ) → k < 34 → g
   -- ---- fu, item by item
 
   earned-items : (n : ℕ) → SameItems (earned w p n) (earned w′ q n)
-  unfolding earned groupItems
+  unfolding earned itemsBy
   earned-items n = record {
     base = refl;
     ron = refl;
@@ -141,7 +142,7 @@ module _ (u : Renaming) (w : Won) (t : List ℕ) (e : (k : ℕ) → k < 34 → g
   }
 
   earned-stays : (n : ℕ) → added (earned w′ q n) ≡ added (earned w p n)
-  unfolding earned added groupItems
+  unfolding earned added itemsBy
   earned-stays n =
       let s = m groupFu in
       rw (
@@ -158,42 +159,47 @@ module _ (u : Renaming) (w : Won) (t : List ℕ) (e : (k : ℕ) → k < 34 → g
   abbrev rounding : ℕ → ℕ
   rounding n = rounded (w .closed) n - n
 
-  -- with what rounding adds, where they are not the base alone
-  abbrev with-rounding : Won → FullReading → Bool → Bool → Items
-  with-rounding w p y s = cond y (baseAlone 0) (cond s (baseAlone 25) (earned w p (rounding (added (earned w p 0)))))
+  regular-stays : SameItems (regularItems w p) (regularItems w′ q)
+  regular-stays = rw (regular-rounded w p, regular-rounded w′ q, earned-stays 0) (earned-items (rounding (added (earned w p 0))))
 
-  items-stay : (y : Bool) → SameItems (itemsOf w p y) (itemsOf w′ q y)
+  sum-stays : added (regularItems w′ q) ≡ added (regularItems w p)
+  sum-stays = rw (regular-rounded w p, regular-rounded w′ q, earned-stays 0) (earned-stays (rounding (added (earned w p 0))))
+
+  yakuman-stays : yakuman w′ q ≡ yakuman w p
+  yakuman-stays = ap isYakuman yaku-stays
+
+  items-stay : SameItems (itemsOf w p) (itemsOf w′ q)
   unfolding itemsOf
-  items-stay y = go y (eqb shape 1)
+  items-stay = rw yakuman-stays (go (yakuman w p) (eqb shape 1))
     where
-      go : (y s : Bool) → SameItems (with-rounding w p y s) (with-rounding w′ q y s)
+      go : (y s : Bool) →
+          SameItems (cond y (baseAlone 0) (cond s (baseAlone 25) (regularItems w p))) (cond y (baseAlone 0) (cond s (baseAlone 25) (regularItems w′ q)))
       go true s = same-alone 0
       go false true = same-alone 25
-      go false false = rw (earned-stays 0) (earned-items (rounding (added (earned w p 0))))
+      go false false = regular-stays
 
-  fu-stays : (y : Bool) → fuOf w′ q y ≡ fuOf w p y
+  fu-stays : fuOf w′ q ≡ fuOf w p
   unfolding fuOf itemsOf
-  fu-stays y = go y (eqb shape 1)
+  fu-stays = rw yakuman-stays (go (yakuman w p) (eqb shape 1))
     where
-      go : (y s : Bool) → added (with-rounding w′ q y s) ≡ added (with-rounding w p y s)
+      go : (y s : Bool) →
+          added (cond y (baseAlone 0) (cond s (baseAlone 25) (regularItems w′ q))) ≡ added (cond y (baseAlone 0) (cond s (baseAlone 25) (regularItems w p)))
       go true s = refl
       go false true = refl
-      go false false = rw (earned-stays 0) (earned-stays (rounding (added (earned w p 0))))
+      go false false = sum-stays
 
   -- ---- h, A and the gain
 
-  han-all : (dora : ℕ) → dora < 34 → (y : Bool) → hanOf w′ q (renamed (u .to) dora) y ≡ hanOf w p dora y
+  han-all : (dora : ℕ) → dora < 34 → hanOf w′ q (renamed (u .to) dora) ≡ hanOf w p dora
   unfolding hanOf
-  han-all dora h y =
-      ap (λ (x : List Bool). cond y 0 (yakuHan x (w .closed) (valueHanOf w′ q) + getD t (renamed (u .to) dora) 0)) yaku-stays
-      ∙ ap (λ (x : ℕ). cond y 0 (yakuHan (yakuOf w p) (w .closed) x + getD t (renamed (u .to) dora) 0)) han-stays
-      ∙ ap (λ (x : ℕ). cond y 0 (yakuHan (yakuOf w p) (w .closed) (valueHanOf w p) + x)) (e dora h)
+  han-all dora h =
+      ap (λ (x : List Bool). cond (isYakuman x) 0 (yakuHan x (w .closed) (valueHanOf w′ q) + getD t (renamed (u .to) dora) 0)) yaku-stays
+      ∙ ap (λ (x : ℕ). cond (yakuman w p) 0 (yakuHan (yakuOf w p) (w .closed) x + getD t (renamed (u .to) dora) 0)) han-stays
+      ∙ ap (λ (x : ℕ). cond (yakuman w p) 0 (yakuHan (yakuOf w p) (w .closed) (valueHanOf w p) + x)) (e dora h)
 
   pub value-stays : (dora : ℕ) → dora < 34 → (s : Seats) → SameWorth (valueOf w p dora s) (valueOf w′ q (renamed (u .to) dora) s)
   unfolding valueOf
   value-stays dora h s =
-      let y : yakuman w′ q ≡ yakuman w p = ap isYakuman yaku-stays in
-      let a : hanOf w′ q (renamed (u .to) dora) (yakuman w′ q) ≡ hanOf w p dora (yakuman w p) = han-all dora h (yakuman w′ q) ∙ ap (hanOf w p dora) y in
-      let b : fuOf w′ q (yakuman w′ q) ≡ fuOf w p (yakuman w p) = fu-stays (yakuman w′ q) ∙ ap (fuOf w p) y in
-      let c : basicOf w′ q (renamed (u .to) dora) ≡ basicOf w p dora = rw (a, b, y) in
-      record { yaku = yaku-stays; han = a; items = rw y (items-stay (yakuman w p)); fu = b; basic = c; gain = ap (gain s (w .ron)) c }
+      let a = han-all dora h in
+      let c : basicOf w′ q (renamed (u .to) dora) ≡ basicOf w p dora = rw (a, fu-stays, yakuman-stays) in
+      record { yaku = yaku-stays; han = a; items = items-stay; fu = fu-stays; basic = c; gain = ap (gain s (w .ron)) c }

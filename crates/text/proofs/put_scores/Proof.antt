@@ -8,7 +8,8 @@ use mir.Val.{SFits}
 use mir.Facts.{toZ-ofZ}
 use borrow.Author.Needs.{needs}
 use Rattle.bits.specs.laws.Elem.{elem-sfits}
-use Rattle.text.specs.laws.Put.{put-then, scoresText}
+use Rattle.text.specs.Text.{scoresText}
+use Rattle.text.specs.laws.Put.{put-then}
 use Rattle.text.proofs.put_scores.Statement.{statement}
 use Rattle.text.proofs.put_scores.Tie as tie
 

@@ -4,7 +4,8 @@ use mir.Facts.{toZ-ofZ}
 use borrow.Author.Needs.{needs}
 use Rattle.text.specs.Text.{signedOf}
 use Rattle.text.specs.laws.Digits.{length-signed-32}
-use Rattle.text.specs.laws.Put.{Put, put-after}
+use Rattle.text.specs.Put.{Put}
+use Rattle.text.specs.laws.Put.{put-after}
 use Rattle.text.proofs.score.Statement.{statement}
 use Rattle.text.proofs.score.Tie as tie
 

@@ -7,13 +7,9 @@ use lib.ListN.{length, take, length-append, set}
 use lib.Seq.{sets, sets-eq, take-append-seam}
 use lib.IntN.{ℤ}
 use Rattle.bits.specs.laws.Pack.{sets-append}
-use Rattle.text.specs.Text.{digitsOf, spaced, scoreText, lineOf}
+use Rattle.text.specs.Text.{digitsOf, spaced, scoresText, lineOf}
+use Rattle.text.specs.Put.{Put}
 use Rattle.text.specs.laws.Digits.{digits-one, digits-more}
-
--- a buffer with a text from `at` on is the next buffer, and the text ends before the place `next`
-pub record Put (old : List ℕ) (at : ℕ) (text new : List ℕ) (next : ℕ) : Type 0 where
-  pub place : next ≡ at + length text
-  pub bytes : new ≡ sets old at text
 
 -- nothing; one text after another; one byte more
 pub put-none : (l : List ℕ) (at : ℕ) → Put l at [] l at
@@ -32,10 +28,6 @@ put-one n at l h = rw (digits-one n h) (put-after (48 + n) (put-none l at))
 
 pub put-more : (n : ℕ) {at e : ℕ} {l m : List ℕ} → 10 ≤ n → Put l at (digitsOf (n / 10)) m e → Put l at (digitsOf n) (set m e (48 + n % 10)) (e + 1)
 put-more n h p = rw (digits-more n h) (put-after (48 + n % 10) p)
-
--- the four scores, a space after each
-unfoldable pub scoresText : List ℤ → List ℕ
-scoresText s = (scoreText s 0 ++ (32 ∷ [])) ++ ((scoreText s 1 ++ (32 ∷ [])) ++ ((scoreText s 2 ++ (32 ∷ [])) ++ (scoreText s 3 ++ (32 ∷ []))))
 
 -- a line by its parts
 pub line-parts : (e letter r : ℕ) (s : List ℤ) (k : ℕ) → lineOf e letter r s k

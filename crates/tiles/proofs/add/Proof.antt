@@ -4,7 +4,7 @@ use mathlib.Core.Path.{_≡_, refl, sym}
 use native.Mathlib.Omega.{arith}
 use lib.ListN.{length}
 use lib.Seq.{set-out}
-use Rattle.tiles.specs.laws.Tally.{more}
+use Rattle.tiles.specs.Tally.{more}
 use Rattle.tiles.proofs.add.Statement.{statement}
 use Rattle.tiles.proofs.add.Tie as tie
 

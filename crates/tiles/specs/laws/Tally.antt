@@ -11,12 +11,8 @@ use lib.Seq.{getD-set-same, getD-set-other, ext-getD}
 use borrow.Author.Tests.{eqb-true, eqb-false, ltb-true, ltb-false}
 use Rattle.tiles.specs.Below.{tabulate}
 use Rattle.tiles.specs.Groups.{atKind}
-use Rattle.tiles.specs.Tally.{tallyOf}
+use Rattle.tiles.specs.Tally.{tallyOf, more}
 use Rattle.tiles.specs.laws.Tabulate.{length-tabulate, getD-tabulate}
-
--- n more tiles of kind k; what is no kind is not counted
-unfoldable pub more : List ℕ → ℕ → ℕ → List ℕ
-more t k n = set t k (getD t k 0 + n)
 
 -- how many of the tiles of a list are of kind k
 unfoldable pub ofKind : List ℕ → ℕ → ℕ

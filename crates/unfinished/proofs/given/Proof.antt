@@ -6,10 +6,10 @@ use native.Mathlib.Omega.{arith}
 use borrow.Author.Tests.{lt-ltb, le-ltb}
 use lib.ListN.{length}
 use Rattle.bits.specs.Bits.{bitsOf}
-use Rattle.hand_record.specs.Record.{heldIn, paddingAfter}
+use Rattle.hand_record.specs.search.Offsets.{heldIn, paddingAfter}
 use Rattle.hand_record.specs.laws.Read.{padding-last}
-use Rattle.unfinished.specs.Unfinished.{padOf, heldRefusal}
-use Rattle.unfinished.specs.laws.Read.{givenBy, whole}
+use Rattle.unfinished.specs.Unfinished.{padOf, heldRefusal, givenBy}
+use Rattle.unfinished.specs.laws.Read.{whole}
 use Rattle.unfinished.proofs.given.Statement.{statement}
 use Rattle.unfinished.proofs.given.Tie as tie
 

@@ -4,8 +4,8 @@ use mathlib.Core.List.{[], _∷_}
 use Rattle.tiles.specs.Below.{allBelow, anyBelow, countBelow}
 use Rattle.tiles.specs.Groups.{atKind}
 use Rattle.hand.specs.Held.{meldHolds, inMelds, inOthers, inHeld, tileOver33, wrongHeld, descends, overFour}
-use Rattle.hand_record.specs.Record.{meldsOf, tilesOf, heldIn, paddingAfter}
-use Rattle.unfinished.specs.Unfinished.{countIn, heldRefusal, refusalOf, readOf}
+use Rattle.hand_record.specs.Record.{heldBy}
+use Rattle.unfinished.specs.Unfinished.{countIn, heldRefusal, refusalOf, readOf, widths, paddingOf}
 
 -- chi 234m, 567m 22456p 67s, bit by bit (docs/RECORDS.md)
 pub worked : readOf (32 ∷ 34 ∷ 10 ∷ 49 ∷ 69 ∷ 24 ∷ 105 ∷ 203 ∷ 176 ∷ [])
@@ -13,6 +13,6 @@ pub worked : readOf (32 ∷ 34 ∷ 10 ∷ 49 ∷ 69 ∷ 24 ∷ 105 ∷ 203 ∷ 1
       refusal = 0;
       held = record { m = 1; melds = 1 ∷ 0 ∷ 0 ∷ 0 ∷ []; concealed = 4 ∷ 5 ∷ 6 ∷ 10 ∷ 10 ∷ 12 ∷ 13 ∷ 14 ∷ 23 ∷ 24 ∷ 0 ∷ 0 ∷ 0 ∷ [] };
     }
-unfolding allBelow anyBelow countBelow atKind meldHolds inMelds inOthers inHeld tileOver33 wrongHeld descends overFour meldsOf tilesOf heldIn paddingAfter countIn
+unfolding allBelow anyBelow countBelow atKind meldHolds inMelds inOthers inHeld tileOver33 wrongHeld descends overFour heldBy widths countIn paddingOf
     heldRefusal refusalOf readOf
 worked = refl

@@ -2,7 +2,7 @@
 use Prim.Native.Nat.{ℕ, zero, suc, _+_, _*_, _-_, _≤_, _<_}
 use mathlib.Core.Path.{_≡_, refl}
 use mathlib.Core.Bool.{false, _||_, cond, not}
-use mathlib.Core.List.{List}
+use mathlib.Core.List.{List, [], _∷_}
 use native.Mathlib.Omega.{arith}
 use borrow.Author.Tests.{ltb-false, le-ltb, eqb-true, eqb-false, eq-eqb, ne-eqb, not-false}
 use lib.Dec.{ltb, eqb}
@@ -10,18 +10,12 @@ use lib.ListN.{length}
 use Rattle.tiles.specs.laws.Below.{or-both}
 use Rattle.bits.specs.Bits.{bitsOf}
 use Rattle.hand.specs.declared.Held.{Held}
-use Rattle.hand_record.specs.Record.{heldIn, paddingAfter, noneHeld}
+use Rattle.hand_record.specs.Record.{noneHeld}
+use Rattle.hand_record.specs.search.Offsets.{heldIn, paddingAfter}
+use Rattle.hand_record.specs.laws.Offsets as offsets
 use Rattle.hand_record.specs.laws.Read.{bool-true}
 use Rattle.unfinished.specs.declared.Unfinished.{Unfinished}
-use Rattle.unfinished.specs.Unfinished.{lengthOf, padOf, countIn, wrongLength, heldRefusal, refusalOf, readOf}
-
--- a refused input
-abbrev pub refusedWith : ℕ → Unfinished
-refusedWith n = record { refusal = n; held = noneHeld }
-
--- the tiles held, or why they are refused
-unfoldable pub givenBy : Held → ℕ → Unfinished
-givenBy x padding = cond (ltb 0 (heldRefusal x padding)) (refusedWith (heldRefusal x padding)) (record { refusal = 0; held = x })
+use Rattle.unfinished.specs.Unfinished.{lengthOf, padOf, widths, countIn, heldOf, paddingOf, wrongLength, heldRefusal, refusalOf, refusedWith, givenBy, readOf}
 
 -- the widths fill the bytes
 pub whole : (m : ℕ) → m ≤ 4
@@ -52,6 +46,15 @@ length-right n m f =
     let z : n ≡ 0 → ⊥ = λ q. omega (arith, f .some) in
     rw (ne-eqb n 0 z, le-ltb 4 m (f .few), eq-eqb n (lengthOf m) (f .right))
 
+-- the tiles held and the padding, by the bits at which they start
+pub held-at : (s : List ℕ) → heldOf s ≡ heldIn 3 (countIn s) (bitsOf s)
+unfolding widths
+held-at s = offsets.held-at (3 ∷ []) (countIn s) (padOf (countIn s)) (bitsOf s)
+
+pub padding-at : (s : List ℕ) → paddingOf s ≡ paddingAfter 3 (countIn s) (padOf (countIn s)) (bitsOf s)
+unfolding widths paddingOf
+padding-at s = offsets.padding-at (3 ∷ []) (countIn s) (padOf (countIn s)) (bitsOf s)
+
 -- refusal 1
 pub read-not : (s : List ℕ) → (RightLength (length s) (countIn s) → ⊥) → refusedWith 1 ≡ readOf s
 unfolding readOf refusalOf
@@ -61,4 +64,4 @@ read-not s h = rw (bool-true (wrongLength (length s) (countIn s)) (λ e. h (leng
 pub read-as : (s : List ℕ) (m : ℕ) → m ≡ countIn s → RightLength (length s) m
     → givenBy (heldIn 3 m (bitsOf s)) (paddingAfter 3 m (padOf m) (bitsOf s)) ≡ readOf s
 unfolding readOf refusalOf givenBy
-read-as s m e f = rw (← e, length-right (length s) m f)
+read-as s m e f = rw (held-at s, padding-at s, ← e, length-right (length s) m f)

@@ -1,23 +1,25 @@
 -- What a reader that refuses nothing says of the tiles held.
-use Prim.Native.Nat.{ℕ, _+_, _*_, _-_, _≤_, _<_}
+use Prim.Native.Nat.{ℕ, _*_, _-_, _≤_, _<_}
 use mathlib.Core.Path.{_≡_, refl, sym, ap, _∙_}
 use mathlib.Core.Bool.{Bool, true, false, _||_, cond}
 use mathlib.Core.List.{List}
 use native.Mathlib.Omega.{arith}
 use borrow.Author.Tests.{ltb-false}
 use lib.Dec.{ltb}
-use lib.ListN.{length, getD, drop, length-replicate}
+use lib.ListN.{length, getD}
 use Rattle.tiles.specs.Below.{anyBelow}
 use Rattle.tiles.specs.laws.Below.{or-both, some-at, cond-le}
-use Rattle.bits.specs.Bits.{bitsOf, eights}
-use Rattle.bits.specs.laws.Pack.{length-fill, length-unpack}
+use Rattle.bits.specs.Bits.{bitsOf, fill}
+use Rattle.bits.specs.laws.Pack.{length-fill}
 use Rattle.hand.specs.declared.Held.{Held}
 use Rattle.hand.specs.Held.{someMeld, meldTile, others, inHeld, tileOver33, chiWithoutRun, wrongHeld, descends, overFour, unusedNotZero}
-use Rattle.hand_record.specs.Record.{sixes, meldsOf, tilesOf, heldIn, noneHeld}
+use Rattle.hand_record.specs.Record.{heldBy, noneHeld}
+use Rattle.hand_record.specs.search.Offsets.{meldsOf, tilesOf, heldIn}
+use Rattle.hand_record.specs.laws.Offsets.{melds-length, tiles-length}
 use Rattle.hand_record.specs.laws.Fill.{fill-past, unused-of}
 use Rattle.unfinished.specs.declared.Unfinished.{Unfinished}
 use Rattle.unfinished.specs.Unfinished.{countIn, heldOf, paddingOf, wrongLength, heldRefusal, refusalOf, readOf, IsSound}
-use Rattle.unfinished.specs.laws.Read.{RightLength, length-of}
+use Rattle.unfinished.specs.laws.Read.{RightLength, length-of, held-at}
 
 -- ---- tiles held that are not refused
 
@@ -90,17 +92,15 @@ module _ (s : List ℕ) where
     pub kinds : (i : ℕ) → i < 13 - 3 * heldOf s .m → getD (heldOf s .concealed) i 0 ≤ 33
     pub four : (k : ℕ) → k < 34 → inHeld (heldOf s) k ≤ 4
 
-  melds-length : length (meldsOf 3 (countIn s) (bitsOf s)) ≡ countIn s
-  unfolding meldsOf
-  melds-length = length-unpack (eights (countIn s)) (drop 3 (bitsOf s)) ∙ length-replicate (countIn s) 8
-
-  tiles-length : length (tilesOf 3 (countIn s) (bitsOf s)) ≡ 13 - 3 * countIn s
-  unfolding tilesOf
-  tiles-length = length-unpack (sixes (13 - 3 * countIn s)) (drop (3 + 8 * countIn s) (bitsOf s)) ∙ length-replicate (13 - 3 * countIn s) 6
-
   pub sound-held : refusalOf s ≡ 0 → SoundHeld
-  unfolding heldIn
+  unfolding heldIn heldBy
   sound-held e =
+      let m : ℕ = countIn s in
+      let b : List ℕ = bitsOf s in
+      let ml = melds-length 3 m b in
+      let tl = tiles-length 3 m b in
+      let em : heldOf s .melds ≡ fill 4 (meldsOf 3 m b) = ap (λ (x : Held). x .melds) (held-at s) in
+      let et : heldOf s .concealed ≡ fill 13 (tilesOf 3 m b) = ap (λ (x : Held). x .concealed) (held-at s) in
       let u = unrefused e in
       let f = length-of (length s) (countIn s) (u .0) in
       let c = clean-of (heldOf s) (paddingOf s) (u .1) in
@@ -111,10 +111,10 @@ module _ (s : List ℕ) where
         right = f;
         unrefused = ap (heldRefusal (heldOf s)) (sym z) ∙ u .1;
         unused =
-            unused-of (heldOf s) (λ i g. fill-past 4 (meldsOf 3 (countIn s) (bitsOf s)) i (omega (arith, melds-length)))
-            (λ i g. fill-past 13 (tilesOf 3 (countIn s) (bitsOf s)) i (omega (arith, tiles-length)));
-        melds = length-fill 4 (meldsOf 3 (countIn s) (bitsOf s)) (omega (arith, melds-length, f .few));
-        concealed = length-fill 13 (tilesOf 3 (countIn s) (bitsOf s)) (omega (arith, tiles-length));
+            unused-of (heldOf s) (λ i g. ap (λ (l : List ℕ). getD l i 0) em ∙ fill-past 4 (meldsOf 3 m b) i (omega (arith, ml)))
+            (λ i g. ap (λ (l : List ℕ). getD l i 0) et ∙ fill-past 13 (tilesOf 3 m b) i (omega (arith, tl)));
+        melds = ap (λ (l : List ℕ). length l) em ∙ length-fill 4 (meldsOf 3 m b) (omega (arith, ml, f .few));
+        concealed = ap (λ (l : List ℕ). length l) et ∙ length-fill 13 (tilesOf 3 m b) (omega (arith, tl));
         kinds = are-kinds (heldOf s) (paddingOf s) c;
         four = at-most-four (heldOf s) (paddingOf s) c;
       }

@@ -11,9 +11,9 @@ use lib.ListN.{length, getD, set, length-set, List·getD-eq-default}
 use lib.Seq.{getD-set-same, getD-set-other, ext-getD}
 use Rattle.tiles.specs.Below.{anyBelow}
 use Rattle.tiles.specs.Groups.{atKind}
-use Rattle.tiles.specs.Tally.{tallyOf}
+use Rattle.tiles.specs.Tally.{tallyOf, more}
 use Rattle.tiles.specs.laws.Below.{and-true, any-at, any-of}
-use Rattle.tiles.specs.laws.Tally.{more, length-tally, getD-tally}
+use Rattle.tiles.specs.laws.Tally.{length-tally, getD-tally}
 use Rattle.tiles.specs.laws.Tabulate.{length-tabulate, getD-tabulate}
 use Rattle.hand.specs.declared.Held.{Held}
 use Rattle.hand.specs.Held.{inOthers, inHeld}

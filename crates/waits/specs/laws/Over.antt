@@ -11,7 +11,8 @@ use lib.ListN.{length, getD, set, length-set}
 use lib.Seq.{getD-set-same, getD-set-other}
 use Rattle.tiles.specs.Below.{sum}
 use Rattle.tiles.specs.Groups.{atKind}
-use Rattle.tiles.specs.laws.Tally.{more, getD-more}
+use Rattle.tiles.specs.Tally.{more}
+use Rattle.tiles.specs.laws.Tally.{getD-more}
 use Rattle.tiles.specs.laws.Sums.{sum-cong, sum-add, sum-at}
 use Rattle.tiles.specs.laws.Below.{same-test, cond-le}
 use Rattle.reading.specs.search.Pairs.{PairBeside}

@@ -7,11 +7,11 @@ use lib.ListN.{getD}
 use lib.Dec.{eqb}
 use Rattle.tiles.specs.Below.{all}
 use Rattle.tiles.specs.Groups.{isRun}
-use Rattle.yaku_basics.specs.Tests.{isValue, earnsWait, pinfu, concealed, kans}
+use Rattle.yaku_basics.specs.Tests.{isValue, earnsWait, concealed, kans}
 use Rattle.yaku.specs.declared.Won.{Won}
 use Rattle.yaku.specs.declared.FullReading.{FullReading}
 use Rattle.yaku.specs.declared.GroupTests.{GroupTests}
-use Rattle.yaku.specs.Yaku.{testsOf, isYakuman, hasYaku}
+use Rattle.yaku.specs.Yaku.{pinfu, testsOf, isYakuman, hasYaku}
 use Rattle.yaku.specs.laws.Common.{yakuman-with, any-with}
 use Rattle.yaku.specs.search.Common.{groupTestsOf, placeTestsOf}
 use Rattle.yaku.proofs.place_tests.Statement.{statement}

@@ -6,8 +6,8 @@ use borrow.Author.Tests.{not-true}
 use lib.ListN.{getD}
 use Rattle.tiles.specs.Below.{all, allBelow}
 use Rattle.tiles.specs.laws.Below.{every-at}
-use Rattle.yaku_basics.specs.Tests.{twins, pinfu}
-use Rattle.yaku.specs.Yaku.{closedOnly, testsOf, isYakuman, listed, yakuOf}
+use Rattle.yaku_basics.specs.Tests.{twins}
+use Rattle.yaku.specs.Yaku.{closedOnly, pinfu, testsOf, isYakuman, listed, yakuOf}
 use Rattle.yaku.specs.declared.Won.{Won}
 use Rattle.yaku.specs.declared.FullReading.{FullReading}
 use Rattle.yaku.specs.laws.Lists.{not-both}

@@ -8,10 +8,11 @@ use lib.Dec.{leb}
 use lib.ListN.{getD}
 use Rattle.tiles.specs.Below.{any, anyBelow, tabulate}
 use Rattle.tiles.specs.laws.Below.{any-at, any-of}
-use Rattle.yaku.specs.Yaku.{testsOf, isYakuman, listed, hasYaku}
+use Rattle.yaku.specs.Yaku.{testsOf, isYakuman, listed, yakuOf, yakuman, hasYaku}
 use Rattle.yaku.specs.declared.Won.{Won}
 use Rattle.yaku.specs.declared.FullReading.{FullReading}
-use Rattle.yaku.specs.search.Common.{byPlace, anyPlace, atEach}
+use Rattle.yaku.specs.declared.PlaceTests.{PlaceTests}
+use Rattle.yaku.specs.search.Common.{byPlace, anyPlace, atEach, placeTestsOf}
 
 one-more : (q a b x : Bool) → a || b || x ≡ (a || (not q && x)) || (b || (q && x))
 one-more q true b x = refl
@@ -87,3 +88,11 @@ module _ (w : Won) (p : FullReading) where
 
   pub any-with : hasYaku each || (at 4 || at 18 || at 19 || at 30 || at 31) ≡ hasYaku (testsOf w p)
   any-with = ap (λ (l : List Bool). hasYaku l || (at 4 || at 18 || at 19 || at 30 || at 31)) same-each ∙ sym (any-part (testsOf w p))
+
+  pub yakuman-tested : yakuman w p ≡ isYakuman (testsOf w p)
+  unfolding yakuOf
+  yakuman-tested = listed-yakuman (testsOf w p)
+
+  pub yakuman-placed : (q : PlaceTests) → q ≡ placeTestsOf w p → q .yakuman ≡ yakuman w p
+  unfolding placeTestsOf
+  yakuman-placed q e = ap (λ (x : PlaceTests). x .yakuman) e ∙ sym yakuman-tested

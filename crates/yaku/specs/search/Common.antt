@@ -2,13 +2,13 @@
 -- what a reading is worth is stated without them (`testsOf`).
 use mathlib.Core.Bool.{Bool, false, _&&_, _||_, not}
 use mathlib.Core.List.{List}
-use Prim.Native.Nat.{ℕ, _-_}
+use Prim.Native.Nat.{ℕ}
 use lib.ListN.{getD, replicate}
 use lib.Dec.{eqb}
 use Rattle.tiles.specs.Below.{all, tabulate}
 use Rattle.tiles.specs.Groups.{isRun}
-use Rattle.yaku_basics.specs.Tests.{isValue, earnsWait, pinfu, littleDragons, valueHan, concealed, kans}
-use Rattle.yaku.specs.Yaku.{testsOf, isYakuman, hasYaku}
+use Rattle.yaku_basics.specs.Tests.{isValue, littleDragons, valueHan, concealed, kans}
+use Rattle.yaku.specs.Yaku.{hasWaitFu, pinfu, testsOf, isYakuman, hasYaku}
 use Rattle.yaku.specs.declared.Won.{Won}
 use Rattle.yaku.specs.declared.FullReading.{FullReading}
 use Rattle.yaku.specs.declared.GroupTests.{GroupTests}
@@ -40,8 +40,8 @@ groupTestsOf w shape pair g = record {
 -- what a place says, and the ways with it
 unfoldable pub placeTestsOf : Won → FullReading → PlaceTests
 placeTestsOf w p = record {
-  wait = earnsWait (p .place) (getD (p .groups) (p .place - 1) 0) (w .win);
-  pinfu = pinfu (w .closed) (p .groups) (p .pair) (p .place) (w .win) (w .round) (w .own);
+  wait = hasWaitFu w p;
+  pinfu = pinfu w p;
   ankou = concealed (p .groups) (p .ways);
   kan = kans (p .ways);
   yakuman = isYakuman (testsOf w p);

@@ -1,12 +1,10 @@
 -- `yaku_groups::in_three_at` meets its contract.
 use borrow.Author.Needs.{needs}
 use borrow.Author.Tests.{lt-ltb, le-ltb, le-leb, lt-leb}
-use Rattle.yaku_basics.specs.Tests.{inThreeAt}
 use Rattle.yaku_groups.proofs.in_three_at.Statement.{statement}
 use Rattle.yaku_groups.proofs.in_three_at.Tie as tie
 
 pub in-three-at-spec : {M : Type 1} → statement M
-unfolding inThreeAt
 in-three-at-spec =
     tie.close
     (tie.spec

@@ -1,11 +1,10 @@
--- `yaku_groups::in_three_suits` meets its contract.
+-- `yaku_groups::in_three_suits` meets its contract: the groups in turn.
 use borrow.Author.Needs.{needs}
-use Rattle.yaku_basics.specs.Tests.{inThreeSuits}
+use Rattle.yaku_basics.specs.laws.Suits.{groups-in-turn}
 use Rattle.yaku_groups.proofs.in_three_suits.Statement.{statement}
 use Rattle.yaku_groups.proofs.in_three_suits.Tie as tie
 
 pub in-three-suits-spec : {M : Type 1} → statement M
-unfolding inThreeSuits
 in-three-suits-spec =
     tie.close
     (tie.spec
@@ -16,4 +15,4 @@ in-three-suits-spec =
       c .before .in-three-at3 .ensures,
       c .before .before .in-three-at2 .ensures,
       c .before .before .before .in-three-at .ensures,
-    )))
+    ) (groups-in-turn _ _)))

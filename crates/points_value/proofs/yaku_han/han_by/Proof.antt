@@ -7,13 +7,12 @@ use borrow.Author.Needs.{needs}
 use native.Mathlib.Omega.{arith}
 use Rattle.tiles.specs.Below.{sumBelow}
 use Rattle.tiles.specs.laws.Below.{cond-le, total-none, total-more, total-done}
-use Rattle.points_value.specs.Han.{hanBy}
-use Rattle.points_value.specs.laws.Han.{hanFor, han-at}
+use Rattle.points_value.specs.laws.Han.{fixedHan, hanBy, han-at}
 use Rattle.points_value.proofs.yaku_han.han_by.Statement.{statement}
 use Rattle.points_value.proofs.yaku_han.han_by.Tie as tie
 
 abbrev Inv-loop : tie.InvT-loop
-Inv-loop closed y each n₀ i₀ n i = (i ≤ 37) × (n ≤ 6 * i) × (n ≡ sumBelow i (λ j. cond (getD y j false) (getD (hanFor closed) j 0) 0))
+Inv-loop closed y each n₀ i₀ n i = (i ≤ 37) × (n ≤ 6 * i) × (n ≡ sumBelow i (λ j. cond (getD y j false) (getD (fixedHan closed) j 0) 0))
 
 abbrev μ-loop : tie.MeasureT-loop
 μ-loop closed y each n₀ i₀ n i = 37 - i
@@ -24,7 +23,7 @@ start c = c .before .before .before
 
 turn : (c : tie.After-han-for Inv-loop μ-loop)
     → (c .han-for .result .0 ≡ cond (getD (start c .args .t1) (c .before .before .loop .i) false)
-    (getD (hanFor (start c .args .closed)) (c .before .before .loop .i) 0) 0) × (c .han-for .result .0 ≤ 6)
+    (getD (fixedHan (start c .args .closed)) (c .before .before .loop .i) 0) 0) × (c .han-for .result .0 ≤ 6)
 turn c =
     let h = han-at (start c .args .closed) (c .before .before .loop .i) (c .before .loop-test .taken) in
     let e = c .han-for .ensures ∙ ap (λ (n : ℕ). cond (getD (start c .args .t1) (c .before .before .loop .i) false) n 0) (h .0) in (
@@ -33,7 +32,7 @@ turn c =
         arith,
         e,
         cond-le (getD (start c .args .t1) (c .before .before .loop .i) false)
-            (getD (hanFor (start c .args .closed)) (c .before .before .loop .i) 0) 0 6 (h .1) (omega arith),
+            (getD (fixedHan (start c .args .closed)) (c .before .before .loop .i) 0) 0 6 (h .1) (omega arith),
       ),
     )
 

@@ -1,0 +1,9 @@
+pub mod Accepted
+pub mod Deal
+pub mod Counter
+pub mod Sticks
+pub mod Feeders
+pub mod RiichiDeclared
+pub mod AcceptedWhen
+pub mod Step
+pub mod Payments

@@ -1,0 +1,38 @@
+-- `score_readings::nth` meets its contract: seats, record, then the hand.
+use borrow.Author.Needs.{needs}
+use mathlib.Core.Path.{_∙_}
+use borrow.Author.Tests.{ltb-false}
+use lib.Dec.{ltb}
+use Rattle.tiles.specs.laws.Below.{or-both}
+use Rattle.hand_record.specs.laws.Bounds.{hand-bounds}
+use Rattle.score_readings.specs.laws.Found.{found-eight, found-refused, found-sound}
+use Rattle.score_readings.specs.laws.Claims.{both}
+use Rattle.score_readings.proofs.nth.Statement.{statement}
+use Rattle.score_readings.proofs.nth.Tie as tie
+
+pub nth-spec : {M : Type 1} → statement M
+nth-spec =
+    tie.close
+    (tie.spec (λ c κs. search needs)
+    (λ c.
+    let a = c .before .before .before .args in
+    both (a .s .now) (a .dealer) (a .wind) (a .n) _ (c .refused .ensures ∙ found-eight _ _ _ _ (c .before .if1 .taken)))
+    (λ c κs. search needs) (λ c. search needs) (λ c. search needs) (λ c κs. search needs) (λ c κs. search needs)
+    (λ c.
+    let r = c .before .before .before .before in
+    let a = r .before .before .before .args in
+    both (a .s .now) (a .dealer) (a .wind) (a .n) _
+    (found-refused (a .s .now) (a .dealer) (a .wind) (r .read .result) (r .before .if1 .left) (r .read .ensures) (a .n)
+    _ (c .before .refusal .result) (c .refused2 .result) (c .before .before .enum-told .given .1) (c .before .refusal .ensures) (c .refused2 .ensures)))
+    (λ c κs.
+    let r = c .before .before .before .before in
+    let a = r .before .before .before .args in
+    let q = or-both (ltb 3 (a .dealer)) (ltb 1 (a .wind)) (r .before .if1 .left) in
+    let b = hand-bounds (a .s .now) (r .read .result) (r .read .ensures) _ (c .before .before .a .given .1) in
+    (b .few, b .winner, ltb-false 3 (a .dealer) (q .0), ltb-false 1 (a .wind) (q .1), b .discarder, b .other))
+    (λ c.
+    let r = c .before .before .before .before .before in
+    let a = r .before .before .before .args in
+    both (a .s .now) (a .dealer) (a .wind) (a .n) _
+    (found-sound (a .s .now) (a .dealer) (a .wind) (r .read .result) (r .before .if1 .left) (r .read .ensures) (a .n)
+    _ (c .nth-hand .result) (c .before .before .before .a .given .1) (c .nth-hand .ensures))))

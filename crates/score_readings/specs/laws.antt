@@ -1,0 +1,5 @@
+pub mod Same
+pub mod Found
+pub mod Exact
+pub mod Listed
+pub mod Claims
