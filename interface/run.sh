@@ -34,13 +34,15 @@ cargo test --release --quiet
 
 # Over a wrong archive the tool says so, and its exit status is 1.
 gcc -std=c99 -I "$root/include" -c wrong.c -o "$made/wrong.o"
-objcopy --redefine-sym hb_score=right_score "$archive" "$made/libhandset.a"
+objcopy --redefine-sym hb_score=right_score --redefine-sym hb_reading=right_reading "$archive" "$made/libhandset.a"
 ar r "$made/libhandset.a" "$made/wrong.o"
 HANDSET_LIB=$made cargo build --quiet --package tester --target-dir "$made/target"
 status=0
 "$made/target/debug/tester" hand 234567m345p67s22s+8s seat=1 ron=3 >"$made/out" 2>"$made/err" || status=$?
 [[ $status -eq 1 ]]
 grep -q 'THE TWO SCORERS DIFFER' "$made/err"
+grep -q '^!!! Score$' "$made/err"
+grep -q '^!!! a reading$' "$made/err"
 grep -q 'THE TWO SCORERS DIFFER' "$made/out"
 status=0
 "$made/target/debug/tester" rotate 234567m345p67s22s+8s seat=1 ron=3 by=1 >"$made/out" 2>"$made/err" || status=$?

@@ -1,5 +1,5 @@
 #!/usr/bin/env python3
-"""cost.py [--PART ..]: what the calls cost; PART: stack, scores, slips, bookings, waits, ready, cards, judges, messages; by default all of them.
+"""cost.py [--PART ..]: what the calls cost; PART: stack, scores, readings, slips, bookings, waits, ready, cards, judges, messages; by default all of them.
 Instructions are counted (valgrind --tool=callgrind), bytes of stack read off the frames of the archive.
 
 Scores: the program `vectors` (made by `rt check vectors`) on hands of crates/vectors/stdin. A figure is that of one vector: reading
@@ -7,6 +7,8 @@ Scores: the program `vectors` (made by `rt check vectors`) on hands of crates/ve
 three costliest blocks one by one, so a costly hand among cheap ones can be missed.
 Stack: of hb_score, hb_win, hb_multi_ron and hb_correct_multi_ron the deepest chain of calls in the archive (`rt staticlib handset`), by their frames; the search recurses
 five deep at most.
+Readings: what hb_reading_count and hb_reading take, by a C program over the archive, of line 1 of the table of hands, which has one reading, and of
+111 2222 3333 444m, which has twelve; their stack as above.
 Slip: what hb_slip takes beyond hb_score, by a C program over the archive (`rt staticlib handset`). Bookings: what hb_win takes beyond
 hb_score, of a yakuman paid by pao too, what hb_multi_ron of one to three records takes beyond their Scores, what hb_pao takes and
 what a correction of a draw takes, by another, with the copy of the game. Waits: what hb_waits takes, by another, over hands drawn from a wall, hands of one suit and hands
@@ -92,6 +94,35 @@ def slips():
         for line, record in ((1, "b81e640210620a31661a9a6bb0"), (9, "201e60000005965acb2cc30d34")):
             each = {s: (counted(program, 1001, s, record)[0] - counted(program, 1, s, record)[0]) // 1000 for s in "01"}
             print(f"slip of line {line}: {each['1'] - each['0']} instructions beyond its Score, {each['0']}")
+
+
+READINGS = """#include <stdlib.h>
+#include "herbassolh.h"
+int main(int argc, char **argv) {
+    uint8_t record[13];
+    uint32_t number = atoi(argv[3]);
+    for (int i = 0; i < 13; i++) { char two[3] = {argv[4][2 * i], argv[4][2 * i + 1]}; record[i] = strtol(two, 0, 16); }
+    for (int n = atoi(argv[1]); n > 0; n--)
+        switch (atoi(argv[2])) {
+        case 0: if (hb_score(record, 13, 0, 0).refusal) return argc; break;
+        case 1: if (hb_reading_count(record, 13, 0, 0).refusal) return argc; break;
+        case 2: if (hb_reading(record, 13, 0, 0, number).refusal) return argc; break;
+        }
+    return 0;
+}
+"""
+
+
+def readings():
+    """What the calls of every reading take, and their stack."""
+    with tempfile.TemporaryDirectory() as d:
+        program = compiled(d, READINGS)
+        for name, record, numbers in (("line 1", "b81e640210620a31661a9a6bb0", (1,)), ("111 2222 3333 444m by 2m", "b81e0400000082084104106186", (1, 12))):
+            def each(what, number):
+                return (counted(program, 1001, what, number, record)[0] - counted(program, 1, what, number, record)[0]) // 1000
+            read = ", ".join(f"reading {n} {each(2, n)}" for n in numbers)
+            print(f"readings of {name}: how many {each(1, 0)}, {read} instructions; Score {each(0, 0)}")
+        stacks_of(program, ("hb_reading_count", "hb_reading"))
 
 
 BOOKINGS = """#include <stdlib.h>
@@ -374,7 +405,7 @@ def messages():
         print(f"the six calls add {code(names) - code(others)} bytes of code and constants to the other {len(others)}")
 
 
-PARTS = {"--stack": stack, "--scores": scores, "--slips": slips, "--bookings": bookings, "--waits": waits, "--ready": ready, "--cards": cards, "--judges": judges,
+PARTS = {"--stack": stack, "--scores": scores, "--readings": readings, "--slips": slips, "--bookings": bookings, "--waits": waits, "--ready": ready, "--cards": cards, "--judges": judges,
          "--messages": messages}
 
 

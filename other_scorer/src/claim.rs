@@ -40,7 +40,7 @@ fn bits(shape: u8, m: u8) -> usize {
 }
 
 /// The group of a code (01, Readings: "run: lowest kind; triplet: 34 + kind").
-fn group(code: u8) -> Option<Group> {
+pub fn group(code: u8) -> Option<Group> {
     match code {
         0..34 => starts_run(code).then_some(Group::Run(code)),
         34..68 => Some(Group::Triplet(code - 34)),
@@ -49,7 +49,7 @@ fn group(code: u8) -> Option<Group> {
 }
 
 /// The code of a group.
-fn code(group: Group) -> u8 {
+pub fn code(group: Group) -> u8 {
     match group {
         Group::Run(low) => low,
         Group::Triplet(kind) => 34 + kind,

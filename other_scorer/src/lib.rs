@@ -12,6 +12,7 @@ pub mod record;
 pub mod rotate;
 pub mod score;
 pub mod shape;
+pub mod shown;
 pub mod slip;
 pub mod sound;
 pub mod tiles;

@@ -20,11 +20,15 @@ pub struct Scored {
     pub changes: [i32; 4],
 }
 
-/// What one reading with a yaku is worth.
+/// What one reading is worth.
 #[derive(Clone, Copy, Debug, PartialEq, Eq)]
 pub struct Value {
+    /// The amount A, and what the winner gets.
+    pub basic: u32,
     pub gain: i32,
     pub h: u8,
+    /// How many of h are dora.
+    pub dora: u8,
     pub fu: u8,
     pub yaku: u64,
     pub changes: [i32; 4],
@@ -46,13 +50,14 @@ fn changes(win: &Win, a: u32) -> [i32; 4] {
     }
 }
 
-/// A value from the yaku with their han, the items of fu, h and A (01, Fu and points).
-fn value(win: &Win, list: &[yaku::Yaku], items: fu::Items, h: u8, a: u32) -> Value {
+/// A value from the yaku with their han, the items of fu, the dora and A; h is the han with the dora (01, Fu and points).
+fn value(win: &Win, list: &[yaku::Yaku], items: fu::Items, dora: u8, a: u32) -> Value {
     let changes = changes(win, a);
     let mut han = [0; 37];
     list.iter().for_each(|&(n, of)| han[n as usize] = of);
     let yaku = list.iter().fold(0, |set, (n, _)| set | 1 << n);
-    Value { gain: changes[win.hand.winner as usize], h, fu: items.total(), yaku, changes, han, items }
+    let h = han.iter().sum::<u8>() + dora;
+    Value { basic: a, gain: changes[win.hand.winner as usize], h, dora, fu: items.total(), yaku, changes, han, items }
 }
 
 /// The yakuman, the yaku with their han, and the items of fu of one reading (01, Yaku; Fu and points).
@@ -82,18 +87,22 @@ fn parts(win: &Win, reading: &Reading) -> (Vec<u8>, Vec<yaku::Yaku>, fu::Items) 
     (yakuman, yaku, fu)
 }
 
-/// The value of one reading; with a yakuman only yakuman count (01, Yaku; Fu and points).
-pub fn appraise(win: &Win, reading: &Reading) -> Option<Value> {
+/// What one reading comes to: with a yakuman only yakuman count, and without a yaku nobody pays (01, Yaku; Fu and points).
+pub fn worth(win: &Win, reading: &Reading) -> Value {
     let (yakuman, yaku, items) = parts(win, reading);
     if !yakuman.is_empty() {
         let list: Vec<yaku::Yaku> = yakuman.into_iter().map(|n| (n, 0)).collect();
-        return Some(value(win, &list, fu::Items::default(), 0, points::YAKUMAN));
+        return value(win, &list, fu::Items::default(), 0, points::YAKUMAN);
     }
-    if yaku.is_empty() {
-        return None;
-    }
-    let h = yaku.iter().map(|(_, han)| han).sum::<u8>() + win.dora();
-    Some(value(win, &yaku, items, h, points::basic(h, items.total())))
+    let dora = win.dora();
+    let h = yaku.iter().map(|(_, han)| han).sum::<u8>() + dora;
+    let a = if yaku.is_empty() { 0 } else { points::basic(h, items.total()) };
+    value(win, &yaku, items, dora, a)
+}
+
+/// The value of one reading with a yaku (01, Score).
+pub fn appraise(win: &Win, reading: &Reading) -> Option<Value> {
+    Some(worth(win, reading)).filter(|value| value.yaku != 0)
 }
 
 /// All readings of a sound hand in order, each with its value (01, Readings).

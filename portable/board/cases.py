@@ -71,6 +71,7 @@ class Cases:
         some, log = r.choice(self.multi_rons), r.choice(self.logs)
         return {
             "record": lambda h: h.record, "dealer": lambda h: h.dealer, "wind": lambda h: h.wind, "claim": lambda h: h.claim,
+            "n": lambda h: r.choice((1, 1, 1, 2, r.randrange(14), r.randrange(2 ** 32))),
             "hand": lambda h: h.unfinished if r.random() < 0.7 else drawn(r),
             "discards": lambda h: bytes(r.choice((r.randrange(34), r.randrange(36))) for _ in range(r.randrange(20))),
             "seat": lambda h: r.randrange(5), "holder": lambda h: r.randrange(5), "feeder": lambda h: r.randrange(5), "yaku": lambda h: r.randrange(27, 31),

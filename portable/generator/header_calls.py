@@ -1,10 +1,15 @@
 """The exported calls as the header declares them. What the header's structs hold is copied field by field, either way, so that nothing depends on
 how a C compiler lays them out; a slice is a pointer and a length of the header's; only here do lengths have the type size_t. Each member is held
 to the field's width when the file is compiled (SAME), and the C compiler holds every declaration to the header's."""
+import os
 import re
+import sys
 
 from c_types import WORD, c_name, type_of
 from statements import wrapped
+
+sys.path.append(os.path.join(os.path.dirname(os.path.abspath(__file__)), "..", "..", "tools"))
+from layout import partner  # noqa: E402
 
 
 class HeaderCalls:
@@ -16,7 +21,7 @@ class HeaderCalls:
     def c(self, t, source=""):
         """The header's type of a value; MIR has no sign, so that is the source's."""
         if t[0] == "named":
-            return "Hb" + t[1].rsplit("::", 1)[1]
+            return partner(t[1].rsplit("::", 1)[1])
         return "size_t" if t == WORD else f"int{t[1]}_t" if re.fullmatch(r"i\d+", source) else self.types.c(t)
 
     def is_struct(self, t):

@@ -101,6 +101,45 @@ pub struct Scored {
     pub changes: [i32; 4],
 }
 
+/// Han by yaku, yaku n at index n; shown as those that are not 0.
+#[repr(transparent)]
+#[derive(Clone, Copy, PartialEq, Eq)]
+pub struct Han(pub [u16; 37]);
+
+impl fmt::Debug for Han {
+    fn fmt(&self, f: &mut fmt::Formatter) -> fmt::Result {
+        f.debug_map().entries(self.0.iter().enumerate().filter(|(_, han)| **han != 0)).finish()
+    }
+}
+
+#[repr(C)]
+#[derive(Clone, Copy, Debug, PartialEq, Eq)]
+pub struct Reading {
+    pub count: u32,
+    pub basic: u32,
+    pub gain: u32,
+    pub changes: [i32; 4],
+    pub h: u16,
+    pub dora: u16,
+    pub han: Han,
+    pub refusal: u8,
+    pub shape: u8,
+    pub pair: u8,
+    pub groups: [u8; 4],
+    pub place: u8,
+    pub reported: u8,
+    pub fu: u8,
+    pub items: Items,
+    pub yaku: Yaku,
+}
+
+#[repr(C)]
+#[derive(Clone, Copy, Debug, PartialEq, Eq)]
+pub struct ReadingCount {
+    pub count: u32,
+    pub refusal: u8,
+}
+
 /// Kind k at index k; shown as those that are waits.
 #[repr(transparent)]
 #[derive(Clone, Copy, PartialEq, Eq)]
@@ -243,6 +282,8 @@ extern "C" {
     fn hb_read(record: *const u8, len: usize) -> ReadHand;
     fn hb_write(hand: Hand, buffer: *mut u8, len: usize) -> Written;
     fn hb_score(record: *const u8, len: usize, dealer: u8, wind: u8) -> Scored;
+    fn hb_reading(record: *const u8, len: usize, dealer: u8, wind: u8, n: u32) -> Reading;
+    fn hb_reading_count(record: *const u8, len: usize, dealer: u8, wind: u8) -> ReadingCount;
     fn hb_slip(record: *const u8, record_len: usize, dealer: u8, wind: u8, page: *mut u8, len: usize) -> u8;
     fn hb_waits(hand: *const u8, len: usize, discards: *const u8, discards_len: usize) -> Waits;
     fn hb_ready(hand: *const u8, len: usize) -> Ready;
@@ -296,6 +337,16 @@ pub fn write(hand: Hand, buffer: &mut [u8]) -> Written {
 /// Score.
 pub fn score(record: &[u8], dealer: u8, wind: u8) -> Scored {
     unsafe { hb_score(record.as_ptr(), record.len(), dealer, wind) }
+}
+
+/// Reading: the n-th of a record's tiles, from 1.
+pub fn reading(record: &[u8], dealer: u8, wind: u8, n: u32) -> Reading {
+    unsafe { hb_reading(record.as_ptr(), record.len(), dealer, wind, n) }
+}
+
+/// How many readings a record's tiles have.
+pub fn reading_count(record: &[u8], dealer: u8, wind: u8) -> ReadingCount {
+    unsafe { hb_reading_count(record.as_ptr(), record.len(), dealer, wind) }
 }
 
 /// A slip.

@@ -2,13 +2,20 @@
 
 use std::collections::BTreeMap;
 
+use other_scorer::claim::{code, group};
 use other_scorer::log::{entry, letter, next, Next};
+use other_scorer::reading::Reading;
 use other_scorer::record::Meld;
 use other_scorer::rotate::moved_changes;
 use other_scorer::say::calls::{put, Message};
+use other_scorer::shown::{nth, Shown};
 use other_scorer::Entry;
 
 use crate as archive;
+
+/// The pair of a reading that has none, and the code of a group that is not there (docs/STYLE.md, code).
+const NO_PAIR: u8 = 34;
+const NO_GROUP: u8 = 68;
 
 /// A hand of the other scorer from the archive's form: a meld is 64 times its kind plus its tile.
 pub fn to_other(hand: &archive::Hand) -> other_scorer::Hand {
@@ -65,20 +72,102 @@ fn items(items: &other_scorer::fu::Items) -> archive::Items {
     }
 }
 
+/// A set of yaku in the archive's form.
+fn yaku(set: u64) -> archive::Yaku {
+    archive::Yaku(std::array::from_fn(|n| (set >> n & 1) as u8))
+}
+
 /// What Score should give (01, Score; 02, S-3 and S-4).
 pub fn scored(scored: &other_scorer::Scored) -> archive::Scored {
-    let mut yaku = [0; 37];
-    for (n, held) in yaku.iter_mut().enumerate() {
-        *held = (scored.yaku >> n & 1) as u8;
-    }
     archive::Scored {
         refusal: scored.refusal,
         h: scored.h as u16,
         fu: scored.fu,
         items: items(&scored.items),
-        yaku: archive::Yaku(yaku),
+        yaku: yaku(scored.yaku),
         tried: scored.tried,
         changes: scored.changes,
+    }
+}
+
+/// A reading's shape, pair, groups and place in the archive's form: pair 34 and code 68 where there is none.
+fn numbers(reading: &Reading) -> (u8, u8, [u8; 4], u8) {
+    match reading {
+        Reading::Regular { pair, groups, place } => {
+            (0, *pair, std::array::from_fn(|at| groups.get(at).map_or(NO_GROUP, |&group| code(group))), *place as u8)
+        }
+        Reading::SevenPairs => (1, NO_PAIR, [NO_GROUP; 4], 0),
+        Reading::ThirteenOrphans => (2, NO_PAIR, [NO_GROUP; 4], 0),
+    }
+}
+
+/// A reading of the other scorer from the archive's form; none where the numbers name no reading.
+pub fn to_other_reading(reading: &archive::Reading) -> Option<Reading> {
+    let archive::Reading { shape, pair, groups, place, .. } = *reading;
+    let codes = groups.iter().take_while(|&&code| code != NO_GROUP);
+    let named = match shape {
+        0 => Reading::Regular { pair, groups: codes.map(|&code| group(code)).collect::<Option<_>>()?, place: place.into() },
+        1 => Reading::SevenPairs,
+        _ => Reading::ThirteenOrphans,
+    };
+    let there = match &named {
+        Reading::Regular { groups, place, .. } => pair < NO_PAIR && *place <= groups.len(),
+        _ => true,
+    };
+    Some(named).filter(|named| there && numbers(named) == (shape, pair, groups, place))
+}
+
+/// What Reading should give, given all readings or the refusal (01, Readings).
+pub fn reading(all: &Result<Vec<Shown>, u8>, n: u32) -> archive::Reading {
+    let zero = archive::Reading {
+        count: 0,
+        basic: 0,
+        gain: 0,
+        changes: [0; 4],
+        h: 0,
+        dora: 0,
+        han: archive::Han([0; 37]),
+        refusal: 0,
+        shape: 0,
+        pair: 0,
+        groups: [0; 4],
+        place: 0,
+        reported: 0,
+        fu: 0,
+        items: items(&Default::default()),
+        yaku: yaku(0),
+    };
+    match nth(all, n) {
+        Err(refusal) => archive::Reading { refusal, ..zero },
+        Ok(Shown { reading, value, reported }) => {
+            let (shape, pair, groups, place) = numbers(reading);
+            archive::Reading {
+                count: reading_count(all).count,
+                basic: value.basic,
+                gain: value.gain as u32,
+                changes: value.changes,
+                h: value.h.into(),
+                dora: value.dora.into(),
+                han: archive::Han(value.han.map(u16::from)),
+                refusal: 0,
+                shape,
+                pair,
+                groups,
+                place,
+                reported: *reported as u8,
+                fu: value.fu,
+                items: items(&value.items),
+                yaku: yaku(value.yaku),
+            }
+        }
+    }
+}
+
+/// What the call that counts readings should give, given all of them or the refusal (01, Readings).
+pub fn reading_count(all: &Result<Vec<Shown>, u8>) -> archive::ReadingCount {
+    match all {
+        Ok(all) => archive::ReadingCount { count: all.len() as u32, refusal: 0 },
+        Err(refusal) => archive::ReadingCount { count: 0, refusal: *refusal },
     }
 }
 

@@ -1,4 +1,4 @@
-//! Random records and hands through Read, Write, Score, the slip, Waits, Ready and Judge, and what is said of them.
+//! Random records and hands through Read, Write, Score, every reading, the slip, Waits, Ready and Judge, and what is said of them.
 
 use archive::same;
 use other_scorer::codec::{pack, unpack};
@@ -10,6 +10,7 @@ use other_scorer::score;
 use other_scorer::vector::make;
 
 use crate::claims;
+use crate::readings;
 use crate::ready;
 use crate::report::Report;
 use crate::rotations;
@@ -103,7 +104,7 @@ fn compare_write(report: &mut Report, rng: &mut Rng, hand: &archive::Hand) {
     }
 }
 
-/// Compares the seven calls, and the messages of those that have one, for one input.
+/// Compares the nine calls, and the messages of those that have one, for one input.
 fn compare(report: &mut Report, rng: &mut Rng, index: usize) {
     let (record, dealer, wind, scored) = input(rng, index);
     let read = archive::read(&record);
@@ -131,6 +132,7 @@ fn compare(report: &mut Report, rng: &mut Rng, index: usize) {
         rotations::compare(report, &same::to_other(&read.hand), dealer, wind, &got);
     }
 
+    readings::compare(report, &record, dealer, wind, &got);
     slips::compare(report, rng, &record, dealer, wind, &scored);
     claims::compare(report, rng, &record, dealer, wind);
     said::of_record(report, rng, &record, dealer, wind, &scored);

@@ -8,6 +8,7 @@ mod claims;
 mod hands;
 mod lines;
 mod logs;
+mod readings;
 mod ready;
 mod report;
 mod rotations;

@@ -1,11 +1,10 @@
-//! The core's answer to a record, and how the other scorer comes to it.
+//! The core's answer to a record, and every reading of its tiles.
 
-use archive::Scored;
+use archive::{same, Scored};
 use other_scorer::codec::unpack;
 use other_scorer::notation::hex::to_hex;
 use other_scorer::notation::{print, text};
 use other_scorer::reading::Reading;
-use other_scorer::score::{best, valued, Value, Valued};
 use other_scorer::Hand;
 
 use crate::both::Core;
@@ -15,6 +14,13 @@ use crate::page::Page;
 use crate::refusals;
 use crate::words::{Bad, Words};
 
+/// A reading that the core gives: its number, from 1, its parts, and what it is worth.
+pub struct Listed {
+    pub n: usize,
+    pub reading: Reading,
+    pub worth: archive::Reading,
+}
+
 pub struct Answer {
     pub record: Vec<u8>,
     pub dealer: u8,
@@ -22,9 +28,8 @@ pub struct Answer {
     pub scored: Scored,
     /// The fields and whether a padding bit is set; none with refusal 1.
     fields: Option<(Hand, bool)>,
-    /// Every reading with its value, and the place of the reported one; of a record with refusal 0, 6 or 7.
-    pub readings: Vec<Valued>,
-    pub best: Option<usize>,
+    /// Every reading; none where the record, the dealer or the wind is refused.
+    pub readings: Vec<Listed>,
 }
 
 impl Answer {
@@ -40,12 +45,10 @@ impl Answer {
         core.read(&record);
         let scored = core.score(&record, dealer, wind);
         let fields = unpack(&record).ok();
-        let readings = match (scored.refusal, &fields) {
-            (0 | 6 | 7, Some((hand, _))) => valued(hand, dealer, wind),
-            _ => Vec::new(),
-        };
-        let best = best(&readings);
-        Answer { record, dealer, wind, scored, fields, readings, best }
+        // Numbers that name no reading differ from the other scorer's, and that is told.
+        let list = (1..).zip(core.readings(&record, dealer, wind));
+        let readings = list.filter_map(|(n, worth)| Some(Listed { n, reading: same::to_other_reading(&worth)?, worth })).collect();
+        Answer { record, dealer, wind, scored, fields, readings }
     }
 
     /// The hand of a record that Read accepts.
@@ -58,10 +61,9 @@ impl Answer {
         self.hand().filter(|_| matches!(self.scored.refusal, 0 | 6 | 7))
     }
 
-    /// The reported reading and its value.
-    pub fn reported(&self) -> Option<(&Reading, &Value)> {
-        let (reading, value) = &self.readings[self.best?];
-        Some((reading, value.as_ref()?))
+    /// The reported reading.
+    pub fn reported(&self) -> Option<&Listed> {
+        self.readings.iter().find(|listed| listed.worth.reported != 0)
     }
 
     /// The notation that gives this very record, if there is one.

@@ -1,10 +1,10 @@
 //! The proved core, each answer compared with the other scorer's.
 
-use archive::{same, Cards, Differences, Judged, NextEntry, Position, ReadHand, Ready, Said, Scored, Waits, Written, RECORD_MAX};
+use archive::{same, Cards, Differences, Judged, NextEntry, Position, ReadHand, Reading, Ready, Said, Scored, Waits, Written, RECORD_MAX};
 use other_scorer::log::tally_lines;
 use other_scorer::notation::hex::to_hex;
 use other_scorer::say::calls::{self, Message};
-use other_scorer::{score, slip, Hand};
+use other_scorer::{score, shown, slip, Hand};
 
 use crate::answer::Answer;
 
@@ -39,6 +39,22 @@ impl Core {
         let input = || format!("{} dealer {dealer} wind {wind}", to_hex(record));
         self.differences.same("Score", answer, wanted, input);
         answer
+    }
+
+    /// Every reading of a record's tiles, one before the first and one past the last asked for too; none where it is refused.
+    pub fn readings(&mut self, record: &[u8], dealer: u8, wind: u8) -> Vec<Reading> {
+        let other = shown::all(record, dealer, wind);
+        let input = || format!("{} dealer {dealer} wind {wind}", to_hex(record));
+        let (counted, wanted) = (archive::reading_count(record, dealer, wind), same::reading_count(&other));
+        self.differences.same("the number of readings", counted, wanted, input);
+        let mut list = Vec::new();
+        for n in 0..=counted.count.min(wanted.count) + 1 {
+            let answer = archive::reading(record, dealer, wind, n);
+            self.differences.same("a reading", answer, same::reading(&other, n), || format!("{}, reading {n}", input()));
+            list.push(answer);
+        }
+        list.retain(|answer| answer.refusal == 0);
+        list
     }
 
     /// Compares a score with what is promised of it by another one; whether they are equal (02, S-12).

@@ -1,4 +1,4 @@
-//! The core's fu, item by item; each has its name by the reading that the other scorer reports.
+//! The core's fu, item by item; each has its name by the reading that the core reports.
 
 use other_scorer::notation::text;
 use other_scorer::reading::Reading;

@@ -2,9 +2,7 @@
 
 use other_scorer::notation::text;
 use other_scorer::reading::Reading;
-use other_scorer::score::Value;
 use other_scorer::tiles::dora_after;
-use other_scorer::win::Win;
 use other_scorer::Hand;
 
 use crate::answer::{parts, shape, Answer};
@@ -13,10 +11,6 @@ use crate::names::{yaku, FIRST_YAKUMAN};
 use crate::page::Page;
 use crate::words::{Bad, Words};
 use crate::{fu, payments};
-
-/// What the stars say.
-const NOTE: &str =
-    "* reading (items of fu are named by it), han of each yaku and A by the other scorer; all else is the core's answer";
 
 /// The hand's record, and what the core says to it.
 pub fn run(core: &mut Core, mut words: Words) -> Result<String, Bad> {
@@ -29,14 +23,13 @@ pub fn run(core: &mut Core, mut words: Words) -> Result<String, Bad> {
         return Ok(page.finish());
     }
     answer.head(&mut page);
-    if let (0, Some(hand), Some((reading, value))) = (answer.scored.refusal, answer.hand(), answer.reported()) {
+    if let (0, Some(hand), Some(reported)) = (answer.scored.refusal, answer.hand(), answer.reported()) {
         page.line("");
-        page.row("reading *", in_words(hand, reading));
-        yaku_rows(&mut page, &answer, hand, value);
-        fu::rows(&mut page, &answer, hand, reading);
-        payments::rows(&mut page, &answer, hand);
+        page.row("reading", in_words(hand, &reported.reading));
+        yaku_rows(&mut page, &answer, hand, &reported.worth);
+        fu::rows(&mut page, &answer, hand, &reported.reading);
+        payments::rows(&mut page, &answer, hand, reported.worth.basic);
         page.line("");
-        page.line(NOTE);
     }
     page.line(core.verdict());
     Ok(page.finish())
@@ -54,16 +47,15 @@ pub fn in_words(hand: &Hand, reading: &Reading) -> String {
 }
 
 /// The yaku by number and name with their han, the dora, and h.
-fn yaku_rows(page: &mut Page, answer: &Answer, hand: &Hand, value: &Value) {
-    let mut label = "yaku *";
+fn yaku_rows(page: &mut Page, answer: &Answer, hand: &Hand, worth: &archive::Reading) {
+    let mut label = "yaku";
     for n in answer.scored.yaku.numbers() {
-        let han = if n < FIRST_YAKUMAN { value.han[n].to_string() } else { "yakuman".into() };
+        let han = if n < FIRST_YAKUMAN { worth.han.0[n].to_string() } else { "yakuman".into() };
         page.figure(label, format!("{n:>2} {}", yaku(n)), han);
         label = "";
     }
-    if value.h > 0 {
-        let win = Win::new(hand, answer.dealer, answer.wind);
-        page.figure("", format!("   dora {}", text(&[dora_after(hand.indicator)])), win.dora());
+    if worth.h > 0 {
+        page.figure("", format!("   dora {}", text(&[dora_after(hand.indicator)])), worth.dora);
     }
     page.figure("h", "", answer.scored.h);
 }
@@ -75,8 +67,10 @@ pub fn plain(page: &mut Page, answer: &Answer) {
     page.plain("h", [scored.h]);
     page.plain("fu", [scored.fu]);
     page.plain("yaku", scored.yaku.numbers());
-    if let Some((_, value)) = answer.reported() {
-        page.plain("han", scored.yaku.numbers().iter().map(|&n| value.han[n]));
+    if let Some(reported) = answer.reported() {
+        page.plain("han", scored.yaku.numbers().iter().map(|&n| reported.worth.han.0[n]));
+        page.plain("dora", [reported.worth.dora]);
+        page.plain("basic", [reported.worth.basic]);
     }
     page.plain("fu-items", scored.items.list());
     page.plain("tried", [scored.tried]);

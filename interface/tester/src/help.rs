@@ -40,18 +40,20 @@ tester hand HEX [dealer=N] [wind=E|S] [--plain]
   wind=E|S        the round wind, or 0, 1; East if not given
   HEX             the record's bytes instead, in one word or more
 
-For scripts: notation, dealer, wind, record, refusal, why, h, fu, yaku, han (of each yaku), fu-items (base, closed ron,
-pair, four groups, wait, tsumo, rounding), tried (how many readings), changes of seats 0 to 3, differences.
+For scripts: notation, dealer, wind, record, refusal, why, h, fu, yaku, han (of each yaku), dora, basic (the amount A), fu-items
+(base, closed ron, pair, four groups, wait, tsumo, rounding), tried (how many readings), changes of seats 0 to 3, differences.
 ";
 
 pub const READINGS: &str = "\
 tester readings HAND [dealer=N] [wind=E|S] [--plain]
 
 HAND as for `tester hand`. Lists every reading in document 01's order: pair, groups, place (what the winning tile
-completes: 0 the pair, then the groups from 1), yaku, h, fu and gain. > marks the reported one; each other says why it loses,
-or that it was not tried, as one before it is a yakuman.
+completes: 0 the pair, then the groups from 1), yaku, h, fu and gain; one without a yaku gains nothing, and its h is its dora.
+> marks the reported one; each other says why it loses, or that it was not tried, as one before it is a yakuman. Below stand the
+yaku with their han.
 
-For scripts: the lines of `hand` up to why, tried, then reading N SHAPE PAIR GROUPS PLACE YAKU H FU GAIN reported|loses.
+For scripts: the lines of `hand` up to why, tried, then of each reading two lines: reading N SHAPE PAIR GROUPS PLACE YAKU H FU GAIN
+reported|loses, and worth N HAN DORA A, the han in the order of the yaku; differences.
 ";
 
 pub const ROTATE: &str = "\

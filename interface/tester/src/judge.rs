@@ -25,7 +25,7 @@ pub fn run(core: &mut Core, mut words: Words) -> Result<String, Bad> {
     let plain = words.take_flag("--plain");
     let typed = words.take("claim", |value| if value.is_empty() { Ok(Vec::new()) } else { from_hex(value) })?;
     let answer = Answer::of(core, words)?;
-    let own = || answer.reported().map(|(reading, value)| Claim { reading: reading.clone(), gain: value.gain as u32 });
+    let own = || answer.reported().map(|reported| Claim { reading: reported.reading.clone(), gain: reported.worth.gain });
     let Some(claim) = typed.or_else(|| own().map(|claim| pack(&claim))) else {
         return Err(Bad::new("claim=HEX is needed: no reading of the hand is reported"));
     };
@@ -51,15 +51,14 @@ pub fn run(core: &mut Core, mut words: Words) -> Result<String, Bad> {
     page.line("");
     page.row("claim", format!("{}, {}", to_hex(&claim), count(claim.len(), "byte")));
     if let (Some(hand), Some(Claim { reading, gain })) = (answer.sound(), &named) {
-        page.row("reading *", in_words(hand, reading));
-        page.row("gain *", points(*gain as i64));
+        page.row("claimed", in_words(hand, reading));
+        page.row("its gain", points(*gain as i64));
     }
     page.row("judged", match judged.refusal {
         0 => VERDICTS.get(judged.verdict as usize).unwrap_or(&"no verdict of document 02").to_string(),
         refusal => sentence(refusal, &fault.map(String::from).into_iter().collect::<Vec<_>>()),
     });
     page.line("");
-    page.line("* what the claim names, read by the other scorer; all else is the core's answer");
     page.line(core.verdict());
     Ok(page.finish())
 }

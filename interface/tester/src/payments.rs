@@ -1,7 +1,6 @@
-//! The amount A, and who pays what.
+//! The amount A, and who pays what, as the core gives them.
 
 use archive::Scored;
-use other_scorer::points::{basic, YAKUMAN};
 use other_scorer::record::RON;
 use other_scorer::Hand;
 
@@ -9,29 +8,25 @@ use crate::answer::Answer;
 use crate::names::{change, points, seat_wind};
 use crate::page::Page;
 
-/// How the amount A comes about (01, Fu and points).
-fn amount(scored: &Scored) -> (String, u32) {
-    let (h, fu) = (scored.h as u8, scored.fu);
-    if h == 0 {
-        return ("   A, yakuman".into(), YAKUMAN);
-    }
-    let a = basic(h, fu);
+/// How the core's amount A comes about (01, Fu and points).
+fn amount(scored: &Scored, a: u32) -> String {
+    let (h, fu) = (scored.h, scored.fu);
     let plain = fu as u32 * (4 << h.min(5));
     let limit = match h {
-        0..=4 if plain == a => return (format!("   A = {fu} fu x 2^({h} + 2)"), a),
-        0..=4 => format!("{} exceeds 2,000", points(plain as i64)),
+        0 => return "   A, yakuman".into(),
+        1..=4 if plain == a => return format!("   A = {fu} fu x 2^({h} + 2)"),
+        1..=4 => format!("{} exceeds 2,000", points(plain as i64)),
         5 => "h 5".into(),
         6..=7 => "h 6 to 7".into(),
         8..=10 => "h 8 to 10".into(),
         _ => "h 11 up".into(),
     };
-    (format!("   A, limit: {limit}"), a)
+    format!("   A, limit: {limit}")
 }
 
 /// A, and what each seat pays or is paid.
-pub fn rows(page: &mut Page, answer: &Answer, hand: &Hand) {
-    let (how, a) = amount(&answer.scored);
-    page.figure("points *", how, points(a as i64));
+pub fn rows(page: &mut Page, answer: &Answer, hand: &Hand, a: u32) {
+    page.figure("points", amount(&answer.scored, a), points(a as i64));
     let ron = hand.how == RON;
     for (seat, &moved) in (0..4).zip(&answer.scored.changes) {
         let dealer = if seat == answer.dealer { "dealer" } else { "child" };
@@ -45,7 +40,7 @@ pub fn rows(page: &mut Page, answer: &Answer, hand: &Hand) {
             0 => String::new(),
             1.. => "wins".into(),
             _ if times == 1 => "pays A".into(),
-            _ => format!("pays {times} A = {}", points((times * a) as i64)),
+            _ => format!("pays {times} A = {}", points(times * a as i64)),
         };
         let text = format!("   {} {dealer:<6}  {role}", seat_wind(seat, answer.dealer));
         page.figure(&format!("seat {seat}"), text, change(moved as i64));

@@ -1,19 +1,16 @@
 //! `readings`: every reading of a hand in document 01's order, the reported one marked, and why the others lose.
 
+use other_scorer::notation::text;
 use other_scorer::reading::Reading;
-use other_scorer::score::{Valued, Value};
+use other_scorer::tiles::dora_after;
 
-use crate::answer::{columns, or_none, parts, shape, Answer};
+use crate::answer::{columns, or_none, parts, shape, Answer, Listed};
 use crate::both::Core;
-use crate::names::{points, yaku};
+use crate::names::{points, yaku, FIRST_YAKUMAN};
 use crate::page::{table, Page};
 use crate::words::{Bad, Words};
 
-/// What the stars say.
-const NOTE: &str =
-    "* listed by the other scorer; h, fu, yaku and gain of the reported reading, and how many were tried, are the core's";
-
-/// The list of readings; it is the other scorer's, and its reported one is what the core reports.
+/// The list of readings, each as the core gives it.
 pub fn run(core: &mut Core, mut words: Words) -> Result<String, Bad> {
     let plain = words.take_flag("--plain");
     let answer = Answer::of(core, words)?;
@@ -21,29 +18,25 @@ pub fn run(core: &mut Core, mut words: Words) -> Result<String, Bad> {
     if plain {
         answer.plain_head(&mut page);
         page.plain("tried", [answer.scored.tried]);
-        (1..).zip(&answer.readings).for_each(|(n, valued)| plain_row(&mut page, n, valued, &answer));
+        answer.readings.iter().for_each(|listed| plain_rows(&mut page, listed));
         page.plain("differences", [core.differences.count]);
         return Ok(page.finish());
     }
     answer.head(&mut page);
-    page.row("readings *", answer.readings.len().to_string());
+    page.row("readings", answer.readings.len().to_string());
     if !answer.readings.is_empty() {
         page.line("");
         let heads = ["", "pair", "groups", "place", "yaku", "h", "fu", "gain", ""].map(String::from).to_vec();
-        let rows = (1..).zip(&answer.readings).map(|(n, valued)| row(n, valued, &answer));
+        let rows = answer.readings.iter().map(|listed| row(listed, &answer));
         let all: Vec<Vec<String>> = [heads].into_iter().chain(rows).collect();
         table(&all, &[5, 6, 7]).iter().for_each(|line| page.line(line));
         page.line("");
-        legend(&mut page, &answer);
-        page.line(NOTE);
+        if legend(&mut page, &answer) {
+            page.line("");
+        }
     }
     page.line(core.verdict());
     Ok(page.finish())
-}
-
-/// The numbers of a set of yaku.
-fn numbers(value: &Value) -> Vec<usize> {
-    (1..37).filter(|n| value.yaku >> n & 1 == 1).collect()
 }
 
 /// The place that the winning tile completes, 0 the pair, then the groups from 1 (01, Readings).
@@ -56,71 +49,79 @@ fn place(reading: &Reading) -> String {
 }
 
 /// Why a reading is reported, or loses to the reported one (01, Readings), or was not tried (02, S-4).
-fn verdict(at: usize, answer: &Answer) -> String {
-    let reported = answer.reported();
-    let n = answer.best.map_or(0, |best| best + 1);
-    if reported.is_some() && at >= answer.scored.tried as usize {
-        return format!("not tried, {n} is a yakuman");
-    }
-    let Some(value) = &answer.readings[at].1 else { return "no yaku".into() };
-    let Some((_, reported)) = reported else { return String::new() };
-    if at + 1 == n {
+fn verdict(listed: &Listed, answer: &Answer) -> String {
+    let worth = &listed.worth;
+    let Some(Listed { n, worth: reported, .. }) = answer.reported() else { return "no yaku".into() };
+    if listed.n > answer.scored.tried as usize {
+        format!("not tried, {n} is a yakuman")
+    } else if worth.reported != 0 {
         "REPORTED".into()
-    } else if value.gain < reported.gain {
-        format!("{} less than {n}", points((reported.gain - value.gain) as i64))
-    } else if value.h < reported.h {
-        format!("same gain as {n}, h {} under {}", value.h, reported.h)
-    } else if value.fu < reported.fu {
-        format!("same gain and h as {n}, fu {} under {}", value.fu, reported.fu)
+    } else if worth.yaku.numbers().is_empty() {
+        "no yaku".into()
+    } else if worth.gain < reported.gain {
+        format!("{} less than {n}", points(reported.gain as i64 - worth.gain as i64))
+    } else if worth.h < reported.h {
+        format!("same gain as {n}, h {} under {}", worth.h, reported.h)
+    } else if worth.fu < reported.fu {
+        format!("same gain and h as {n}, fu {} under {}", worth.fu, reported.fu)
     } else {
         format!("equal to {n}, which comes first")
     }
 }
 
+/// Numbers with a sign between them, - where there are none.
+fn joined(numbers: impl IntoIterator<Item = impl ToString>, between: &str) -> String {
+    or_none(numbers.into_iter().map(|number| number.to_string()).collect::<Vec<_>>().join(between))
+}
+
 /// A line of the table.
-fn row(n: usize, (reading, value): &Valued, answer: &Answer) -> Vec<String> {
+fn row(listed: &Listed, answer: &Answer) -> Vec<String> {
+    let Listed { n, reading, worth } = listed;
     let (pair, groups) = parts(reading);
     let groups = if pair.is_empty() { shape(reading).to_string() } else { groups.join(" ") };
-    let mark = if answer.best == Some(n - 1) { "> " } else { "  " };
-    let figures = match value {
-        Some(value) => {
-            let yaku: Vec<String> = numbers(value).iter().map(usize::to_string).collect();
-            [yaku.join(" "), value.h.to_string(), value.fu.to_string(), points(value.gain as i64)]
+    let mark = if worth.reported != 0 { "> " } else { "  " };
+    vec![
+        format!("{mark}{n:>width$}", width = answer.readings.len().to_string().len()),
+        pair,
+        groups,
+        place(reading),
+        joined(worth.yaku.numbers(), " "),
+        worth.h.to_string(),
+        worth.fu.to_string(),
+        points(worth.gain as i64),
+        verdict(listed, answer),
+    ]
+}
+
+/// The names of all yaku in the table with the han that each counts, and the dora; whether there are any.
+fn legend(page: &mut Page, answer: &Answer) -> bool {
+    let mut rows = Vec::new();
+    for n in 1..37 {
+        let with = answer.readings.iter().filter(|listed| listed.worth.yaku.0[n] != 0);
+        let mut han: Vec<u16> = with.map(|listed| listed.worth.han.0[n]).collect();
+        han.sort();
+        han.dedup();
+        if !han.is_empty() {
+            let han = if n < FIRST_YAKUMAN { joined(han, " or ") } else { "yakuman".into() };
+            rows.push((format!("yaku {n:>2} {}", yaku(n)), han));
         }
-        None => ["-"; 4].map(String::from),
-    };
-    let start = vec![format!("{mark}{n}"), pair, groups, place(reading)];
-    [start, figures.to_vec(), vec![verdict(n - 1, answer)]].concat()
-}
-
-/// The names of all yaku in the table.
-fn legend(page: &mut Page, answer: &Answer) {
-    let all = answer.readings.iter().filter_map(|(_, value)| value.as_ref());
-    let set = all.fold(0u64, |set, value| set | value.yaku);
-    for n in (1..37).filter(|n| set >> n & 1 == 1) {
-        page.line(format!("yaku {n:>2} {}", yaku(n)));
     }
+    let dora = answer.readings.iter().map(|listed| listed.worth.dora).max().filter(|&dora| dora > 0);
+    if let (Some(hand), Some(dora)) = (answer.hand(), dora) {
+        rows.push((format!("dora    {}", text(&[dora_after(hand.indicator)])), dora.to_string()));
+    }
+    rows.iter().for_each(|(name, han)| page.line(format!("{name:<49}{han:>7}")));
+    !rows.is_empty()
 }
 
-/// A line for scripts: number, shape, pair, groups, place, yaku, h, fu, gain, verdict; - where there is none.
-fn plain_row(page: &mut Page, n: usize, (reading, value): &Valued, answer: &Answer) {
-    let yaku = value.as_ref().map_or(Vec::new(), numbers);
-    let yaku: Vec<String> = yaku.iter().map(usize::to_string).collect();
-    let figure = |of: fn(&Value) -> i32| value.as_ref().map_or("-".into(), |value| of(value).to_string());
+/// Two lines for scripts: number, shape, pair, groups, place, yaku, h, fu, gain, verdict; and number, han of each yaku, dora, A; - where there is none.
+fn plain_rows(page: &mut Page, listed: &Listed) {
+    let Listed { n, reading, worth } = listed;
     let [shape, pair, groups, place] = columns(reading);
-    page.plain(
-        "reading",
-        [
-            n.to_string(),
-            shape,
-            pair,
-            groups,
-            place,
-            or_none(yaku.join(",")),
-            figure(|value| value.h as i32),
-            figure(|value| value.fu as i32),
-            figure(|value| value.gain),
-            if answer.best == Some(n - 1) { "reported".into() } else { "loses".into() },
-        ],
-    );
+    let yaku = worth.yaku.numbers();
+    let verdict = if worth.reported != 0 { "reported" } else { "loses" };
+    let [h, fu, gain] = [worth.h.to_string(), worth.fu.to_string(), worth.gain.to_string()];
+    page.plain("reading", [n.to_string(), shape, pair, groups, place, joined(&yaku, ","), h, fu, gain, verdict.into()]);
+    let han = joined(yaku.iter().map(|&n| worth.han.0[n]), ",");
+    page.plain("worth", [n.to_string(), han, worth.dora.to_string(), worth.basic.to_string()]);
 }

@@ -6,7 +6,6 @@ use other_scorer::notation::text;
 use other_scorer::pao;
 use other_scorer::position::{book, pao_feeder};
 use other_scorer::record::RON;
-use other_scorer::score::valued;
 use other_scorer::sound::{field_faults, situation_faults, FIELD_FAULTS, SITUATION_FAULTS};
 use other_scorer::{multi_ron, unfinished, Entry, Game, Hand, Position};
 
@@ -93,7 +92,7 @@ pub fn of_record(refusal: u8, record: &[u8], dealer: u8, wind: u8) -> Vec<String
         4 => over_four(&hand.seen()),
         5 => holding(&SITUATION_FAULTS, &situation_faults(&hand)),
         6 => vec!["neither a pair and groups, nor seven pairs, nor thirteen orphans".into()],
-        7 => vec![count(valued(&hand, dealer, wind).len(), "reading")],
+        7 => vec![count(archive::reading_count(record, dealer, wind).count as usize, "reading")],
         _ => Vec::new(),
     }
 }

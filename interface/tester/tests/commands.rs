@@ -32,7 +32,7 @@ fn a_hand_for_reading() {
     let out = answer("hand 111m333p555s77s99s+7s seat=1 ron=3");
     for row in [
         "answer     accepted",
-        "reading *  99s 111m 333p 555s [777s]",
+        "reading    99s 111m 333p 555s [777s]",
         "17 four triplets                                  2",
         "concealed triplet 111m                         8",
         "open triplet 777s                              2",
@@ -175,7 +175,7 @@ fn claims() {
     let own = answer(&format!("judge {five} --plain"));
     assert!(own.contains("\nclaim 16000078f01450\nreading regular 55s 123m,123m,789p,789p 0\ngain 5200\njudged 0 0\n"), "{own}");
     let out = answer(&format!("judge {five} claim=16000078f01450"));
-    assert!(out.contains("\nreading *  [55s] 123m 123m 789p 789p, [ ] with the winning tile\ngain *     5,200\n"), "{out}");
+    assert!(out.contains("\nclaimed    [55s] 123m 123m 789p 789p, [ ] with the winning tile\nits gain   5,200\n"), "{out}");
     for (typed, refusal) in [(&LINE_1[..24], 1), (five, 8)] {
         let dealer = if refusal == 8 { "dealer=4" } else { "" };
         let out = answer(&format!("judge {typed} {dealer} claim=40c801 --plain"));
@@ -265,17 +265,47 @@ fn readings_say_why_they_lose() {
         ),
         ("112233667788sW+W seat=1 ron=3 riichi", ["REPORTED", "same gain as 1, h 6 under 7"]),
         ("666m3334566p666s+6p seat=3 ron=1 riichi", ["REPORTED", "same gain and h as 2, fu 40 under 50"]),
-        ("789p5566677788s+5s seat=3 ron=1", ["REPORTED", "2 555s  -     -   -      -  no yaku"]),
+        ("789p5566677788s+5s seat=3 ron=1", ["REPORTED", "2 555s  -     0  40      0  no yaku"]),
     ] {
         let out = answer(&format!("readings {hand}"));
         rows.iter().for_each(|row| assert!(out.contains(row), "{row} in\n{out}"));
     }
     let plain = answer("readings 112233m778899p5s+5s seat=1 ron=3 --plain");
-    assert!(plain.contains("reading 1 regular 55s 123m,123m,789p,789p 0 21 3 40 5200 reported\n"), "{plain}");
-    assert!(plain.contains("reading 2 seven-pairs - - - 12 2 25 1600 loses\n"), "{plain}");
-    let none = answer("readings 456p78s234s99p+9s chi=123m seat=1 ron=3");
-    assert!(none.contains("refusal 7") && none.contains("no yaku") && !none.contains("REPORTED"), "{none}");
-    assert!(answer("readings 1111m44m77m22p55p8p+8p seat=1 ron=3").contains("readings * 0\n"));
+    assert!(plain.contains("reading 1 regular 55s 123m,123m,789p,789p 0 21 3 40 5200 reported\nworth 1 3 0 1280\n"), "{plain}");
+    assert!(plain.contains("reading 2 seven-pairs - - - 12 2 25 1600 loses\nworth 2 2 0 400\n"), "{plain}");
+    let none = answer("readings 456p78s234s99p+9s chi=123m seat=1 ron=3 indicator=8p");
+    assert!(none.contains("refusal 7") && !none.contains("REPORTED"), "{none}");
+    assert!(none.contains("3 789s  -     2  30     0  no yaku\n\ndora    9p                                             2\n\n"), "{none}");
+    assert!(answer("readings 1111m44m77m22p55p8p+8p seat=1 ron=3").contains("readings   0\n"));
+}
+
+#[test]
+fn every_reading_of_a_hand_with_twelve() {
+    let out = answer("readings 1112223333444m+2m seat=1 ron=3");
+    assert!(out.contains("\nreadings   12\n") && out.ends_with("\n\nboth scorers agree\n"), "{out}");
+    for row in [
+        "\n   1  11m   123m 234m 234m 234m  1 123m  5 25    7  40  12,000  4,000 less than 5\n",
+        "\n>  5  11m   123m 222m 333m 444m  1 123m  18 25   8  50  16,000  REPORTED\n",
+        "\n  11  44m   234m 111m 222m 333m  1 234m  18 25   8  50  16,000  equal to 5, which comes first\n",
+        "\nyaku 18 three concealed triplets                       2\n",
+    ] {
+        assert!(out.contains(row), "{row} in\n{out}");
+    }
+    assert_eq!(out.matches("same gain and h as 5, fu 30 under 50").count(), 4, "{out}");
+    let plain = answer("readings 1112223333444m+2m seat=1 ron=3 --plain");
+    assert_eq!((plain.matches("\nreading ").count(), plain.matches(" reported\n").count()), (12, 1), "{plain}");
+}
+
+#[test]
+fn han_as_they_count() {
+    let open = answer("hand 123m12p99p+3p chi=123s pon=EEE seat=0 ron=3 indicator=8p --plain");
+    assert!(open.contains("\nyaku 3 13 15\nhan 2 1 1\ndora 2\nbasic 3000\n"), "{open}");
+    let honours = answer("readings 2224466mEEE+6m seat=0 ron=3 pon=888m");
+    for row in ["yaku  3 value triplet                                  2\n", "yaku 23 one suit and honours                           2\n"] {
+        assert!(honours.contains(row), "{honours}");
+    }
+    let yakuman = answer("hand 111m333p555s77s99s+7s seat=1 tsumo indicator=8s --plain");
+    assert!(yakuman.contains("\nyaku 30\nhan 0\ndora 0\nbasic 8000\n"), "{yakuman}");
 }
 
 #[test]
