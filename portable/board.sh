@@ -3,8 +3,8 @@
 # the emulator it installs from Debian's packages where they are missing, as root, and says so.
 # Cortex-M0+, Cortex-M4 and RV32, each by gcc and clang at two levels: every exported call, with records, logs, unfinished hands and damaged bytes of
 # the other scorer's programs and fixed seeds, against the answers of the x86-64 archive, which stand in the image; interface/test.c and
-# examples/firmware.c there; the header's layout for 32 bits. Flash, stack (by the call graph, and painted) and instructions go into docs/COST.md and
-# README.md, between their marks. Ends with a count and `0 differ`, or exits 1.
+# examples/firmware.c there; the header's layout for 32 bits. Flash, stack (by the call graph, and painted) and instructions go into
+# docs/COST.md, between its marks. Ends with a count and `0 differ`, or exits 1.
 set -Eeuo pipefail
 trap 'echo "board: failed" >&2; exit 1' ERR
 here=$(cd -- "$(dirname -- "${BASH_SOURCE[0]}")" && pwd)

@@ -1,6 +1,6 @@
 #!/usr/bin/env bash
 # Pages and header against the tree: check.sh [PAPER..]. Runs claims.py, words.py, edits.py (every must-fail edit applies), lines.py (no meaning
-# through a search), promises.py, refusals.py and quotes.py (with the papers, if given), clips.py and layout.py;
+# through a search), promises.py, refusals.py and quotes.py (with the papers, if given), clips.py, shown.py and layout.py;
 # ends with `pages: all agree` or exits 1. Proves nothing and takes a few seconds.
 tools=$(cd -- "$(dirname -- "${BASH_SOURCE[0]}")" && pwd)
 failed=0
@@ -14,6 +14,7 @@ python3 "$tools/promises.py" || failed=1
 python3 "$tools/refusals.py" "$@" || failed=1
 [[ $# == 0 ]] || python3 "$tools/quotes.py" "$@" || failed=1
 python3 "$tools/clips.py" || failed=1
+python3 "$tools/shown.py" || failed=1
 python3 "$tools/layout.py" >"$made/layout.c" || failed=1
 for bits in 64 32; do
     gcc "-m$bits" -std=c11 -ffreestanding -Wall -Wextra -Werror -I "$tools/../include" -fsyntax-only "$made/layout.c" || failed=1

@@ -10,7 +10,8 @@ Of a name in backquotes:
 - with a space, a bracket or another sign it is text or a command, whose tools/ and .sh files exist.
 And every exported call, every theorem that a file directly in specs/ declares `pub`, and every must-fail edit stands in a row of a table; the
 figures given for tools/lines.py and tools/promises.py are theirs. Sections of document 02's requests (## S-n) are checked like the others.
-Of README.md and docs/DECISIONS.md the names are checked alone; there a law may be named too. README.md names every crate."""
+Of README.md, docs/DECISIONS.md and the last section of docs/REFUSALS.md the names are checked alone; there a law may be named too. README.md names
+every crate."""
 import fnmatch
 import glob
 import os
@@ -131,6 +132,8 @@ class Page:
         for path in ("README.md", "docs/DECISIONS.md"):
             for number, line in enumerate(tree.read(os.path.join(tree.ROOT, path)).split("\n"), 1):
                 self.cell(f"{path}:{number}", line, "")
+        for line in tree.read(os.path.join(tree.ROOT, "docs", "REFUSALS.md")).partition("\n## Where each")[2].split("\n"):
+            self.cell("docs/REFUSALS.md", line, "")
 
         readme = SPAN.findall(tree.read(os.path.join(tree.ROOT, "README.md")))
         self.faults += [f"README.md: no word of the crate {crate}" for crate in self.tree.crates if crate not in readme]
@@ -161,7 +164,7 @@ def main():
     page.missing()
     page.figures()
     page.others()
-    print("\n".join(page.faults) if page.faults else f"{page.checked} names in docs/CLAIMS.md, README.md and docs/DECISIONS.md, all in the tree")
+    print("\n".join(page.faults) if page.faults else f"{page.checked} names in docs/CLAIMS.md, README.md, docs/DECISIONS.md and docs/REFUSALS.md, all in the tree")
     sys.exit(bool(page.faults))
 
 

@@ -1,9 +1,10 @@
 #!/usr/bin/env python3
 """Checks that what is said of refusals agrees with docs/REFUSALS.md: refusals.py [PAPER..]. A line for each fault and exit status 1, else a count.
 
-- the page: each call's row lists the numbers that name it under "given by" ("none" where none does), and the reverse; numbers ascend;
-- include/herbassolh.h: the names and numbers of HB_REFUSAL_*, with the paper's words as comment; each call has a row, and the comment before
-  it gives its refusals in the row's order ("refusals 8, 1 to 7 in order"), or none; where the row ends with "then the entry's", those of
+- the page: each call's row lists the numbers that name it under "given by" ("none" where none does), and the reverse; numbers ascend; each has a
+  row under "Where each is defined and decided", whose names tools/claims.py checks;
+- include/herbassolh.h: the names and numbers of HB_REFUSAL_*, with the first sentence of "what happened" as comment; each call has a row, and the
+  comment before it gives its refusals in the row's order ("refusals 8, 1 to 7 in order"), or none; where the row ends with "then the entry's", those of
   each booking too, in the order of the booking's row (without those that no entry meets: of a win 1, of a multiple ron 1 and its first 17, ..),
   and of a correction 9 and 20, which are first in the row of each correction, before those of the result that it carries;
 - docs/RECORDS.md names the page and has no table of refusals of its own; docs/*.md and README.md name no number that the page lacks;
@@ -36,11 +37,16 @@ def numbers(text):
     return found
 
 
+def sentence(text):
+    """The first sentence."""
+    return re.match(r".*?\.(?= [A-Z]|$)|.*", plain(text)).group(0)
+
+
 def tables():
-    """The rows of the page's two tables, without their heads."""
+    """The rows of the page's first two tables, without their heads; the third says where each is defined, and claims.py reads it."""
     rows = [[c.strip() for c in line.strip("| ").split(" | ")] for line in tree.read(os.path.join(tree.ROOT, PAGE)).split("\n") if line.startswith("|")]
-    heads = [k for k, row in enumerate(rows) if row[0] in ("call", "number")]
-    return rows[heads[0] + 2:heads[1]], rows[heads[1] + 2:]
+    heads = [k for k, row in enumerate(rows) if row[0] in ("call", "number", "refusal")]
+    return rows[heads[0] + 2:heads[1]], rows[heads[1] + 2:heads[2]], rows[heads[2] + 2:]
 
 
 def check_page(calls, refusals):
@@ -71,12 +77,12 @@ def check_entry(comment, call, calls):
 
 
 def check_header(calls, refusals):
-    text = tree.read(os.path.join(tree.ROOT, HEADER))
+    text = re.sub(r"^ \*(?!/)", "", tree.read(os.path.join(tree.ROOT, HEADER)), flags=re.M)
     named = {}
     for name, number, comment in re.findall(r"(HB_REFUSAL_\w+) = (\d+),?\s*/\*(.*?)\*/", text, flags=re.S):
         named[int(number)] = (name, plain(comment))
     for number in sorted(set(named) | set(refusals)):
-        here = (refusals[number]["name"], plain(refusals[number]["words"])) if number in refusals else None
+        here = (refusals[number]["name"], sentence(refusals[number]["happened"])) if number in refusals else None
         if named.get(number) != here:
             yield f"{HEADER}: {number} is {named.get(number)}; in {PAGE} it is {here}"
     orders = {c: order for c, order, _ in calls.values()}
@@ -132,11 +138,12 @@ def check_quotations(refusals, papers):
 
 
 def main():
-    first, second = tables()
+    first, second, third = tables()
     calls = {call: (name.strip("`"), numbers(order), order.endswith("then the entry's")) for call, name, order in first}
-    refusals = {int(r[0]): {"name": r[1].strip("`"), "given by": r[2].split(", "), "words": r[3], "tool": r[5]} for r in second}
+    refusals = {int(r[0]): {"name": r[1].strip("`"), "given by": r[2].split(", "), "words": r[3], "happened": r[4], "tool": r[5]} for r in second}
     tools = []
-    faults = [*check_page(calls, refusals), *check_header(calls, refusals), *check_papers(refusals), *check_tools(refusals, tools)]
+    faults = [f"{PAGE}: the refusals with a place are {[row[0] for row in third]}"] * ([int(row[0]) for row in third] != list(refusals))
+    faults += [*check_page(calls, refusals), *check_header(calls, refusals), *check_papers(refusals), *check_tools(refusals, tools)]
     if sys.argv[1:]:
         faults += check_quotations(refusals, sys.argv[1:])
     print("\n".join(faults) or f"{len(refusals)} refusals of {len(calls)} calls agree; words of the tool in {', '.join(tools) or 'no file'}")

@@ -4,7 +4,7 @@ use other_scorer::codec::{pack, read};
 use other_scorer::deal::{drawn, near, themed};
 use other_scorer::fault;
 use other_scorer::notation::hex::{from_hex, to_hex};
-use other_scorer::notation::{parse, print, text, tiles, Fault};
+use other_scorer::notation::{doubtful, parse, print, text, tiles, Fault};
 use other_scorer::rng::Rng;
 use other_scorer::{score, Hand, Scored};
 
@@ -61,6 +61,48 @@ fn tiles_come_in_any_order() {
     }
     let open = hand("567m456p67s22p+8s chi=423m seat=1 ron=3");
     assert_eq!(open, hand("567m456p67s22p+8s chi=234m seat=1 ron=3"));
+}
+
+#[test]
+fn tiles_in_other_signs() {
+    let orphans = tiles("19m19p19sESWNPFC").expect("tiles");
+    for text in [
+        "19m19p19s1234567z",
+        "19m19p19seSwnPfc",
+        "１９ｍ１９ｐ１９ｓ１２３４５６７ｚ",
+        "19m19p19s東南西北白發中",
+        "19m19p19s東南西北白発中",
+        "🀇🀏🀙🀡🀐🀘🀀🀁🀂🀃🀆🀅🀄",
+        "🀇🀏🀙🀡🀐🀘🀀🀁🀂🀃🀆🀅🀄\u{fe0f}",
+    ] {
+        assert_eq!(tiles(text), Ok(orphans.clone()), "{text}");
+    }
+    assert_eq!(tiles("eesswwnnppffcc"), tiles("EESSWWNNPPFFCC"));
+    assert_eq!(tiles("pps"), tiles("PPS"));
+    assert_eq!(tiles("11pEp"), tiles("11pEP"));
+    let all: String = (0x1f000..0x1f022).filter_map(char::from_u32).collect();
+    let mut kinds = tiles(&all).expect("tiles");
+    kinds.sort();
+    assert_eq!(kinds, (0..34).collect::<Vec<u8>>());
+    let plain = hand("234567m345p2267s+8s seat=1 ron=3 riichi");
+    assert!(plain.is_ok());
+    for line in [
+        "２３４５６７ｍ３４５ｐ２２６７ｓ＋８ｓ seat＝１ ron＝３ riichi",
+        "234567m345p2267s+8s seat=S ron=n RIICHI indicator=北",
+        "🀈🀉🀊🀋🀌🀍🀛🀜🀝🀑🀑🀕🀖+🀗 seat=南 ron=N riichi indicator=n",
+    ] {
+        assert_eq!(hand(line), plain, "{line}");
+    }
+}
+
+#[test]
+fn digits_that_look_like_two_suits() {
+    let of = |text| doubtful(text).map(|(stretch, first)| format!("{stretch} {first}"));
+    assert_eq!(of("234567345p67s22s"), Some("234567345p 234567".into()));
+    assert_eq!(of("234m6722s"), Some("6722s 67".into()));
+    for text in ["234567m345p67s22s", "765432m", "354p", "1122334455667m", "ESWN", "", "123"] {
+        assert_eq!(of(text), None, "{text}");
+    }
 }
 
 #[test]
@@ -124,7 +166,7 @@ fn bad_notation() {
         ("345p", "34p", 0, "12 tiles before +, with 0 melds 13 are needed"),
         ("345p", "3456p", 0, "14 tiles before +"),
         ("345p", "345x", 0, "sign 11 of \"234567m345x2267s\", x"),
-        ("345p", "305p", 0, "sign 9 of"),
+        ("345p", "305p", 0, "sign 9 of \"234567m305p2267s\", 0: there are no red fives here, write 5"),
         ("345p", "345pp", 0, "sign 12 of \"234567m345pp2267s\", p: no digit before it"),
         ("345p", "345P", 0, "sign 11 of \"234567m345P2267s\", P: the digits before it have no suit"),
         ("345p", "348z", 0, "8z is no tile"),
@@ -143,7 +185,11 @@ fn bad_notation() {
         ("ron=3", "ron=3 indicator=4z indicator=4z", 4, "an earlier word"),
         ("ron=3", "ron=3 dora=4z", 3, "the tile turned up is indicator="),
         ("ron=3", "ron=3 ura=4z", 3, "ura= is no option"),
-        ("ron=3", "ron=3 ippatsu", 3, "neither an option nor tiles"),
+        ("ron=3", "ron=3 ippatsu", 3, "there is no ippatsu in these rules, leave the word out"),
+        ("ron=3", "ron=3 Reach", 3, "the word is riichi"),
+        ("ron=3", "ron=3 menzen", 3, "neither tiles nor one of the words tsumo, riichi, double"),
+        ("ron=3", "ron=3 riichi=1", 3, "riichi stands alone"),
+        ("345p", " pong=333p ", 1, "the word is pon, such as pon=222m"),
         ("345p", " chi=345p", 1, "sign 10 of \"345p2267s+8s\", +"),
         ("345p", " chi=891m ", 1, "three neighbours"),
         ("345p", " chi=123z ", 1, "three neighbours"),

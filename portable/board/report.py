@@ -3,7 +3,7 @@
 
 COUNTS is what expect said; each FILE has the figures and the images' words of one build. Every call has to be made as often as on the host, no answer
 may differ, and no painted stack may be deeper than the call graph's. --one: checks a build and says its line. Otherwise the tables go into
-docs/COST.md and README.md, between lines with the marks below, and the last line is a count and `0 differ`."""
+docs/COST.md, between lines with the marks below, and the last line is a count and `0 differ`."""
 import os
 import re
 import sys
@@ -148,13 +148,6 @@ def cost_page(builds, counts, qemu, digest):
     ]
 
 
-def firmware_page(builds):
-    chosen = [b for b in builds if b.compiler == "gcc"]
-    head = ["build", "flash, all calls", "hb_score alone", "stack, any call", "stack, hb_score", "Score, mean (of the accepted)"]
-    return table(head, [[f"{b.chip}, gcc {b.version} {b.level}", number(b.flash), number(b.alone), number(b.worst()), number(b.stack["hb_score"]), b.score()]
-                        for b in chosen])
-
-
 def put(page, lines):
     """Puts lines between the marks of a page."""
     path = os.path.join(ROOT, page)
@@ -178,7 +171,6 @@ def main():
         print(builds[0].line())
         return
     put("docs/COST.md", cost_page(builds, counts, given[1], digest_of(given[2])))
-    put("README.md", firmware_page(builds))
     answers, checks = sum(b.answers() for b in builds), sum(int(b.test.group(1)) for b in builds)
     print(f"board: {len(builds)} builds, {number(answers)} answers and {number(checks)} checks; 0 differ")
 

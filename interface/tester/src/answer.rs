@@ -30,6 +30,8 @@ pub struct Answer {
     fields: Option<(Hand, bool)>,
     /// Every reading; none where the record, the dealer or the wind is refused.
     pub readings: Vec<Listed>,
+    /// What of the typed words may be meant otherwise.
+    notes: Vec<String>,
 }
 
 impl Answer {
@@ -37,7 +39,7 @@ impl Answer {
     pub fn of(core: &mut Core, mut words: Words) -> Result<Answer, Bad> {
         let (dealer, wind) = input::table(&mut words)?;
         let record = input::record(core, &words)?;
-        Ok(Answer::to(core, record, dealer, wind))
+        Ok(Answer { notes: input::notes(&words), ..Answer::to(core, record, dealer, wind) })
     }
 
     /// The answer to a record, for a dealer and a wind.
@@ -48,7 +50,7 @@ impl Answer {
         // Numbers that name no reading differ from the other scorer's, and that is told.
         let list = (1..).zip(core.readings(&record, dealer, wind));
         let readings = list.filter_map(|(n, worth)| Some(Listed { n, reading: same::to_other_reading(&worth)?, worth })).collect();
-        Answer { record, dealer, wind, scored, fields, readings }
+        Answer { record, dealer, wind, scored, fields, readings, notes: Vec::new() }
     }
 
     /// The hand of a record that Read accepts.
@@ -99,9 +101,15 @@ impl Answer {
         rows
     }
 
-    /// The same on a page.
+    /// The same on a page, with the notes.
     pub fn head(&self, page: &mut Page) {
         self.rows().iter().for_each(|(label, text)| page.row(label, text));
+        self.notes(page);
+    }
+
+    /// What of the typed words may be meant otherwise, a line each.
+    pub fn notes(&self, page: &mut Page) {
+        self.notes.iter().for_each(|note| page.row("note", note));
     }
 
     /// The same for scripts.

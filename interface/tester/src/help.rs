@@ -29,8 +29,9 @@ tester hand TILES+TILE seat=N tsumo|ron=N [WORDS] [--plain]
 tester hand HEX [dealer=N] [wind=E|S] [--plain]
 
   TILES+TILE      concealed tiles, then + and the winning tile: 234567m345p67s22s+8s
-                  suits m p s; honours E S W N and P F C for white, hatsu, chun (or 1z to 7z)
-  seat=N          the winner, 0 to 3
+                  suits m p s; honours E S W N and P F C for white, hatsu, chun, small letters too, or 1z to 7z,
+                  or 東南西北白發中; the tiles of Unicode and full-width signs are read as well; there are no red fives
+  seat=N          the winner, 0 to 3, or E S W N by the winds of the first deal
   tsumo, ron=N    drawn, or discarded by seat N
   chi=234m pon=555p kan=EEEE ankan=9999s     melds; ankan is a closed kan
   riichi, double                             riichi, double riichi
@@ -86,18 +87,21 @@ For scripts: the lines of `hand` up to why, slip with its refusal, the six lines
 ";
 
 pub const WAITS: &str = "\
-tester waits TILES [MELDS] [discards=TILES] [--plain]
-tester waits HEX [discards=TILES] [--plain]
+tester waits TILES [MELDS] [discards=TILES] [seat=N [WORDS]] [--plain]
+tester waits HEX [discards=TILES] [seat=N [WORDS]] [--plain]
 
   TILES           13 concealed tiles, three fewer for each meld, as for `tester hand`: 567m22456p67s
   chi=234m pon=555p kan=EEEE ankan=9999s     melds; ankan is a closed kan
   discards=TILES  the player's own discards, such as discards=N8s4m
   kinds=HEX       the discards as bytes instead, one kind a byte, to see one over 33 refused
   HEX             the hand's bytes instead, in one word or more
+  seat=N          whose hand it is, to see what each wait would score; with dealer=N wind=E|S indicator=TILE riichi double last
 
-Prints the kinds that the hand waits for, yaku or not, and whether it is in furiten, with the discards that are waits.
+Prints the kinds that the hand waits for, yaku or not, and whether it is in furiten, with the discards that are waits. Beside each
+wait stands how many of it neither the hand nor the discards show; with seat= also h, fu and gain by ron and by tsumo, or no yaku.
 
-For scripts: notation, bytes, discards (hexadecimal), refusal, why, waits, furiten (1 or 0), differences.
+For scripts: notation, bytes, discards (hexadecimal), refusal, why, waits, furiten (1 or 0), of each wait a line wait TILE; LEFT, and
+with seat= ; by ron; by tsumo behind it, differences.
 ";
 
 pub const READY: &str = "\
@@ -123,11 +127,16 @@ For scripts: suit, size, refusal, count, card with its tiles for each set, diffe
 ";
 
 pub const JUDGE: &str = "\
-tester judge HAND [claim=HEX] [dealer=N] [wind=E|S] [--plain]
+tester judge HAND [CLAIM] [dealer=N] [wind=E|S] [--plain]
 
 HAND as for `tester hand`. Judges a claim of a reading and the winner's gain: accepted, or the first of the four that is false.
+Without a claim that of the reported reading is made and judged.
 
-  claim=HEX  the claim's bytes (docs/RECORDS.md); if not given, the claim of the reported reading is made and judged
+  claim=regular pair=55s groups=123m,123m,789p,789p place=pair gain=5200
+             a reading by its pair and its groups in any order, melds left out; place= is what the winning tile completes:
+             pair, one of the groups, or its number from 1
+  claim=pairs gain=1600       seven pairs; claim=orphans gain=32000, thirteen orphans
+  claim=HEX  the claim's bytes instead (docs/RECORDS.md), to see a faulty one refused
 
 For scripts: the lines of `hand` up to why, claim, reading SHAPE PAIR GROUPS PLACE, gain, judged with its refusal and verdict,
 fault, differences.
@@ -154,9 +163,11 @@ of clips, clips, words of each part, differences.
 ";
 
 pub const LOG: &str = "\
-tester log FILE|-|HEX [to=FILE] [--bytes] [--plain]
+tester log FILE|-|HEX [as=text|hex|bytes] [to=FILE [over=yes]] [--plain]
 
-A text of entries gives the bytes of a log; the bytes of a log, or hexadecimal digits, give the text.
+A text of entries gives the bytes of a log; the bytes of a log, or hexadecimal digits, give the text. The first line says as what FILE
+was read. It is text if a line begins with one of the words below, or if it has no control signs but tabs and line ends; a text that
+has nothing but digits is hex; all else is bytes. Text has to be UTF-8. as= decides instead.
 
   riichi 1                                  seat 1 declares
   win 234567m345p67s22s+8s seat=1 ron=3     as for `tester hand`, or win HEX; dealer and wind are the game's
@@ -165,38 +176,47 @@ A text of entries gives the bytes of a log; the bytes of a log, or hexadecimal d
   multi 234567m345p67s22s+8s seat=1 ron=3 / HAND / HAND    a multiple ron: one to three rons on one tile, each as for a win
   pao holder=1 feeder=3 yaku=28             seat 3 is the feeder of seat 1's three dragon triplets; 29: four wind triplets
   correct draw 0 2                          the last result was this: win, draw, chombo or multi, as above
-  bytes 40 ff                               these bytes as they are
+  bytes 40 ff                               these bytes as they are; only the last lines may have bytes that are no entry
   # a comment
 
-  to=FILE    writes the bytes, or the text, into FILE
-  --bytes    FILE holds the bytes of a log, even if they look like text
+  as=text    FILE is text, as=hex hexadecimal digits, as=bytes (or --bytes) the bytes of a log, whatever they look like
+  to=FILE    writes the bytes, or the text, into a new FILE
+  over=yes   FILE may exist, and what it holds is lost
 
 For scripts: the hexadecimal digits in one line, or the text.
 ";
 
 pub const TALLY: &str = "\
-tester tally FILE|-|HEX [--words] [--say L] [--bytes] [--plain]
+tester tally FILE|-|HEX [as=text|hex|bytes] [--words] [--csv] [--say L] [--plain]
 
-The game of a log, text or bytes as for `tester log`: a line for each entry with the deal it was made in (E1 to S4),
+The game of a log, text, hex or bytes as for `tester log`: a line for each entry with the deal it was made in (E1 to S4),
 its refusal (0 accepted), the scores, sticks and counter after it, and the paos named (3 to 1 28: seat 3 is the feeder of
-seat 1's yaku 28), if there are any. The deal of a correction is that of the result which it supersedes. Bytes past 65,536 are not read.
+seat 1's yaku 28), if there are any. The deal of a correction is that of the result which it supersedes.
+A game is read from the first 65,536 bytes; of a longer log the tool says which entry the cut is in or after.
 
-  --words    why an entry was refused, which entry a correction supersedes, whose chombo a draw was, who pays a win
-             by pao, or who takes sticks and counters of a multiple ron, below it
+  --words    below an entry its changes by seat; dealer, wind, counters and sticks before it; who did what; of a win yaku, h, fu,
+             the gain by itself and with counters and sticks; then why it was refused, which entry a correction supersedes, whose
+             chombo a draw was, who pays a win by pao, or who takes sticks and counters of a multiple ron; at the end the standings
+  --csv      a sheet instead, for a spreadsheet: a row of heads, then a row an entry
   --say L    what the handset says of the scores after it, in words and as clips, below it; L as for `tester say`
-  --bytes    FILE holds the bytes of a log, even if they look like text
 
-For scripts: the lines of the program tally; with --words what it says at the end of a line, with --say clips in a line below it.
+For scripts: the lines of the program tally; with --words why it was refused and what follows that, at the end of a line; with --say
+clips in a line below it.
 ";
 
 pub const DAMAGE: &str = "\
-tester damage hand HAND [dealer=N] [wind=E|S] [random=N [seed=N]] [--plain]
-tester damage log FILE|-|HEX [--bytes] [random=N [seed=N]] [--plain]
+tester damage hand HAND [dealer=N] [wind=E|S] [random=N [seed=N]] [--show] [--plain]
+tester damage log FILE|-|HEX [as=text|hex|bytes] [random=N [seed=N]] [--show] [--plain]
 
 Tries every change of one bit, every cut, and every swap of two bytes; HAND as for `tester hand`, the log as for
-`tester log`. Counts the refusals by number, and shows what the two scorers do not answer alike.
+`tester tally`, up to 65,536 bytes. Counts the refusals by number, and shows what the two scorers do not answer alike.
 
   random=N   N random changes instead; seed=N for others than those of seed 1
+  --show     lists each accepted change: which bit (counted from 0 as in docs/RECORDS.md), cut or swap, of a random one the first
+             changed bytes, and what it became; of a log those that leave it without 14 and its first changed entry accepted
 
-For scripts: kind of change, number tried, and how often each of the refusals 0 to 21 was met.
+What takes long says on standard error how far it is, not with --plain.
+
+For scripts: kind of change, number tried, and how often each of the refusals 0 to 21 was met; with --show accepted, kind of change,
+bit, length, two bytes or number, and the bytes.
 ";

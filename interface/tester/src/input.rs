@@ -6,9 +6,10 @@ use std::path::Path;
 
 use other_scorer::codec::pack;
 use other_scorer::notation::hex::{from_hex, is_hex};
-use other_scorer::notation::parse;
+use other_scorer::notation::{doubtful, parse, tiles};
 
 use crate::both::Core;
+use crate::form::{self, Form};
 use crate::names::wind;
 use crate::text;
 use crate::words::{Bad, Words};
@@ -34,13 +35,46 @@ pub fn table(words: &mut Words) -> Result<(u8, u8), Bad> {
 pub fn bytes(words: &Words) -> Option<Result<Vec<u8>, Bad>> {
     let texts = words.texts();
     let all = !texts.is_empty() && texts.iter().all(|word| is_hex(word));
-    let left_over = || words.bad(texts.len() - 1, "two hexadecimal digits make a byte, one is left over");
-    all.then(|| from_hex(&texts.concat()).map_err(|_| left_over()))
+    let word = |(at, word): (usize, &&str)| {
+        let left_over = |_| words.bad(at, "two hexadecimal digits make a byte, one is left over");
+        from_hex(word).map_err(left_over)
+    };
+    all.then(|| texts.iter().enumerate().map(word).collect::<Result<Vec<_>, _>>().map(|parts| parts.concat()))
+}
+
+/// Refuses a word with a space in it, as a hand in quotation marks has.
+pub fn no_spaces(words: &Words, such: &str) -> Result<(), Bad> {
+    let at = words.texts().iter().position(|word| word.contains(char::is_whitespace));
+    at.map_or(Ok(()), |at| Err(words.bad(at, format!("leave the quotation marks out, and write the words as they are, such as {such}"))))
+}
+
+/// Refuses words beside hexadecimal digits that say what those say already.
+pub fn bytes_alone(words: &Words, why: &str) -> Result<(), Bad> {
+    let texts = words.texts();
+    let is_bytes = |word: &&&str| is_hex(word) && tiles(word).is_err();
+    let has_tiles = |word: &&str| !word.contains('=') && word.contains(|sign: char| sign.is_ascii_digit()) && !is_hex(word);
+    match (texts.first().filter(is_bytes), texts.iter().position(|word| !is_hex(word))) {
+        (Some(_), Some(at)) if !texts.iter().any(has_tiles) => Err(words.bad(at, why)),
+        _ => Ok(()),
+    }
+}
+
+/// Of words with tiles, what may be meant otherwise: a suit letter that may be missing.
+pub fn notes(words: &Words) -> Vec<String> {
+    let tiles_of = |word: &&str| word.split('+').next().filter(|tiles| !tiles.contains('=') && !is_hex(tiles)).map(String::from);
+    let said = |(stretch, first): (String, String)| {
+        let letter = stretch.chars().last().unwrap_or_default();
+        let number = stretch.chars().count() - 1;
+        format!("{stretch} is read as {number} tiles, all {letter}; if {first} is of another suit, its letter is missing after {first}")
+    };
+    words.texts().iter().filter_map(tiles_of).filter_map(|tiles| doubtful(&tiles)).map(said).collect()
 }
 
 /// The record of notation or of hexadecimal digits.
 pub fn record(core: &mut Core, words: &Words) -> Result<Vec<u8>, Bad> {
     words.no_options()?;
+    no_spaces(words, "234567m345p67s22s+8s seat=1 ron=3")?;
+    bytes_alone(words, "the record's bytes say this already, leave the word out (dealer= and wind= may stand beside them)")?;
     if let Some(bytes) = bytes(words) {
         return bytes;
     }
@@ -61,14 +95,25 @@ pub fn record(core: &mut Core, words: &Words) -> Result<Vec<u8>, Bad> {
     })
 }
 
-/// A log, and whether it was given as text.
+/// A log, whether it was given as text, and in words as what a file was read.
 pub struct Log {
     pub bytes: Vec<u8>,
     pub from_text: bool,
+    pub read: Option<String>,
 }
 
-/// The log of a file, of standard input (-), or of hexadecimal digits; `raw`: a file's bytes are the log's.
-pub fn log(core: &mut Core, words: &Words, raw: bool) -> Result<Log, Bad> {
+/// The form that as= names; --bytes is as=bytes.
+fn named_form(words: &mut Words) -> Result<Option<Form>, Bad> {
+    let raw = words.take_flag("--bytes");
+    match (words.take("as", Form::named)?, raw) {
+        (Some(form), true) if form != Form::Bytes => Err(Bad::new(format!("--bytes is as=bytes, and as={} says another thing", form.name()))),
+        (named, raw) => Ok(named.or(raw.then_some(Form::Bytes))),
+    }
+}
+
+/// The log of a file, of standard input (-), or of hexadecimal digits; as= says what a file holds, or its content does.
+pub fn log(core: &mut Core, mut words: Words) -> Result<Log, Bad> {
+    let named = named_form(&mut words)?;
     words.no_options()?;
     let texts = words.texts();
     let (name, content) = match texts[..] {
@@ -80,35 +125,38 @@ pub fn log(core: &mut Core, words: &Words, raw: bool) -> Result<Log, Bad> {
         }
         [file, _, ..] if Path::new(file).exists() => return Err(words.bad(1, "one file is enough")),
         [file] if Path::new(file).exists() => (file, fs::read(file).map_err(|error| words.bad(0, error))?),
-        _ => {
-            let wrong = "no file of this name, nor hexadecimal digits";
-            let odd = texts.iter().position(|word| !is_hex(word));
-            let bytes = bytes(words).unwrap_or_else(|| Err(words.bad(odd.unwrap_or(0), wrong)))?;
-            return Ok(Log { bytes, from_text: false });
-        }
+        _ => return Ok(Log { bytes: typed(&words, named)?, from_text: false, read: None }),
     };
-    Ok(match (raw, form(&content)) {
-        (false, Form::Text(content)) => Log { bytes: text::log(core, name, content)?, from_text: true },
-        (false, Form::Digits(bytes)) => Log { bytes, from_text: false },
-        _ => Log { bytes: content, from_text: false },
-    })
+    let form = named.unwrap_or_else(|| Form::of(&content));
+    let read = format!("{name}: read as {}", form.name()).replace(char::is_control, "?");
+    let bytes = match form {
+        Form::Text => text::log(core, name, form::utf8(name, &content)?)?,
+        Form::Hex => digits(name, form::utf8(name, &content)?)?,
+        Form::Bytes => content,
+    };
+    Ok(Log { bytes, from_text: form == Form::Text, read: Some(read) })
 }
 
-/// What a file holds: entries in words, a log in hexadecimal, or the log itself.
-enum Form<'a> {
-    Text(&'a str),
-    Digits(Vec<u8>),
-    Bytes,
-}
-
-/// Text holds no control signs but tabs and line ends; every log with a win has another, its header 10.
-fn form(content: &[u8]) -> Form<'_> {
-    let is_control = |sign: char| sign.is_control() && !"\t\r\n".contains(sign);
-    let Some(text) = std::str::from_utf8(content).ok().filter(|text| !text.contains(is_control)) else {
-        return Form::Bytes;
-    };
-    match from_hex(&text.split_whitespace().collect::<String>()) {
-        Ok(bytes) => Form::Digits(bytes),
-        Err(_) => Form::Text(text),
+/// The bytes of digits among the words of a command.
+fn typed(words: &Words, named: Option<Form>) -> Result<Vec<u8>, Bad> {
+    let other = words.texts().iter().position(|word| !is_hex(word));
+    match (named, bytes(words)) {
+        (None | Some(Form::Hex), Some(bytes)) => bytes,
+        (Some(form), Some(_)) => Err(words.bad(0, format!("no file of this name, and as={} is said of a file", form.name()))),
+        (_, None) => Err(words.bad(other.unwrap_or(0), "no file of this name, nor hexadecimal digits")),
     }
+}
+
+/// The bytes of a file of digits; # before a comment.
+fn digits(name: &str, text: &str) -> Result<Vec<u8>, Bad> {
+    let mut all = Vec::new();
+    for words in form::lines(name, text) {
+        let other = words.texts().iter().position(|word| !is_hex(word));
+        match (bytes(&words), other) {
+            (Some(bytes), _) => all.extend(bytes?),
+            (None, Some(at)) => return Err(words.bad(at, "no hexadecimal digits")),
+            (None, None) => {}
+        }
+    }
+    Ok(all)
 }

@@ -1,10 +1,11 @@
 //! `judge`: another scorer's claim for a hand, as the core judges it, in words.
 
 use other_scorer::claim::{pack, parse, Claim, FAULTS, FAULTY};
-use other_scorer::notation::hex::{from_hex, to_hex};
+use other_scorer::notation::hex::to_hex;
 
 use crate::answer::{columns, Answer};
 use crate::both::Core;
+use crate::claim;
 use crate::hand::in_words;
 use crate::names::{count, points};
 use crate::page::Page;
@@ -23,11 +24,12 @@ const VERDICTS: [&str; 5] = [
 /// The verdict on a claim, or why it is refused.
 pub fn run(core: &mut Core, mut words: Words) -> Result<String, Bad> {
     let plain = words.take_flag("--plain");
-    let typed = words.take("claim", |value| if value.is_empty() { Ok(Vec::new()) } else { from_hex(value) })?;
+    let typed = claim::take(&mut words)?;
     let answer = Answer::of(core, words)?;
+    let typed = typed.map(|claim| claim.bytes(answer.hand().map(|hand| hand.m))).transpose()?;
     let own = || answer.reported().map(|reported| Claim { reading: reported.reading.clone(), gain: reported.worth.gain });
     let Some(claim) = typed.or_else(|| own().map(|claim| pack(&claim))) else {
-        return Err(Bad::new("claim=HEX is needed: no reading of the hand is reported"));
+        return Err(Bad::new("no reading of the hand is reported, so claim= is needed: in words, such as claim=pairs gain=1600, or claim=HEX"));
     };
     let judged = core.judge(&answer.record, &claim, answer.dealer, answer.wind);
     let named = answer.sound().map(|hand| parse(&claim, hand.m));

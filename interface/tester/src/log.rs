@@ -1,11 +1,13 @@
 //! `log`: the bytes of a text of entries, or the text of a log's bytes.
 
-use std::fs;
+use std::fs::OpenOptions;
+use std::io::{ErrorKind, Write};
 
 use other_scorer::notation::hex::to_hex;
 
 use crate::both::Core;
 use crate::input;
+use crate::limit;
 use crate::names::count;
 use crate::page::{table, Page};
 use crate::refusals::{of_part, sentence};
@@ -15,26 +17,66 @@ use crate::words::{Bad, Words};
 
 /// The other form of a log, printed or written into the file of to=.
 pub fn run(core: &mut Core, mut words: Words) -> Result<String, Bad> {
-    let (plain, raw) = (words.take_flag("--plain"), words.take_flag("--bytes"));
-    let to = words.take("to", |file| match file {
-        "" => Err("the name of a file is missing".to_string()),
-        _ => Ok(file.to_string()),
-    })?;
-    let log = input::log(core, &words, raw)?;
+    let plain = words.take_flag("--plain");
+    let target = target(&mut words)?;
+    let log = input::log(core, words)?;
     let walk = whole(core, &log.bytes);
+    let said: Vec<String> = log.read.iter().cloned().chain(limit::said(core, &log.bytes)).collect();
     let made = match log.from_text {
         true => log.bytes.clone(),
         false => lines(&log.bytes, &walk).into_bytes(),
     };
-    if let Some(file) = to {
-        fs::write(&file, &made).map_err(|error| Bad::new(format!("{file}: {error}")))?;
-        return Ok(if plain { String::new() } else { format!("{file}: {}\n", count(made.len(), "byte")) });
+    if let Some(target) = target {
+        target.write(&made)?;
+        return Ok(if plain { String::new() } else { format!("{}{}: {}\n", remarks(&said, ""), target.file, count(made.len(), "byte")) });
     }
     Ok(match (log.from_text, plain) {
         (true, true) => to_hex(&log.bytes) + "\n",
-        (true, false) => listing(core, &log.bytes, &walk),
-        (false, _) => lines(&log.bytes, &walk),
+        (true, false) => remarks(&said, "") + &listing(core, &log.bytes, &walk),
+        (false, true) => lines(&log.bytes, &walk),
+        (false, false) => remarks(&said, "# ") + &lines(&log.bytes, &walk),
     })
+}
+
+/// The file of to=, and whether it may be written over.
+struct Target {
+    file: String,
+    over: bool,
+}
+
+/// What to= and over= say.
+fn target(words: &mut Words) -> Result<Option<Target>, Bad> {
+    let to = words.take("to", |file| match file {
+        "" => Err("the name of a file is missing".to_string()),
+        _ => Ok(file.to_string()),
+    })?;
+    let over = words.take("over", |word| match (word, &to) {
+        ("yes", Some(_)) => Ok(()),
+        (_, None) => Err("to=FILE, the file to write, is missing".to_string()),
+        _ => Err("yes is needed, or leave the word out".to_string()),
+    })?;
+    Ok(to.map(|file| Target { file, over: over.is_some() }))
+}
+
+impl Target {
+    /// Writes a new file; one that exists only where over=yes was said.
+    fn write(&self, content: &[u8]) -> Result<(), Bad> {
+        let mut options = OpenOptions::new();
+        match self.over {
+            true => options.write(true).create(true).truncate(true),
+            false => options.write(true).create_new(true),
+        };
+        let written = options.open(&self.file).and_then(|mut file| file.write_all(content));
+        written.map_err(|error| match error.kind() {
+            ErrorKind::AlreadyExists => Bad::new(format!("to={}: this file exists; take another name, or write over=yes to lose what it holds", self.file)),
+            _ => Bad::new(format!("{}: {error}", self.file)),
+        })
+    }
+}
+
+/// Lines that say as what a file was read, and that it is past the limit; a text has them behind a mark.
+fn remarks(said: &[String], mark: &str) -> String {
+    said.iter().map(|line| format!("{mark}{line}\n")).collect()
 }
 
 /// The text of a log: bytes that are no entry stand in hexadecimal, so that the text gives the log again.

@@ -4,6 +4,7 @@ use other_scorer::notation::{text, unfinished};
 use other_scorer::unfinished::{pack, unpack, Unfinished};
 
 use crate::both::Core;
+use crate::input;
 use crate::names::count;
 use crate::page::Page;
 use crate::waits::{bytes, fields, kinds, Asked};
@@ -21,7 +22,7 @@ pub fn run(core: &mut Core, mut words: Words) -> Result<String, Bad> {
     let plain = words.take_flag("--plain");
     let bytes = bytes(&words)?;
     let answer = core.ready(&bytes);
-    let asked = Asked { bytes: &bytes, discards: None, refusal: answer.refusal };
+    let asked = Asked { bytes: &bytes, discards: None, refusal: answer.refusal, notes: input::notes(&words) };
     let hand = unpack(&bytes).ok().map(|(hand, _)| hand);
     let near = hand.filter(|_| answer.refusal == 0).map(|hand| Unfinished { concealed: answer.hand, ..hand });
     let waits = near.map_or(Vec::new(), |near| core.waits(&pack(&near), &[]).waits.list());

@@ -4,6 +4,7 @@ use archive::{Said, MESSAGE_MAX};
 
 use crate::answer::Answer;
 use crate::both::Core;
+use crate::input;
 use crate::names::count;
 use crate::page::{table, Page};
 use crate::refusals::{refusal, sentence};
@@ -81,7 +82,7 @@ fn of_waits(core: &mut Core, page: &mut Page, wish: &Wish, mut words: Words) -> 
     let discards = discards(&mut words)?;
     let bytes = bytes(&words)?;
     let refusal = core.waits(&bytes, &discards).refusal;
-    let asked = Asked { bytes: &bytes, discards: Some(&discards), refusal };
+    let asked = Asked { bytes: &bytes, discards: Some(&discards), refusal, notes: input::notes(&words) };
     if wish.plain { asked.plain_head(page) } else { asked.head(page) }
     Ok(core.say_waits(wish.language, &bytes, &discards, wish.buffer))
 }
@@ -90,7 +91,7 @@ fn of_waits(core: &mut Core, page: &mut Page, wish: &Wish, mut words: Words) -> 
 fn of_ready(core: &mut Core, page: &mut Page, wish: &Wish, words: Words) -> Result<(Said, Vec<u8>), Bad> {
     let bytes = bytes(&words)?;
     let refusal = core.ready(&bytes).refusal;
-    let asked = Asked { bytes: &bytes, discards: None, refusal };
+    let asked = Asked { bytes: &bytes, discards: None, refusal, notes: input::notes(&words) };
     if wish.plain { asked.plain_head(page) } else { asked.head(page) }
     Ok(core.say_ready(wish.language, &bytes, wish.buffer))
 }

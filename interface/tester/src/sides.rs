@@ -78,6 +78,7 @@ impl Sides {
             }
         }
         table(&lines, &[]).iter().for_each(|line| page.line(line));
+        self.first.notes(&mut page);
         page.line("");
         page.line(promise);
         page.line(core.verdict());

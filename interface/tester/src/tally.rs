@@ -1,13 +1,15 @@
 //! `tally`: a log's entries one after the other, and the game after each.
 
 use archive::MESSAGE_MAX;
-use other_scorer::log::LONGEST;
 use other_scorer::{Entry, Position};
 
 use crate::both::Core;
+use crate::csv;
 use crate::input;
+use crate::limit;
 use crate::log::entries;
 use crate::names::{count, points, wind};
+use crate::outcome::{made_in, standings, Outcome};
 use crate::page::{table, Page};
 use crate::refusals::{of_draw, of_entry, of_part, of_wins, sentence};
 use crate::say::numbers;
@@ -16,17 +18,30 @@ use crate::text;
 use crate::walk::{whole, Step, Walk};
 use crate::words::{Bad, Words};
 
-/// The game of a log, entry by entry; with --words also why an entry is refused, what a correction supersedes, that a draw was a
-/// chombo, who pays a win by pao, or who takes sticks and counters of a multiple ron; with --say what the handset says of the scores.
+/// The game of a log, entry by entry; with --words who did what, what it came to and why an entry is refused, below it; with --say what
+/// the handset says of the scores; with --csv a sheet instead.
 pub fn run(core: &mut Core, mut words: Words) -> Result<String, Bad> {
-    let (plain, raw, why) = (words.take_flag("--plain"), words.take_flag("--bytes"), words.take_flag("--words"));
+    let (plain, why) = (words.take_flag("--plain"), words.take_flag("--words"));
+    let sheet = words.take_flag("--csv");
     let language = language(&mut words)?;
-    let log = input::log(core, &words, raw)?.bytes;
-    let log = &log[..log.len().min(LONGEST)];
+    if sheet && language.is_some() {
+        return Err(Bad::new("--csv and --say: a sheet has no place for what is said, leave one of them out"));
+    }
+    let given = input::log(core, words)?;
+    let (log, cut) = (limit::read(&given.bytes), limit::said(core, &given.bytes));
     let walk = whole(core, log);
     let (lines, said) = (core.lines(log), said(core, &walk, language));
+    let stopped = walk.stopped.map(|at| format!("stopped at byte {at}, {:02x}: {}", log[at], sentence(14, &of_part(&log[at..]))));
+    if sheet {
+        cut.iter().for_each(|cut| eprintln!("tester: {cut}"));
+        let deals: Vec<String> = walk.steps.iter().map(|step| deal(&made_in(step))).collect();
+        return Ok(csv::sheet(&outcomes(core, &walk), &deals, &remarks(&walk), stopped));
+    }
     let remarks = if why { remarks(&walk) } else { vec![None; walk.steps.len()] };
     let mut page = Page::default();
+    if plain {
+        cut.iter().for_each(|cut| eprintln!("tester: {cut}"));
+    }
     if plain && !why && language.is_none() {
         return Ok(lines);
     }
@@ -37,32 +52,39 @@ pub fn run(core: &mut Core, mut words: Words) -> Result<String, Bad> {
         }
         return Ok(page.finish());
     }
-    let rows = listing(&walk);
-    page.line(&rows[0]);
-    for ((remark, row), (clips, words)) in remarks.into_iter().zip(&rows[1..]).zip(said) {
-        page.line(row);
-        remark.into_iter().chain(words).chain(clips).for_each(|text| page.line(format!("      {text}")));
+    given.read.iter().for_each(|read| page.line(read));
+    let outcomes = if why { outcomes(core, &walk) } else { Vec::new() };
+    let mut rows = listing(&walk, &outcomes).into_iter();
+    rows.by_ref().take(1).for_each(|heads| page.line(heads));
+    for (at, (remark, (clips, words))) in remarks.into_iter().zip(said).enumerate() {
+        let own = outcomes.get(at).map_or(1, |outcome| 1 + changes(outcome).is_some() as usize);
+        rows.by_ref().take(own).for_each(|row| page.line(row));
+        let told = outcomes.get(at).map_or(Vec::new(), Outcome::lines);
+        told.into_iter().chain(remark).chain(words).chain(clips).for_each(|text| page.line(format!("      {text}")));
     }
     page.line("");
-    if let Some(at) = walk.stopped {
-        page.line(format!("stopped at byte {at}, {:02x}: {}", log[at], sentence(14, &of_part(&log[at..]))));
-    }
+    stopped.into_iter().chain(cut).for_each(|line| page.line(line));
     let position = walk.steps.last().map_or(Position::fresh(), |step| *step.after.other.now());
     let refused = walk.steps.iter().filter(|step| step.refusal != 0).count();
     let state = if position.over { "the game is over".to_string() } else { format!("{} is on", deal(&position)) };
     let hands = count(position.hands as usize, "hand");
     page.line(format!("{}, {refused} refused; {hands} finished; {state}", entries(&walk)));
+    if why {
+        page.line(standings(&position));
+    }
     page.line(core.verdict());
     Ok(page.finish())
 }
 
-/// The position that a step's entry is booked in: a correction's is the earlier one, if there is one (02, S-10).
-fn made_in(step: &Step) -> Position {
-    let game = &step.before.other;
-    match (&step.entry, game.earlier()) {
-        (Entry::Correction(_), Some(earlier)) => earlier,
-        _ => *game.now(),
-    }
+/// What each entry came to.
+fn outcomes<'a>(core: &mut Core, walk: &'a Walk) -> Vec<Outcome<'a>> {
+    walk.steps.iter().map(|step| Outcome::of(core, step)).collect()
+}
+
+/// The cells of an accepted entry's changes, for a line below its scores.
+fn changes(outcome: &Outcome) -> Option<Vec<String>> {
+    let label = ["", "", "changes"].map(String::from);
+    (outcome.step.refusal == 0).then(|| [&label[..], &outcome.cells()].concat())
 }
 
 /// Of each step: why it was refused; or which entry a correction supersedes, the last accepted one, what an accepted draw was besides
@@ -126,21 +148,23 @@ fn paos(position: &Position) -> String {
     each.collect::<Vec<_>>().join(", ")
 }
 
-/// A line for each entry, after a line of heads; a column for the paos where one is named.
-fn listing(walk: &Walk) -> Vec<String> {
+/// A line for each entry, after a line of heads; a column for the paos where one is named; below an entry the changes of its outcome, if
+/// outcomes are given.
+fn listing(walk: &Walk, outcomes: &[Outcome]) -> Vec<String> {
     let pao = walk.steps.iter().any(|step| step.after.archive.now.feeders != [0; 8]);
     let mut heads = vec!["entry", "deal", "refusal", "seat 0", "seat 1", "seat 2", "seat 3", "sticks", "counter"];
     heads.extend(pao.then_some("pao"));
     heads.push("text");
     let mut rows = vec![heads.into_iter().map(String::from).collect()];
-    for (n, step) in (1..).zip(&walk.steps) {
+    for (at, step) in walk.steps.iter().enumerate() {
         let position = &step.after.archive.now;
-        let mut row = vec![n.to_string(), deal(&made_in(step)), step.refusal.to_string()];
+        let mut row = vec![(at + 1).to_string(), deal(&made_in(step)), step.refusal.to_string()];
         row.extend(position.scores.map(|score| points(score as i64)));
         row.extend([position.sticks.to_string(), position.counter.to_string()]);
         row.extend(pao.then(|| paos(step.after.other.now())));
         row.push(text::line(&step.entry));
         rows.push(row);
+        rows.extend(outcomes.get(at).and_then(changes));
     }
     table(&rows, &[0, 1, 2, 3, 4, 5, 6, 7, 8])
 }

@@ -7,20 +7,59 @@ use other_scorer::position::is_ready;
 use other_scorer::{multi_ron, Entry};
 
 use crate::both::Core;
+use crate::form;
 use crate::input;
+use crate::names::count;
+use crate::refusals::{of_part, sentence};
 use crate::words::{Bad, Words};
 
 /// What is said to the word of older texts.
 const MULTI: &str = "the word is multi: multi HAND / HAND";
 
-/// The bytes of a log's text; `name` is the file's, for messages.
+/// The words that a line begins with, and two of older texts.
+pub const WORDS: [&str; 10] = ["riichi", "win", "draw", "chombo", "multi", "pao", "correct", "bytes", "many", "feed"];
+
+/// The bytes of a log's text; `name` is the file's, for messages. A line in words is one entry; `bytes` may end it with bytes that are none.
 pub fn log(core: &mut Core, name: &str, text: &str) -> Result<Vec<u8>, Bad> {
-    let mut bytes = Vec::new();
-    // Some editors put a mark at the start of a text.
-    for (number, line) in (1..).zip(text.trim_start_matches('\u{feff}').lines()) {
-        bytes.extend(entry(core, Words::of_line(format!("{name}, line {number}"), line))?);
+    let (mut bytes, mut typed) = (Vec::new(), Vec::new());
+    for words in form::lines(name, text) {
+        let is_bytes = words.texts().first().is_some_and(|word| word.eq_ignore_ascii_case("bytes"));
+        let line = words.clone();
+        let part = entry(core, words)?;
+        if is_bytes {
+            typed.extend(part);
+        } else if !part.is_empty() {
+            if let Some(fault) = fault(core, &typed) {
+                return Err(line.bad(0, format!("the bytes before this line are no whole entries: {fault}")));
+            }
+            if let Some(fault) = fault(core, &part).or_else(|| left_over(core, &part)) {
+                return Err(line.bad(1, format!("{fault}; a line that begins with bytes may have such bytes")));
+            }
+            bytes.append(&mut typed);
+            bytes.extend(part);
+        }
     }
+    bytes.append(&mut typed);
     Ok(bytes)
+}
+
+/// Why bytes are no whole entries.
+fn fault(core: &mut Core, bytes: &[u8]) -> Option<String> {
+    let mut at = 0;
+    loop {
+        let next = core.log_next(bytes, at);
+        match (next.end, next.refusal) {
+            (0, 0) => at += next.length,
+            (_, 0) => return None,
+            _ => return Some(sentence(14, &of_part(&bytes[at..]))),
+        }
+    }
+}
+
+/// That a line's bytes, which are whole entries, are more than one.
+fn left_over(core: &mut Core, bytes: &[u8]) -> Option<String> {
+    let length = core.log_next(bytes, 0).length;
+    (length < bytes.len()).then(|| format!("the entry has {}, and the line {}", count(length, "byte"), bytes.len()))
 }
 
 /// The bytes of a line; none for an empty one.
@@ -32,7 +71,7 @@ fn entry(core: &mut Core, mut words: Words) -> Result<Vec<u8>, Bad> {
         Some("many") => return Err(words.bad(0, MULTI)),
         Some("feed") => return Err(words.bad(0, "the word is pao: pao holder=1 feeder=3 yaku=28")),
         Some(_) => {
-            let why = "a line begins with riichi, win, draw, chombo, multi, pao, correct or bytes (--bytes if the file is no text)";
+            let why = "a line begins with riichi, win, draw, chombo, multi, pao, correct or bytes (as=bytes if the file is no text)";
             return Err(words.bad(0, why));
         }
     };
@@ -148,7 +187,7 @@ pub fn line(entry: &Entry) -> String {
 }
 
 /// A record in notation if that gives this very record, else in hexadecimal.
-fn hand(record: &[u8]) -> String {
+pub fn hand(record: &[u8]) -> String {
     let notation = unpack(record).ok().filter(|(_, padding)| !padding).and_then(|(hand, _)| print(&hand));
     notation.unwrap_or_else(|| to_hex(record))
 }

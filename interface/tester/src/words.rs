@@ -22,6 +22,7 @@ impl fmt::Display for Bad {
 }
 
 /// Words still to be understood, each with its place from 1.
+#[derive(Clone)]
 pub struct Words {
     source: String,
     list: Vec<(usize, String)>,

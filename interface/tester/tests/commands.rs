@@ -7,6 +7,7 @@ use std::path::Path;
 
 use other_scorer::example::{example, End};
 use other_scorer::log::tally_lines;
+use other_scorer::notation::hex::from_hex;
 use run::{answer, folder, root, run_in};
 
 const LINE_1: &str = "b81e640210620a31661a9a6bb0";
@@ -52,6 +53,35 @@ fn a_hand_for_reading() {
 }
 
 #[test]
+fn a_hand_in_other_signs() {
+    let plain = answer("hand 2345m+2m pon=EEE chi=123p ankan=CCCC seat=1 ron=3 indicator=1z");
+    for typed in [
+        "２３４５ｍ＋２ｍ pon=eee chi=123p ankan=cccc seat=S ron=n indicator=e",
+        "🀈🀉🀊🀋+🀈 pon=東東東 chi=🀙🀚🀛 ankan=中中中中 seat=s ron=N indicator=東",
+        "2345m+2m pon=1z1z1z chi=123p ankan=7777z seat=南 ron=北 indicator=🀀",
+    ] {
+        assert_eq!(answer(&format!("hand {typed}")), plain, "{typed}");
+    }
+    assert!(plain.contains("\nanswer     accepted\n"), "{plain}");
+    assert_eq!(answer("waits eesswwnnppffc discards=c"), answer("waits EESSWWNNPPFFC discards=中"));
+}
+
+#[test]
+fn a_suit_letter_that_may_be_missing() {
+    let note = "\nnote       234567345p is read as 9 tiles, all p; if 234567 is of another suit, its letter is missing after 234567\n";
+    let hand = "234567345p67s22s+8s seat=1 ron=3";
+    for line in [format!("hand {hand}"), format!("readings {hand}"), format!("rotate {hand} by=1"), format!("say {hand} language=en")] {
+        assert!(answer(&line).contains(note), "{line}");
+    }
+    for line in ["waits 234567345p67s22s".to_string(), "ready 234567345p67s22s".into(), "say ready 234567345p67s22s language=en".into()] {
+        assert!(answer(&line).contains(note), "{line}");
+    }
+    for line in ["hand 234567m345p67s22s+8s seat=1 ron=3", "hand 765432m345p67s22s+8s seat=1 ron=3", "waits 1112345678999m"] {
+        assert!(!answer(line).contains("note "), "{line}");
+    }
+}
+
+#[test]
 fn slips() {
     let text = "\
 HAN                    2
@@ -92,6 +122,10 @@ answer     accepted
 waits      58s
 furiten    yes, by 8s
 
+wait  left
+5s       4
+8s       2
+
 both scorers agree
 ";
         assert_eq!(out, wanted);
@@ -108,8 +142,17 @@ both scorers agree
         ("a0", "discards\nrefusal 1\nwhy m over 4\nwaits\nfuriten 0\n"),
     ] {
         let out = answer(&format!("waits {typed} --plain"));
-        assert!(out.ends_with(&format!("{lines}differences 0\n")), "{out}");
+        let of_waits = |line: &&str| !line.starts_with("wait ");
+        let rest: String = out.lines().filter(of_waits).map(|line| format!("{line}\n")).collect();
+        assert!(rest.ends_with(&format!("{lines}differences 0\n")), "{out}");
     }
+    // What Score gives the finished records of document 01's table.
+    let out = answer("waits 234567m345p67s22s seat=1 --plain");
+    assert!(out.contains("\nwait 5s; 4; h 2, fu 30, 2,000; h 3, fu 20, 2,700\nwait 8s; 4; h 2, fu 30, 2,000; h 3, fu 20, 2,700\n"), "{out}");
+    let out = answer("waits 456p78s234s99p chi=123m seat=S discards=9s9s");
+    assert!(out.contains("\nwait  left  by ron   by tsumo\n6s       4  no yaku  no yaku\n9s       2  no yaku  no yaku\n"), "{out}");
+    let out = answer("waits 111m333p555s77s99s seat=1");
+    assert!(out.contains("\n7s       2  h 4, fu 50, 8,000  yakuman, 32,000\n"), "{out}");
 }
 
 #[test]
@@ -171,6 +214,26 @@ fn claims() {
         let out = answer(&format!("judge {hand} claim={claim} --plain"));
         assert!(out.contains(&format!("\nclaim {claim}").trim_end().to_string()), "{out}");
         assert!(out.contains(&format!("\njudged {judged}\n")) && out.ends_with("differences 0\n"), "{out}");
+    }
+    for (hand, words, claim) in [
+        (five, "regular pair=55s groups=123m,123m,789p,789p place=pair gain=5200", "16000078f01450"),
+        (five, "REGULAR pair=55s groups=789p,321m,789p,123m, place=0 gain=5,200", "16000078f01450"),
+        (five, "pairs gain=1600", "40c800"),
+        (seven, "Orphans gain=32000", "8fa000"),
+        (seven, "regular pair=99p groups=456p,234s,789s place=789s gain=1000", "11184cc301f400"),
+        (seven, "regular pair=99p groups=789s,456p,234s place=1 gain=1000", "11184cc301f400"),
+    ] {
+        let in_words = answer(&format!("judge {hand} claim={words}"));
+        assert_eq!(in_words, answer(&format!("judge {hand} claim={claim}")), "{words}");
+        assert!(in_words.contains(&format!("\nclaim      {claim}, ")), "{in_words}");
+    }
+    // A place of no group is the core's to refuse; so many equal tiles in groups are no fault of the claim.
+    for (words, judged) in [
+        ("regular pair=55s groups=123m,123m,789p,789p place=5 gain=5200", "refusal 22, the claim is faulty: a place over 4 - m"),
+        ("regular pair=55s groups=555s,555s,555s,EEE place=EEE gain=0", "1, its reading is not one of those tiles"),
+    ] {
+        let out = answer(&format!("judge {five} claim={words}"));
+        assert!(out.contains(&format!("\njudged     {judged}\n")), "{out}");
     }
     let own = answer(&format!("judge {five} --plain"));
     assert!(own.contains("\nclaim 16000078f01450\nreading regular 55s 123m,123m,789p,789p 0\ngain 5200\njudged 0 0\n"), "{own}");
@@ -433,6 +496,55 @@ fn the_worked_logs() {
 }
 
 #[test]
+fn entries_in_words() {
+    let text = "draw 0 1 2 3\nriichi 3\nwin 234567m345p67s22s+8s seat=3 tsumo riichi\nwin b822640210620a31661a9a6bb0\nriichi 9\n\
+        multi 234567m345p67s22s+8s seat=0 ron=1 / 111m333p555s77s99s+8s seat=2 ron=1\n\
+        draw\npao holder=1 feeder=0 yaku=29\n";
+    let ran = run_in(Path::new("."), "tally - --words", text.as_bytes());
+    for row in [
+        "text\n    1    E1        0  30,000  30,000  30,000  30,000       0        1             draw 0 1 2 3\n             changes       0       0       0       0\n",
+        "\n      dealer seat 0, wind E, 0 counters, 0 sticks: a draw, everybody is ready\n",
+        "\n      dealer seat 0, wind E, 1 counter, 0 sticks: seat 3 (N) declares riichi\n",
+        "\n             changes  -2,700  -1,400  -1,400  +6,500\n",
+        "\n      dealer seat 0, wind E, 1 counter, 1 stick: seat 3 (N) wins by tsumo\n",
+        "\n      1 tsumo, 2 all simples, 4 pinfu, 10 riichi; h 4, fu 20; gain 5,200, with 1 counter and 1 stick 6,500\n",
+        "\n      dealer seat 1, wind E, 0 counters, 0 sticks: a win whose record is not read\n      refusal 2, ",
+        "\n      dealer seat 1, wind E, 0 counters, 0 sticks: seat 9 declares riichi\n      refusal 8, ",
+        "\n      dealer seat 1, wind E, 0 counters, 0 sticks: a draw, nobody is ready\n",
+        "seat 0 (N) wins by ron from seat 1 (E), seat 2 (S) wins by ron from seat 1 (E)\n      refusal ",
+        "0 sticks: seat 0 (W) is named as feeder of seat 1 (N), yaku 29 three wind triplets and pair, or four\n",
+        "\nstandings: 1 seat 3 with 35,500; 2 seat 1, seat 2 with 28,600; 4 seat 0 with 27,300; 0 sticks on the table\nboth scorers agree\n",
+    ] {
+        assert!(ran.out.contains(row), "{row} in\n{}", ran.out);
+    }
+}
+
+#[test]
+fn an_evening_as_a_sheet() {
+    let log = format!("2f 42 {LINE_1} {} 04 50 70 10 b01684021068a2fbefc10410c2 40", LINE_1.replacen("b8", "d8", 1));
+    let sheet = answer(&format!("tally {log} --csv"));
+    let rows: Vec<&str> = sheet.lines().collect();
+    let wanted = [
+        "entry,deal,wind,dealer,kind,seats,how,from,refusal,change 0,change 1,change 2,change 3,score 0,score 1,score 2,score 3,sticks before,counter before,\
+            sticks,counter,yaku,h,fu,gain,hands,text,remark",
+        "1,E1,E,0,draw,0 1 2 3,,,0,0,0,0,0,30000,30000,30000,30000,0,0,0,1,,,,,1,draw 0 1 2 3,",
+        "2,E1,E,0,multi,1 and 2,ron,3,0,0,2300,2000,-4300,30000,32300,32000,25700,0,1,0,0,2 4 and 2 4,2 and 2,30 and 30,2000 and 2000,2,\
+            multi 234567m345p2267s+8s seat=1 ron=3 indicator=N / 234567m345p2267s+8s seat=2 ron=3 indicator=N,sticks and counters are seat 1's",
+        "3,E2,E,1,riichi,4,,,8,0,0,0,0,30000,32300,32000,25700,0,0,0,0,,,,,2,riichi 4,\"refusal 8, an argument is out of range: seat 4 over 3\"",
+        "4,E2,E,1,pao,1,,3,0,0,0,0,0,30000,32300,32000,25700,0,0,0,0,,,,,2,pao holder=1 feeder=3 yaku=28,",
+    ];
+    assert_eq!(rows[..5], wanted);
+    assert!(rows[5].starts_with("5,E2,E,1,win,1,ron,2,0,0,48000,-24000,-24000,30000,80300,8000,1700,0,0,0,1,28,0,0,48000,3,win 234m"), "{sheet}");
+    assert!(rows[6].starts_with(",,,,stopped,,,,14,") && rows.len() == 7, "{sheet}");
+    for row in &rows {
+        let quoted = row.split('"').step_by(2).map(|part| part.matches(',').count());
+        assert_eq!(quoted.sum::<usize>(), rows[0].matches(',').count(), "{row}");
+    }
+    let ran = run_in(Path::new("."), "tally 01 --csv --say en", &[]);
+    assert_eq!((ran.status, ran.err.as_str()), (2, "tester: --csv and --say: a sheet has no place for what is said, leave one of them out\n"));
+}
+
+#[test]
 fn refusals_of_entries_say_which_condition_was_met() {
     let text = "riichi 1\nriichi 1\nwin 234567m345p67s22s+8s seat=1 ron=3\n\
         WIN 234567m345p67s22s+8s seat=2 ron=3 double # no riichi of seat 2\nwin b822640210620a31661a9a6bb0\nchombo 9\n";
@@ -595,7 +707,9 @@ fn results_put_right() {
         riichi 9\ncorrect draw\ncorrect multi 234567m345p67s22s+8s seat=1 ron=3 / 234567m345p67s22s+8s seat=0 ron=3\npao holder=1 feeder=3 yaku=28\ncorrect draw 1\n";
     let ran = run_in(Path::new("."), "tally - --words", text.as_bytes());
     for row in [
-        "    4    E1        0  32,000  28,000  31,000  28,000       1        2             draw 2\n    5    E1        0  16,700  62,300  28,000  13,000       0        0             correct win",
+        "    4    E1        0   32,000   28,000  31,000   28,000       1        2             draw 2\n",
+        "    5    E1        0   16,700   62,300  28,000   13,000       0        0             correct win",
+        "\n             changes  -16,300  +33,300       0  -16,000\n",
         "\n      supersedes entry 4; pao: seat 3, the feeder of seat 1's yaku 28, pays half, seat 0 the other half and the counters\n",
         "\n      supersedes entry 5; a chombo, declared and not ready: seat 2\n",
         "\n      supersedes entry 7; sticks and counters are seat 0's\n",
@@ -641,9 +755,9 @@ fn logs_to_text_and_back() {
     let logs = (0..6).map(|seed| example(seed, if seed % 2 == 0 { End::Deal } else { End::Hands }));
     for log in logs.chain([league, vec![], vec![0x10, 1, 2], vec![0x21, 0x30], b"AB".to_vec()]) {
         fs::write(here.join("a.log"), &log).expect("a file");
-        let made = run_in(&here, "log a.log --bytes to=a.txt", &[]);
+        let made = run_in(&here, "log a.log as=bytes to=a.txt over=yes", &[]);
         assert_eq!((made.status, made.err.as_str()), (0, ""));
-        assert_eq!(run_in(&here, "log a.txt to=b.log --plain", &[]).out, "");
+        assert_eq!(run_in(&here, "log a.txt to=b.log over=yes --plain", &[]).out, "");
         assert_eq!(fs::read(here.join("b.log")).expect("a file"), log);
         for line in ["tally a.txt --plain", "tally a.log --bytes --plain"] {
             assert_eq!(run_in(&here, line, &[]).out, tally_lines(&log), "{line}");
@@ -651,6 +765,76 @@ fn logs_to_text_and_back() {
         let hex = run_in(&here, "log a.txt --plain", &[]).out;
         assert_eq!(run_in(&here, "tally - --plain", hex.as_bytes()).out, tally_lines(&log));
     }
+}
+
+#[test]
+fn a_log_past_the_limit_says_where_the_cut_is() {
+    let win = [vec![0x10], from_hex(LINE_1).expect("digits")].concat();
+    let reads = |n: &str, cut: &str| format!("the log has {n} bytes, and a game is read from the first 65,536: the cut is {cut}\n");
+    for (log, said, last) in [
+        (win.repeat(5000), reads("70,000", "in entry 4682, which begins at byte 65534"), "4681 entries, "),
+        (vec![1; 65_537], reads("65,537", "after entry 65536"), "65536 entries, "),
+        ([&[1; 9][..], &[0xff; 65_530]].concat(), reads("65,539", "past byte 9, where 14 ends the log"), "9 entries, "),
+    ] {
+        let run = |words: &str| run_in(Path::new("."), words, &log);
+        let out = run("tally - as=bytes").out;
+        assert!(out.contains(&format!("\n{said}{last}")), "{said}");
+        assert!(run("log - as=bytes").out.starts_with(&format!("# standard input: read as bytes\n# {said}")), "{said}");
+        let out = run("damage log - as=bytes random=1").out;
+        assert!(out.starts_with(&format!("standard input: read as bytes\n{said}log of 65536 bytes, {last}")), "{out}");
+        for words in ["tally - as=bytes --plain", "damage log - as=bytes random=1 --plain"] {
+            assert_eq!(run(words).err, format!("tester: {said}"), "{words}");
+        }
+    }
+    let whole = run_in(Path::new("."), "tally - as=bytes --plain", &[1; 65_536]);
+    assert_eq!((whole.err.as_str(), whole.out.lines().count()), ("", 65_536));
+}
+
+#[test]
+fn a_file_that_exists_is_written_over_only_when_told_so() {
+    let here = folder("over");
+    let holds = |name: &str| fs::read(here.join(name)).expect("a file");
+    fs::write(here.join("evening.txt"), "riichi 1\n").expect("a file");
+    let _ = fs::remove_file(here.join("new.log"));
+    for file in ["evening.txt", "./evening.txt", "../over/evening.txt"] {
+        let ran = run_in(&here, &format!("log evening.txt to={file}"), &[]);
+        let why = format!("tester: to={file}: this file exists; take another name, or write over=yes to lose what it holds\n");
+        assert_eq!((ran.status, ran.out, ran.err, holds("evening.txt")), (2, String::new(), why, b"riichi 1\n".to_vec()));
+    }
+    for (word, made) in [("", 0), ("", 2), ("over=yes", 0)] {
+        assert_eq!(run_in(&here, &format!("log evening.txt to=new.log {word}"), &[]).status, made);
+        assert_eq!(holds("new.log"), [1]);
+    }
+    let ran = run_in(&here, "log evening.txt to=evening.txt over=yes", &[]);
+    assert_eq!((ran.status, ran.out.as_str()), (0, "evening.txt: read as text\nevening.txt: 1 byte\n"));
+    assert_eq!(holds("evening.txt"), [1]);
+}
+
+#[test]
+fn a_file_is_read_as_text_hex_or_bytes_and_the_tool_says_so() {
+    let here = Path::new(".");
+    let chombos = "1 C 0 21000 33000 33000 33000 0\n2 C 0 24000 24000 36000 36000 0\n";
+    for (word, input, form, entry) in [
+        ("", &b"riichi 1\n"[..], "text", "riichi 1"),
+        ("as=text", b"riichi 1\n", "text", "riichi 1"),
+        ("", b"01\n", "hex", "riichi 1"),
+        ("", b"# digits\n01 # one entry\n", "hex", "riichi 1"),
+        ("as=hex", b"01\n", "hex", "riichi 1"),
+        ("", b"\x01", "bytes", "riichi 1"),
+        ("as=bytes", b"\x01", "bytes", "riichi 1"),
+        ("--bytes", b"\x2c", "bytes", "draw 0 1"),
+        ("", b"bytes 40\n", "text", "bytes 40  # refusal 14, the log's entry is bad or cut: no records or over three"),
+    ] {
+        let said = format!("standard input: read as {form}\n");
+        for command in ["tally", "log", "damage log"] {
+            let ran = run_in(here, &format!("{command} - {word}"), input);
+            assert!(ran.status == 0 && ran.out.trim_start_matches("# ").starts_with(&said), "{command}: {ran:?}");
+            assert!(!run_in(here, &format!("{command} - {word} --plain"), input).out.contains("read as"), "{command}");
+        }
+        let text = run_in(here, &format!("log - {word}"), input).out;
+        assert!(form == "text" || text == format!("# {said}{entry}\n"), "{text}");
+    }
+    assert_eq!(run_in(here, "tally - as=bytes --plain", b"01").out, chombos);
 }
 
 #[test]
@@ -665,6 +849,38 @@ fn damage_counts_refusals() {
     assert_ne!(answer(&format!("damage hand {LINE_1} random=3000 --plain")), some);
     let log = answer(&format!("damage log 01 02 10 {LINE_1} 24 31"));
     assert!(log.contains("14 ends a walk") && log.ends_with("both scorers agree\n"), "{log}");
+}
+
+#[test]
+fn damage_shows_what_was_accepted() {
+    let out = answer(&format!("damage hand {LINE_1} --show"));
+    let (_, shown) = out.split_once("\n\n10 changes accepted\n").expect("a list");
+    assert_eq!(shown.lines().filter(|line| line.starts_with("bit changed  bit ")).count(), 10, "{out}");
+    assert!(shown.starts_with("bit changed  bit 2, byte 0 b8 to 98   234567m345p2267s+8s seat=0 ron=3 indicator=N\n"), "{out}");
+    assert!(!answer(&format!("damage hand {LINE_1}")).contains("changes accepted"));
+    let plain = answer(&format!("damage hand {LINE_1} --show --plain"));
+    let copies: Vec<&str> = plain.lines().filter_map(|line| line.strip_prefix("accepted bit-changed ")).collect();
+    assert_eq!((copies.len(), copies[0]), (10, "2 981e640210620a31661a9a6bb0"));
+    for copy in copies {
+        let record = copy.split(' ').nth(1).expect("a record");
+        assert!(answer(&format!("hand {record} --plain")).contains("\nrefusal 0\n"), "{record}");
+    }
+    let log = answer("damage log 01 24 31 --show");
+    for line in [
+        "16 changes accepted",
+        "bit changed    bit 13, byte 1 24 to 20  entry 2, draw 1, became draw",
+        "cut            to 1 byte                the log ends before entry 2",
+        "bytes swapped  byte 0 01 and byte 2 31  entry 1, riichi 1, became chombo 1",
+    ] {
+        assert!(log.lines().any(|shown| shown == line), "{line}: {log}");
+    }
+    assert!(answer("damage log 40 --show").contains("cut          to 0 bytes              the entries are as they were\n"));
+    let random = answer("damage log 01 24 31 random=100 --show --plain");
+    let logs: Vec<&str> = random.lines().filter(|line| line.starts_with("accepted random ")).collect();
+    assert!(!logs.is_empty());
+    for log in logs.into_iter().filter_map(|line| line.split(' ').nth(3)).filter(|log| !log.is_empty()) {
+        assert!(!answer(&format!("tally {log}")).contains("refusal 14"), "{log}");
+    }
 }
 
 #[test]

@@ -2,11 +2,11 @@
 
 mod run;
 
-use run::{folder, run_in};
+use run::{folder, run_in, run_words};
 
 /// A command line fails with this line alone.
-fn fails(line: &str, input: &str, message: &str) {
-    let ran = run_in(&folder("errors"), line, input.as_bytes());
+fn fails(line: &str, input: impl AsRef<[u8]>, message: &str) {
+    let ran = run_in(&folder("errors"), line, input.as_ref());
     assert_eq!((ran.status, ran.out.as_str(), ran.err.as_str()), (2, "", format!("tester: {message}\n").as_str()), "{line}");
 }
 
@@ -41,16 +41,34 @@ fn of_a_hand() {
             ("b81g64", "word 2, \"b81g64\": neither tiles with + before the winning one nor hexadecimal digits".into()),
             (&format!("{tiles} seat=1"), "after word 3, \"seat=1\": tsumo or ron=, such as ron=3, is missing".into()),
             (&format!("{tiles} ron=3"), "after word 3, \"ron=3\": the winner is missing, such as seat=1".into()),
-            (&format!("{tiles} seat=5 ron=3"), "word 3, \"seat=5\": a seat is 0, 1, 2 or 3".into()),
+            (&format!("{tiles} seat=5 ron=3"), "word 3, \"seat=5\": a seat is 0, 1, 2 or 3, or E S W N by the first deal's winds".into()),
             (&format!("{tiles} seat=1 ron=3 dora=4z"), "word 5, \"dora=4z\": the tile turned up is indicator=, dora is the next one".into()),
             (&format!("{tiles} seat=1 ron=3 --plian"), "word 5, \"--plian\": no option here; --help lists them".into()),
             (&format!("{tiles} seat=1 ron=3 dealer=x"), "word 5, \"dealer=x\": a seat 0 to 3, or E S W N by the first deal's winds, is needed (a number up to 255 to see it refused)".into()),
             (&format!("{tiles} seat=1 ron=3 wind=X"), "word 5, \"wind=X\": E, S, 0 or 1 is needed (a number up to 255 to see it refused)".into()),
             (&format!("{tiles} dealer=1 seat=1 ron=3 dealer=1"), "word 6, \"dealer=1\": an earlier word has said this already".into()),
+            (&format!("{tiles} seat=1 ron=3 reach"), "word 5, \"reach\": the word is riichi".into()),
+            (&format!("{tiles} seat=1 ron=3 ippatsu"), "word 5, \"ippatsu\": there is no ippatsu in these rules, leave the word out".into()),
+            ("234567m345p67s+8s pong=222m seat=1 ron=3", "word 3, \"pong=222m\": the word is pon, such as pon=222m".into()),
+            ("234067m345p67s22s+8s seat=1 ron=3", "word 2, \"234067m345p67s22s+8s\": sign 4 of \"234067m345p67s22s\", 0: there are no red fives here, write 5".into()),
+            ("b81e640210620a31661a9a6bb0 seat=2", "word 3, \"seat=2\": the record's bytes say this already, leave the word out (dealer= and wind= may stand beside them)".into()),
+            ("b81e 640210620a31661a9a6bb0 riichi", "word 4, \"riichi\": the record's bytes say this already, leave the word out (dealer= and wind= may stand beside them)".into()),
             ("234567m345p67s2s+8s seat=1 ron=3", "word 2, \"234567m345p67s2s+8s\": 12 tiles before +, with 0 melds 13 are needed".into()),
         ] {
             fails(&format!("{command} {words}"), "", &message);
         }
+    }
+}
+
+#[test]
+fn of_a_hand_in_quotation_marks() {
+    for (command, hand, such) in [
+        ("hand", "234567m 345p 67s 22s+8s seat=1 ron=3", "234567m345p67s22s+8s seat=1 ron=3"),
+        ("waits", "567m 22456p 67s", "567m22456p67s chi=234m"),
+    ] {
+        let ran = run_words(&[command, hand, "--plain"]);
+        let message = format!("tester: word 2, \"{hand}\": leave the quotation marks out, and write the words as they are, such as {such}\n");
+        assert_eq!((ran.status, ran.err), (2, message));
     }
 }
 
@@ -71,6 +89,30 @@ fn of_a_rotation_and_a_renaming() {
 }
 
 #[test]
+fn of_a_claim() {
+    let hand = "234567m345p67s22s+8s seat=1 ron=3";
+    let such = "such as claim=regular pair=55s groups=123m,123m,789p,789p place=pair gain=5200";
+    for (words, message) in [
+        ("claim=hex", "word 5, \"claim=hex\": regular, pairs, orphans, or the claim's bytes in hexadecimal, is needed".to_string()),
+        ("claim=40c", "word 5, \"claim=40c\": regular, pairs, orphans, or the claim's bytes in hexadecimal, is needed".into()),
+        ("claim=pairs", "gain= is missing, what the winner is said to gain, such as gain=5200".into()),
+        ("claim=pairs gain=131072", "word 6, \"gain=131072\": what the winner gains is needed, a number up to 131071".into()),
+        ("claim=pairs gain=1 pair=55s", "seven pairs and orphans have no pair=, groups= or place=, leave them out".into()),
+        ("claim=regular gain=1 pair=55s", format!("pair=, groups= and place= are needed, {such}")),
+        ("gain=1", format!("claim= is missing, {such}")),
+        ("claim=40c800 gain=1", "claim=HEX has the whole claim: leave pair=, groups=, place= and gain= out".into()),
+        ("claim=regular pair=55s groups=123m,789p,789p place=0 gain=1", "groups= has 3 groups, with 0 melds 4 are needed".into()),
+        ("claim=regular pair=56s", "word 6, \"pair=56s\": two equal tiles are needed, such as 55s".into()),
+        ("claim=regular groups=123m,89p1s", "word 6, \"groups=123m,89p1s\": 89p1s: three neighbours of a suit or three equal tiles are needed, such as 123m or EEE".into()),
+        ("claim=regular groups=111m,222m,333m,444m,555m", "word 6, \"groups=111m,222m,333m,444m,555m\": at most four groups, melds left out".into()),
+        ("claim=regular groups=111m place=222m", "word 7, \"place=222m\": what the winning tile completes is needed: pair, or one of the groups, such as 123m, or its number from 1".into()),
+    ] {
+        fails(&format!("judge {hand} {words}"), "", &message);
+    }
+    fails("judge 1111m44m77m22p55p8p+8p seat=1 ron=3", "", "no reading of the hand is reported, so claim= is needed: in words, such as claim=pairs gain=1600, or claim=HEX");
+}
+
+#[test]
 fn of_an_unfinished_hand() {
     let tiles = "567m22456p67s";
     for (words, message) in [
@@ -79,7 +121,8 @@ fn of_an_unfinished_hand() {
         (tiles, format!("after word 2, \"{tiles}\": 10 tiles, with 0 melds 13 are needed")),
         (&format!("{tiles} chi=234m pon=EEE"), "after word 4, \"pon=EEE\": 10 tiles, with 2 melds 7 are needed".into()),
         (&format!("{tiles} chi=89m1p"), "word 3, \"chi=89m1p\": three neighbours of one suit, such as 234m, are needed".into()),
-        (&format!("{tiles} chi=234m seat=1"), "word 4, \"seat=1\": seat= is no option here".into()),
+        (&format!("{tiles} chi=234m ron=1"), "word 4, \"ron=1\": ron= is no option here; melds are chi=, pon=, kan= and ankan=".into()),
+        ("20220a31451869cbb0 chi=234m", "word 3, \"chi=234m\": the hand's bytes say this already, leave the word out".into()),
         (&format!("{tiles} chi=234m discards=8"), "word 4, \"discards=8\": the last digits of \"8\" have no suit m, p, s or z".into()),
         (&format!("{tiles} chi=234m kinds=1"), "word 4, \"kinds=1\": 1: two hexadecimal digits are needed for each byte".into()),
         (&format!("{tiles} chi=234m kinds=19 discards=8s"), "discards= and kinds= say the same, one of them is enough".into()),
@@ -126,12 +169,14 @@ fn of_a_log() {
     }
     fails("log 01 to=", "", "word 3, \"to=\": the name of a file is missing");
     fails("log 01 to=none/a", "", "none/a: No such file or directory (os error 2)");
+    fails("log 01 to=a over=no", "", "word 4, \"over=no\": yes is needed, or leave the word out");
+    fails("log 01 over=yes", "", "word 3, \"over=yes\": to=FILE, the file to write, is missing");
 }
 
 #[test]
 fn of_a_text() {
     for (line, message) in [
-        ("richi 1", "word 1, \"richi\": a line begins with riichi, win, draw, chombo, multi, pao, correct or bytes (--bytes if the file is no text)"),
+        ("richi 1", "word 1, \"richi\": a line begins with riichi, win, draw, chombo, multi, pao, correct or bytes (as=bytes if the file is no text)"),
         ("riichi", "after word 1, \"riichi\": the seat is missing, 0 to 3"),
         ("riichi 1 2", "word 3, \"2\": one seat is enough"),
         ("chombo 16", "word 2, \"16\": a seat is 0, 1, 2 or 3 (up to 15 to see it refused)"),
@@ -147,7 +192,7 @@ fn of_a_text() {
         ("multi 234567m345p67s22s+8s seat=1 ron=3 /", "after word 5, \"/\": no hand, such as 234567m345p67s22s+8s seat=1 ron=3"),
         ("multi / 00", "after word 2, \"/\": no hand, such as 234567m345p67s22s+8s seat=1 ron=3"),
         ("multi 234567m345p67s22s+8s seat=1 / 00", "after word 3, \"seat=1\": tsumo or ron=, such as ron=3, is missing"),
-        ("multi 00 / 234567m345p67s22s+8s seat=5", "word 5, \"seat=5\": a seat is 0, 1, 2 or 3"),
+        ("multi 00 / 234567m345p67s22s+8s seat=5", "word 5, \"seat=5\": a seat is 0, 1, 2 or 3, or E S W N by the first deal's winds"),
         ("multi 00 / 00 / 00 / 00", "word 8, \"00\": a fourth hand, at most 3 fit"),
         ("pao", "after word 1, \"pao\": holder=, feeder= and yaku= are needed, such as holder=1 feeder=3 yaku=28"),
         ("pao holder=1 yaku=28", "after word 3, \"yaku=28\": holder=, feeder= and yaku= are needed, such as holder=1 feeder=3 yaku=28"),
@@ -163,12 +208,58 @@ fn of_a_text() {
         ("correct chombo", "after word 2, \"chombo\": the seat is missing, 0 to 3"),
         ("correct win 234567m345p67s22s+8s seat=1 tsumo wind=E", "word 6, \"wind=E\": in a log the game says who deals and which wind blows"),
         ("correct multi", "after word 2, \"multi\": no hand, such as 234567m345p67s22s+8s seat=1 ron=3"),
+        ("win b8", "word 2, \"b8\": refusal 14, the log's entry is bad or cut: bytes missing; a line that begins with bytes may have such bytes"),
+        ("win b81e640210620a31661a9a6bb000", "word 2, \"b81e640210620a31661a9a6bb000\": the entry has 14 bytes, and the line 15; a line that begins with bytes may have such bytes"),
+        ("bytes 10\nbytes b8\n\nRiichi 2", "word 1, \"Riichi\": the bytes before this line are no whole entries: refusal 14, the log's entry is bad or cut: bytes missing"),
+        ("bytes 1 0", "word 2, \"1\": two hexadecimal digits make a byte, one is left over"),
         ("bytes 4", "word 2, \"4\": two hexadecimal digits make a byte, one is left over"),
         ("bytes xy", "word 2, \"xy\": hexadecimal digits are needed"),
     ] {
         let text = format!("# an evening\n\nriichi 1\n{line}\n");
-        fails("tally -", &text, &format!("standard input, line 4, {message}"));
+        let last = 4 + line.lines().count() - 1;
+        fails("tally -", &text, &format!("standard input, line {last}, {message}"));
     }
+}
+
+/// A text with these bytes in a comment of its second line.
+fn comment(bytes: &[u8]) -> Vec<u8> {
+    [b"riichi 1\n# ", bytes, b"\ndraw 1\n"].concat()
+}
+
+#[test]
+fn of_a_text_that_is_not_utf_8() {
+    let advice = "save the text as UTF-8, or write as=bytes if the file holds a log's bytes";
+    let utf_16 = |text: &str, order: fn(u16) -> [u8; 2]| text.encode_utf16().flat_map(order).collect::<Vec<u8>>();
+    for (input, message) in [
+        (comment(b"Caf\xe9"), "line 2, byte 6 of the line, e9: this is no UTF-8"),
+        (comment(b"\x83\x8a\x81[\x83`"), "line 2, byte 3 of the line, 83: this is no UTF-8"),
+        (comment(b"\x1b$BLk\x1b(B"), "line 2, byte 3 of the line, 1b: a control sign, which a text does not have"),
+        (comment(b"\0"), "line 2, byte 3 of the line, 00: a control sign, which a text does not have"),
+        (b"# Caf\xe9, nothing played\n".to_vec(), "line 1, byte 6 of the line, e9: this is no UTF-8"),
+        (utf_16("\u{feff}riichi 1\n", u16::to_le_bytes), "line 1, byte 1 of the line, fffe: the mark of a text in UTF-16 or UTF-32"),
+        (utf_16("\u{feff}riichi 1\n", u16::to_be_bytes), "line 1, byte 1 of the line, feff: the mark of a text in UTF-16 or UTF-32"),
+        (utf_16("# 1\nriichi 1\n", u16::to_le_bytes), "line 1, byte 2 of the line, 00: a control sign, which a text does not have"),
+        (utf_16("riichi 1\n", u16::to_be_bytes), "line 1, byte 1 of the line, 00: a control sign, which a text does not have"),
+    ] {
+        for line in ["tally -", "tally - --plain", "log -", "damage log -", "tally - as=text", "tally - as=hex"] {
+            fails(line, &input, &format!("standard input, {message}; {advice}"));
+        }
+    }
+    fails("log - as=text", [1, 0x24], &format!("standard input, line 1, byte 1 of the line, 01: a control sign, which a text does not have; {advice}"));
+}
+
+#[test]
+fn of_the_form_of_a_log() {
+    let begins = "a line begins with riichi, win, draw, chombo, multi, pao, correct or bytes (as=bytes if the file is no text)";
+    fails("tally -", "pao 1 3 28\n", "standard input, line 1, word 2, \"1\": one of holder=, feeder= and yaku= is needed");
+    fails("tally -", "feed 1 3 28\n", "standard input, line 1, word 1, \"feed\": the word is pao: pao holder=1 feeder=3 yaku=28");
+    fails("tally -", "# \n1 3 28\n", "standard input, line 2, word 1, \"1\": two hexadecimal digits make a byte, one is left over");
+    fails("tally - as=text", "01 24\n", &format!("standard input, line 1, word 1, \"01\": {begins}"));
+    fails("tally - as=hex", "01\n24 draw\n", "standard input, line 2, word 2, \"draw\": no hexadecimal digits");
+    fails("tally - as=hexadecimal", "", "word 3, \"as=hexadecimal\": text, hex or bytes is needed");
+    fails("tally - as=text --bytes", "", "--bytes is as=bytes, and as=text says another thing");
+    fails("tally 01 24 as=bytes", "", "word 2, \"01\": no file of this name, and as=bytes is said of a file");
+    fails("tally none.txt as=text", "", "word 2, \"none.txt\": no file of this name, nor hexadecimal digits");
 }
 
 #[test]

@@ -6,9 +6,9 @@ pub mod print;
 pub mod tiles;
 pub mod unfinished;
 
-pub use parse::{parse, Fault};
+pub use parse::{parse, seat, Fault};
 pub use print::print;
-pub use tiles::{text, tiles};
+pub use tiles::{doubtful, text, tiles};
 
 use crate::record::{Hand, Meld};
 

@@ -1,8 +1,8 @@
 //! From notation to a hand.
 
-use super::tiles::tiles;
+use super::tiles::{plain, tiles};
 use crate::record::*;
-use crate::tiles::starts_run;
+use crate::tiles::{starts_run, EAST};
 
 /// The indicator when none is given: North (01, Table of hands).
 const NORTH: u8 = 30;
@@ -42,9 +42,27 @@ fn set<T>(field: &mut Given<T>, at: usize, value: T) -> Result<(), String> {
     }
 }
 
-/// A seat number, 0 to 3.
-fn seat(text: &str) -> Result<u8, String> {
-    text.parse().ok().filter(|&seat| seat <= 3).ok_or("a seat is 0, 1, 2 or 3".into())
+/// A seat by its number, 0 to 3, or by its wind in the first deal.
+pub fn seat(text: &str) -> Result<u8, String> {
+    let by_wind = || tiles(text).ok().filter(|list| list.len() == 1).and_then(|list| list[0].checked_sub(EAST));
+    let seat = text.parse().ok().or_else(by_wind).filter(|&seat| seat <= 3);
+    seat.ok_or("a seat is 0, 1, 2 or 3, or E S W N by the first deal's winds".into())
+}
+
+/// What is said to a word that others use: the word here, or that there is none.
+fn instead(word: &str) -> Option<&'static str> {
+    Some(match word {
+        "reach" | "richi" | "liichi" => "the word is riichi",
+        "ippatsu" => "there is no ippatsu in these rules, leave the word out",
+        "daburi" | "double-riichi" | "double-reach" => "the word is double",
+        "haitei" | "houtei" | "hotei" => "the word is last",
+        "tenhou" | "tenho" | "chiihou" | "chiho" => "the word is first",
+        "pon" | "chi" | "kan" | "ankan" => "the tiles are missing, such as pon=222m",
+        "indicator" => "the tile is missing, such as indicator=4m",
+        "dealer" => "the seat is missing, such as dealer=1",
+        "wind" => "the wind is missing, such as wind=S",
+        _ => return None,
+    })
 }
 
 /// One tile.
@@ -62,7 +80,10 @@ pub(super) fn meld_kind(key: &str) -> Result<u8, String> {
         "pon" => Ok(PON),
         "kan" => Ok(OPEN_KAN),
         "ankan" => Ok(CLOSED_KAN),
-        _ => Err(format!("{key}= is no option here")),
+        "pong" | "pung" => Err("the word is pon, such as pon=222m".into()),
+        "chii" | "chow" => Err("the word is chi, such as chi=234m".into()),
+        "kong" | "minkan" | "daiminkan" => Err("the word is kan, such as kan=EEEE, or ankan for a closed one".into()),
+        _ => Err(format!("{key}= is no option here; melds are chi=, pon=, kan= and ankan=")),
     }
 }
 
@@ -99,6 +120,8 @@ impl Draft {
             "ron" => return set(&mut self.win, at, (RON, seat(value)?)),
             "indicator" => return set(&mut self.indicator, at, one(value)?),
             "dora" => return Err("the tile turned up is indicator=, dora is the next one".into()),
+            "tsumo" => return Err("tsumo stands alone, the winner is seat=".into()),
+            "riichi" | "double" => return Err(format!("{key} stands alone, the winner is seat=")),
             _ => meld_kind(key)?,
         };
         if self.melds.len() == 4 {
@@ -120,7 +143,7 @@ impl Draft {
             "first" => set(&mut self.situation, at, FIRST_TURN),
             "ron" => Err("whose discard is missing, such as ron=3".into()),
             "seat" => Err("the number is missing, such as seat=1".into()),
-            _ => self.take_tiles(at, word),
+            other => instead(other).map_or_else(|| self.take_tiles(at, word), |why| Err(why.into())),
         }
     }
 
@@ -128,7 +151,7 @@ impl Draft {
     fn take_tiles(&mut self, at: usize, word: &str) -> Result<(), String> {
         let is_word = |word: &str| word.len() > 1 && word.chars().all(char::is_alphabetic);
         if is_word(word) && tiles(word).is_err() {
-            return Err("neither an option nor tiles".into());
+            return Err("neither tiles nor one of the words tsumo, riichi, double, rinshan, chankan, last and first".into());
         }
         let winning = match (word.split_once('+'), self.plus) {
             (Some((before, after)), None) => {
@@ -188,7 +211,8 @@ impl Draft {
 pub fn parse(words: &[&str]) -> Result<Hand, Fault> {
     let mut draft = Draft::default();
     for (word, text) in words.iter().enumerate() {
-        draft.take(word, text).map_err(|why| Fault { word, why })?;
+        let text: String = text.chars().map(plain).collect();
+        draft.take(word, &text).map_err(|why| Fault { word, why })?;
     }
     draft.hand().map_err(|(word, why)| Fault { word: word.unwrap_or(words.len()), why })
 }

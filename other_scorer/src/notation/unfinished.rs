@@ -2,16 +2,17 @@
 
 use super::parse::{meld, meld_kind, Fault};
 use super::print::meld as word;
-use super::tiles::{text, tiles};
+use super::tiles::{plain, text, tiles};
 use crate::unfinished::{field_faults, Unfinished};
 
 /// An unfinished hand from its words: tiles, in any order, and melds.
 pub fn parse(words: &[&str]) -> Result<Unfinished, Fault> {
     let (mut concealed, mut melds) = (Vec::new(), Vec::new());
     for (word, text) in words.iter().enumerate() {
+        let text: String = text.chars().map(plain).collect();
         let taken = match text.split_once('=') {
             Some((key, value)) => meld_kind(key).and_then(|kind| meld(kind, value)).map(|meld| melds.push(meld)),
-            None => tiles(text).map(|list| concealed.extend(list)),
+            None => tiles(&text).map(|list| concealed.extend(list)),
         };
         taken.map_err(|why| Fault { word, why })?;
         if melds.len() > 4 {

@@ -17,6 +17,12 @@ pub fn run_in(folder: &Path, line: &str, input: &[u8]) -> Ran {
     run_by(Command::new(env!("CARGO_BIN_EXE_tester")).args(line.split_whitespace()).current_dir(folder), input)
 }
 
+/// Runs words that may have spaces in them.
+#[allow(dead_code)]
+pub fn run_words(words: &[&str]) -> Ran {
+    run_by(Command::new(env!("CARGO_BIN_EXE_tester")).args(words), &[])
+}
+
 /// Runs a command line where no other program is found.
 #[allow(dead_code)]
 pub fn run_alone(line: &str) -> Ran {

@@ -1,0 +1,123 @@
+//! A claim in words: claim=regular pair=55s groups=123m,123m,789p,789p place=pair gain=5200, claim=pairs gain=1600, claim=orphans gain=32000.
+
+use other_scorer::claim::{group, pack, Claim};
+use other_scorer::notation::hex::from_hex;
+use other_scorer::notation::tiles;
+use other_scorer::reading::{Group, Reading};
+
+use crate::names::count;
+use crate::words::{Bad, Words};
+
+/// A gain has 17 bits (02, S-13).
+const MOST: u32 = (1 << 17) - 1;
+
+/// What is said where claim= is neither bytes nor a shape.
+const NEEDED: &str = "regular, pairs, orphans, or the claim's bytes in hexadecimal, is needed";
+
+/// The words that stand beside a regular shape.
+const REGULAR: &str = "such as claim=regular pair=55s groups=123m,123m,789p,789p place=pair gain=5200";
+
+/// What claim= gives: bytes as they are, or the shape of a reading.
+enum Typed {
+    Bytes(Vec<u8>),
+    Regular,
+    Whole(Reading),
+}
+
+fn typed(value: &str) -> Result<Typed, String> {
+    Ok(match value.to_ascii_lowercase().as_str() {
+        "" => Typed::Bytes(Vec::new()),
+        "regular" => Typed::Regular,
+        "pairs" | "seven-pairs" => Typed::Whole(Reading::SevenPairs),
+        "orphans" | "thirteen-orphans" => Typed::Whole(Reading::ThirteenOrphans),
+        digits => Typed::Bytes(from_hex(digits).map_err(|_| NEEDED.to_string())?),
+    })
+}
+
+/// The kind of two equal tiles.
+fn pair(value: &str) -> Result<u8, String> {
+    match tiles(value)?[..] {
+        [one, other] if one == other => Ok(one),
+        _ => Err("two equal tiles are needed, such as 55s".into()),
+    }
+}
+
+/// A run or a triplet by its three tiles.
+fn one_group(text: &str) -> Result<Group, String> {
+    let mut list = tiles(text)?;
+    list.sort();
+    let low = list.first().copied().unwrap_or(0);
+    let named = [low, 34 + low].into_iter().filter_map(group).find(|group| group.tiles()[..] == list[..]);
+    named.ok_or(format!("{text}: three neighbours of a suit or three equal tiles are needed, such as 123m or EEE"))
+}
+
+/// The groups with commas between them, as typed; a hand whose melds are four has none.
+fn groups(value: &str) -> Result<Vec<Group>, String> {
+    let list: Vec<Group> = value.split(',').filter(|text| !text.is_empty()).map(one_group).collect::<Result<_, _>>()?;
+    if list.len() > 4 { Err("at most four groups, melds left out".into()) } else { Ok(list) }
+}
+
+/// What the winning tile completes: the pair, or a group by its number from 1 or its tiles.
+fn place(value: &str, groups: &[Group]) -> Result<usize, String> {
+    let by_tiles = || one_group(value).ok().and_then(|group| groups.iter().position(|typed| *typed == group)).map(|at| at + 1);
+    let named = if value == "pair" { Some(0) } else { value.parse().ok().filter(|&number| number <= 7).or_else(by_tiles) };
+    named.ok_or("what the winning tile completes is needed: pair, or one of the groups, such as 123m, or its number from 1".into())
+}
+
+/// A regular reading, its groups in the order of their codes; the place stays with its group.
+fn regular(pair: u8, typed: Vec<Group>, place: usize) -> Reading {
+    let mut order: Vec<usize> = (0..typed.len()).collect();
+    order.sort_by_key(|&at| typed[at]);
+    let moved = order.iter().position(|&at| at + 1 == place).map_or(place, |at| at + 1);
+    Reading::Regular { pair, groups: order.into_iter().map(|at| typed[at]).collect(), place: moved }
+}
+
+/// A claim as it was typed: its bytes, or what it names.
+pub enum Given {
+    Bytes(Vec<u8>),
+    Words(Claim),
+}
+
+impl Given {
+    /// The bytes of a claim for a hand with m melds, if it has so many groups as are left to it.
+    pub fn bytes(self, m: Option<u8>) -> Result<Vec<u8>, Bad> {
+        let claim = match self {
+            Given::Bytes(bytes) => return Ok(bytes),
+            Given::Words(claim) => claim,
+        };
+        if let (Reading::Regular { groups, .. }, Some(m)) = (&claim.reading, m) {
+            let (given, needed) = (groups.len(), 4 - m as usize);
+            if given != needed {
+                return Err(Bad::new(format!("groups= has {}, with {} {needed} are needed", count(given, "group"), count(m.into(), "meld"))));
+            }
+        }
+        // The core has no call that packs a claim yet: these bytes are made by the other scorer's code, by document 02's S-13.
+        Ok(pack(&claim))
+    }
+}
+
+/// The claim of the words; none if there is no claim=.
+pub fn take(words: &mut Words) -> Result<Option<Given>, Bad> {
+    let claim = words.take("claim", typed)?;
+    let gain: Option<u32> = words.take("gain", |value| {
+        let number = value.replace(',', "").parse().ok().filter(|gain| *gain <= MOST);
+        number.ok_or(format!("what the winner gains is needed, a number up to {MOST}"))
+    })?;
+    let pair = words.take("pair", pair)?;
+    let groups = words.take("groups", groups)?;
+    let named = groups.clone().unwrap_or_default();
+    let place = words.take("place", |value| place(value, &named))?;
+    let beside = gain.is_some() || pair.is_some() || groups.is_some() || place.is_some();
+    let reading = match (claim, pair, groups, place) {
+        (None, ..) if beside => return Err(Bad::new(format!("claim= is missing, {REGULAR}"))),
+        (None, ..) => return Ok(None),
+        (Some(Typed::Bytes(_)), ..) if beside => return Err(Bad::new("claim=HEX has the whole claim: leave pair=, groups=, place= and gain= out")),
+        (Some(Typed::Bytes(bytes)), ..) => return Ok(Some(Given::Bytes(bytes))),
+        (Some(Typed::Whole(reading)), None, None, None) => reading,
+        (Some(Typed::Whole(_)), ..) => return Err(Bad::new("seven pairs and orphans have no pair=, groups= or place=, leave them out")),
+        (Some(Typed::Regular), Some(pair), Some(groups), Some(place)) => regular(pair, groups, place),
+        (Some(Typed::Regular), ..) => return Err(Bad::new(format!("pair=, groups= and place= are needed, {REGULAR}"))),
+    };
+    let Some(gain) = gain else { return Err(Bad::new("gain= is missing, what the winner is said to gain, such as gain=5200")) };
+    Ok(Some(Given::Words(Claim { reading, gain })))
+}
