@@ -75,8 +75,8 @@ enum {
                                    declared, or without and its winner had. */
     HB_REFUSAL_NOT_READY = 12,  /* No call gives it now; in lines of older logs a player who had
                                    declared riichi was keyed in as not ready. */
-    HB_REFUSAL_BUFFER = 13,     /* The firmware lent too few bytes for the record or for the
-                                   message. */
+    HB_REFUSAL_BUFFER = 13,     /* The firmware lent too few bytes for the record, the unfinished
+                                   hand, the claim or the message. */
     HB_REFUSAL_ENTRY = 14,      /* The log has a byte that begins no entry, or ends within one. */
     HB_REFUSAL_DISCARD = 15,    /* A discard was keyed in that there is not. */
     HB_REFUSAL_PAGE = 16,       /* The firmware lent too few bytes for the slip. */
@@ -90,7 +90,8 @@ enum {
                                    had resumed: a riichi or a pao has been accepted since. */
     HB_REFUSAL_STICK = 21,      /* The player declared riichi without the points for the stick. */
     HB_REFUSAL_CLAIM = 22       /* The other scorer sent bytes that are no claim for a hand with so
-                                   many melds. */
+                                   many melds, or the firmware asked for a claim that no bytes
+                                   are. */
 };
 
 /* Yaku by number; 26 to 36 are yakuman. */
@@ -238,6 +239,7 @@ enum {
 
 enum {
     HB_RECORD_MAX = 13,    /* a buffer of so many bytes holds every record */
+    HB_UNFINISHED_MAX = 11, /* a buffer of so many bytes holds every unfinished hand */
     HB_SLIP_LENGTH = 150,  /* a slip has so many bytes */
     HB_CARDS_MAX = 7968,   /* a buffer of so many bytes holds every list of practice cards: 18 of 2
                               tiles, 675 of 5, 7968 of 8 */
@@ -274,7 +276,8 @@ typedef struct {
     HbHand hand;
 } HbReadHand;
 
-/* What Write gives: a refusal and 0, or 0 and the record's length. */
+/* What Write, Write unfinished, Unfinished and Write claim give: a refusal and 0, or 0 and how many
+ * bytes were written. */
 typedef struct {
     uint8_t refusal;
     size_t len;
@@ -368,6 +371,17 @@ enum {
     HB_VERDICT_MORE = 4      /* "no other reading of them with a yaku pays more" */
 };
 
+/* What a claim names, for Write claim: a reading as hb_reading gives it, the winner's gain and the
+ * m of the hand. */
+typedef struct {
+    uint32_t gain;      /* the winner's gain, below 131,072 */
+    uint8_t shape;      /* 0 regular, 1 seven pairs, 2 thirteen orphans */
+    uint8_t pair;       /* kind of the pair; 34 for shapes 1 and 2 */
+    uint8_t groups[4];  /* the 4 - m groups sorted by code, then 68; all 68 for shapes 1 and 2 */
+    uint8_t place;      /* 0 the pair, i + 1 the group at i; 0 for shapes 1 and 2 */
+    uint8_t m;
+} HbClaim;
+
 /* What a call that says something gives: a refusal and 0, or 0 and how many clips; two numbers of
  * 16 bits, so that there is no padding. */
 typedef struct {
@@ -381,7 +395,7 @@ typedef struct {
     int32_t scores[4];
     uint32_t sticks;
     uint8_t declared[4];  /* not 0 where the seat has declared riichi in this hand */
-    uint8_t dealer, wind, hands;
+    uint8_t dealer, wind, hands; /* hands finished; 200 end the game, or a deal past South's last */
     uint8_t over;         /* not 0 where the game is marked over */
     uint32_t counter;     /* repeat counters: "rises by one at each dealer's win and each draw,
                              returns to 0 at a child's win, and isn't touched by a chombo" */
@@ -460,7 +474,7 @@ uint8_t hb_slip(const uint8_t *record, size_t record_len, uint8_t dealer, uint8_
 /* Waits. What an unfinished hand waits for: "meld count 3 bits, melds, 13 - 3m tiles, zero bits to
  * the byte", each meld and tile as in a record, with "the player's own discards", one kind a byte.
  * "A kind already held four times is never among them"; discards do not count towards the four.
- * Refusals 1 to 4, 15 in order. */
+ * With no discards any valid pointer and 0. Refusals 1 to 4, 15 in order. */
 HbWaits hb_waits(const uint8_t *hand, size_t hand_len, const uint8_t *discards,
     size_t discards_len);
 
@@ -468,6 +482,15 @@ HbWaits hb_waits(const uint8_t *hand, size_t hand_len, const uint8_t *discards,
  * for a kind, "melds kept and no kind over four held", with one such hand. Refusals 1 to 4 in
  * order. */
 HbReady hb_ready(const uint8_t *hand, size_t hand_len);
+
+/* Write, of an unfinished hand as Waits and Ready take it: the bytes of the tiles held at the start
+ * of buf, and their number; refusals 2, 3, 4, 13 in order. */
+HbWritten hb_write_unfinished(HbHeld held, uint8_t *buf, size_t buf_len);
+
+/* The unfinished hand that a record is without its winning tile, at the start of buf, and its
+ * length: "an unfinished hand's waits from these same records". Waits has the winning tile among
+ * them exactly when the record's tiles have a reading. Refusals 1 to 5, 13 in order. */
+HbWritten hb_unfinished(const uint8_t *record, size_t record_len, uint8_t *buf, size_t buf_len);
 
 /* Practice cards: "every set of 2, 5 or 8 tiles of one suit, at most four of a kind, that splits
  * into one pair and runs or triplets. Tiles stand ascending, one byte each, the sets in ascending
@@ -484,6 +507,11 @@ HbCards hb_cards(uint8_t suit, uint8_t size, uint8_t *buf, size_t buf_len);
  * order, with verdict 0. */
 HbJudged hb_judge(const uint8_t *record, size_t record_len, const uint8_t *claim, size_t claim_len,
     uint8_t dealer, uint8_t wind);
+
+/* Write claim. The bytes of a claim at the start of buf, 3 to 7 of them, and their number: the
+ * only bytes in which Judge, for a record with m melds, reads that reading and that gain.
+ * Refusals 22, 13 in order, the first where no bytes name them for m melds, or m is over 4. */
+HbWritten hb_write_claim(HbClaim claim, uint8_t *buf, size_t buf_len);
 
 /* A fresh game, with both its positions: 30,000 each, all else 0. */
 HbGame hb_fresh_game(void);
@@ -569,7 +597,8 @@ HbWalk hb_log_start(void);
  * tally into buf, as many whole lines as fit, one after the other; bytes past written stay. Call
  * it again with the walk that it gives: no text is left when written is 0 in a buffer of
  * HB_LINE_MAX bytes or more and the walk's entry is under 4294967295, the last number that it
- * counts to. tally reads the first HB_LOG_MAX bytes of a log. */
+ * counts to. A bad or cut entry ends the text: the walk stands before it, and hb_log_next at the
+ * walk's at gives 14. tally reads the first HB_LOG_MAX bytes of a log. */
 HbPrinted hb_log_lines(HbWalk walk, const uint8_t *log, size_t log_len, uint8_t *buf,
     size_t buf_len);
 

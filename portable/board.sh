@@ -1,8 +1,8 @@
 #!/usr/bin/env bash
-# The portable C file on emulated microcontrollers: board.sh, after `rt staticlib handset`. Needs rt, python3, gcc and cargo; the cross compilers and
-# the emulator it installs from Debian's packages where they are missing, as root, and says so.
+# The portable C file on emulated microcontrollers: board.sh. Needs rt, python3, gcc and cargo; the cross compilers and the emulator it
+# installs from Debian's packages where they are missing, as root, and says so.
 # Cortex-M0+, Cortex-M4 and RV32, each by gcc and clang at two levels: every exported call, with records, logs, unfinished hands and damaged bytes of
-# the other scorer's programs and fixed seeds, against the answers of the x86-64 archive, which stand in the image; interface/test.c and
+# the other scorer's programs and fixed seeds, against the answers of the x86-64 archive, which stand in the image; interface/tests/ and
 # examples/firmware.c there; the header's layout for 32 bits. Flash, stack (by the call graph, and painted) and instructions go into
 # docs/COST.md, between its marks. Ends with a count and `0 differ`, or exits 1.
 set -Eeuo pipefail
@@ -24,6 +24,7 @@ if ((${#missing[@]})); then
 fi
 
 # ---- the file, the cases and the archive's answers
+bash tools/archive.sh
 bash portable/make.sh
 made=$root/target/portable/board
 rm -rf -- "$made"
@@ -57,7 +58,7 @@ image() {
 }
 
 # build CHIP COMPILER LEVEL. Set around it: gcc, cc (the compiler of the file), board (that of board.c), specs, script, whole, sizes, emulator, and
-# large (the emulator for test.c and the example).
+# large (the emulator for the C tests and the example).
 # shellcheck disable=SC2086,SC2154
 build() {
     local at=$made/$1.$2.$3 graph=""
@@ -79,11 +80,11 @@ build() {
         image "$at.o" "$part" "$link" >>"$at.figures"
     done
     local program
-    for program in interface/test examples/firmware; do
-        $gcc -std=c99 -O1 -I include "$program.c" "$at.o" $whole $silent -o "$at.elf"
+    for program in "interface/tests/*.c" examples/firmware.c; do
+        $gcc -std=c99 -O1 -I include $program "$at.o" $whole $silent -o "$at.elf"
         timeout 600 $large $quiet -kernel "$at.elf" >"$made/said" 2>&1 || { cat -- "$made/said"; false; }
-        [[ $program != examples/firmware ]] || diff -- "$made/said" examples/firmware.txt
-        [[ $program != interface/test ]] || sed 's/^/test /' "$made/said" >>"$at.figures"
+        [[ $program != examples/firmware.c ]] || diff -- "$made/said" examples/firmware.txt
+        [[ $program == examples/firmware.c ]] || sed 's/^/test /' "$made/said" >>"$at.figures"
     done
     python3 -B portable/board/report.py --one "$made/counts" "$at.figures"
     # once: an answer that differs is told

@@ -1,6 +1,6 @@
 #!/usr/bin/env bash
 # The folder for firmware, target/release/: the C file, the header, the digest of the MIR, the claims, the sheet of clips where there is one, the sizes,
-# and SHA256SUMS of all. After `rt staticlib handset`; the sizes are those that board.sh has put into docs/COST.md, of the same MIR.
+# and SHA256SUMS of all. The sizes are those that board.sh has put into docs/COST.md, of the same MIR.
 # It is made twice, the second time elsewhere and otherwise, and has to have the same bytes. Ends with the sum of SHA256SUMS, or exits 1.
 set -Eeuo pipefail
 trap 'echo "release: failed" >&2; exit 1' ERR

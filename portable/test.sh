@@ -1,9 +1,9 @@
 #!/usr/bin/env bash
-# Tests the portable C file on this machine: test.sh [COUNT], after `rt staticlib handset`. Needs rt, python3, gcc, clang and cargo.
+# Tests the portable C file on this machine: test.sh [COUNT]. Needs rt, python3, gcc, clang and cargo.
 # 1. make.sh twice gives the same file, its digest is the MIR's, and its symbols are the header's calls;
 # 2. the generator's own tests: unknown forms, functions that the code does not have, wrong generators;
-# 3. gcc and clang at four levels without a warning, and interface/test.c over each;
-# 4. test.c and the comparison with the other scorer (COUNT hands, default 100000) under the sanitizers: the file of each compiler, and the
+# 3. gcc and clang at four levels without a warning, and interface/tests/ over each;
+# 4. these tests and the comparison with the other scorer (COUNT hands, default 100000) under the sanitizers: the file of each compiler, and the
 #    file that aborts where the MIR is undefined with clang's checks of conversions and unsigned sums; first a fault that they have to find;
 # 5. interface/run.sh with COUNT hands and the file in the archive's place.
 # Ends with a count and `0 differ`, or exits 1.
@@ -53,7 +53,7 @@ rm -f -- "$made/outside"
 for compiler in gcc clang; do
     for level in -O0 -Os -O2 -O3; do
         "$compiler" "${strict[@]}" "$level" -c "$file" -o "$made/h.o"
-        "$compiler" -std=c99 -I include interface/test.c "$made/h.o" -o "$made/test"
+        "$compiler" -std=c99 -I include interface/tests/*.c "$made/h.o" -o "$made/test"
         tested "$compiler $level"
         diff <(nm -g --defined-only "$made/h.o" | awk '{print $3}' | sort) - <<<"$calls"
         nm -g --undefined-only "$made/h.o" | awk '{print $2}' >>"$made/outside"
@@ -63,7 +63,7 @@ outside=$(sort -u "$made/outside" | tr '\n' ' ')
 if grep -qvxE 'memcpy|memset|memmove|memcmp' "$made/outside"; then false; fi
 echo "symbols: the header's $(wc -w <<<"$calls") calls, and from outside at most $outside"
 
-# ---- 4. sanitizers; `sanitized NAME COMPILER FILE CHECKS` builds test.c and the comparison over a file
+# ---- 4. sanitizers; `sanitized NAME COMPILER FILE CHECKS` builds the C tests and the comparison over a file
 sanitized() {
     local at=$made/$1 flags="-fsanitize=$4 -fno-sanitize-recover=all"
     mkdir -p "$at"
@@ -72,7 +72,7 @@ sanitized() {
     rm -f -- "$at/libhandset.a"
     ar rcs "$at/libhandset.a" "$at/h.o"
     # shellcheck disable=SC2086
-    "$2" -std=c99 -g $flags -I include interface/test.c "$at/libhandset.a" -o "$made/test"
+    "$2" -std=c99 -g $flags -I include interface/tests/*.c "$at/libhandset.a" -o "$made/test"
     # cargo links without the compiler's own libraries; gcc's are named, and have to be loaded first
     local with=(-Clinker="$2" -Clink-arg=-fsanitize=address,undefined)
     [[ $2 == clang ]] || with+=(-Clink-arg=-Wl,--no-as-needed,-lasan,-lubsan)
@@ -87,7 +87,7 @@ compared() {
     comparisons=$((comparisons + 1))
     echo "$1, comparison: $count hands, $(tail -1 "$made/said")"
 }
-# a call that looks one byte past what was lent has to be found, by test.c and by the comparison
+# a call that looks one byte past what was lent has to be found, by the C tests and by the comparison
 sed -E '/^HbReadHand hb_read\(/{N;s/\*(\w+), size_t (\w+)\)\n\{/&\n    if (((const volatile uint8_t *)\1)[\2]) \2 += 0;/}' "$file" >"$made/planted.c"
 if cmp -s "$file" "$made/planted.c"; then false; fi
 for compiler in gcc clang; do

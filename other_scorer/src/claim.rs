@@ -121,6 +121,58 @@ pub fn pack(claim: &Claim) -> Vec<u8> {
     (bits << (64 - used)).to_be_bytes()[..used.div_ceil(8) as usize].to_vec()
 }
 
+/// What is to be claimed, as a caller gives it: a reading's shape, pair (34 none), codes of groups (68 none) and place, the gain, and the m of the hand.
+#[derive(Clone, Copy, Debug, PartialEq, Eq)]
+pub struct Fields {
+    pub gain: u32,
+    pub shape: u8,
+    pub pair: u8,
+    pub groups: [u8; 4],
+    pub place: u8,
+    pub m: u8,
+}
+
+impl Fields {
+    /// What a claim names, for a hand with m melds.
+    pub fn of(claim: &Claim, m: u8) -> Fields {
+        let none = Fields { gain: claim.gain, shape: 0, pair: 34, groups: [68; 4], place: 0, m };
+        match &claim.reading {
+            Reading::Regular { pair, groups, place } => {
+                let mut codes = groups.iter().map(|&group| code(group)).chain([68; 4]);
+                let groups = [(); 4].map(|_| codes.next().unwrap_or(68));
+                Fields { pair: *pair, groups, place: *place as u8, ..none }
+            }
+            Reading::SevenPairs => Fields { shape: 1, ..none },
+            Reading::ThirteenOrphans => Fields { shape: 2, ..none },
+        }
+    }
+
+    /// The bytes of their binary digits written one after the other, whether they fit or not.
+    fn bytes(&self) -> Vec<u8> {
+        let mut digits = format!("{:02b}", self.shape);
+        if self.shape == 0 {
+            digits += &format!("{:06b}", self.pair);
+            self.groups[..4 - self.m.min(4) as usize].iter().for_each(|code| digits += &format!("{code:07b}"));
+            digits += &format!("{:03b}", self.place);
+        }
+        digits += &format!("{:017b}", self.gain);
+        let byte = |eight: &[u8]| (0..8).fold(0, |byte, at| 2 * byte + eight.get(at).map_or(0, |digit| digit - b'0'));
+        digits.as_bytes().chunks(8).map(byte).collect()
+    }
+
+    /// Writes the claim at the start of a buffer and gives its length, or the refusal: 22 where what is read of it is not what was given, then 13.
+    pub fn write(&self, buffer: &mut [u8]) -> Result<usize, u8> {
+        let bytes = self.bytes();
+        let read = if self.m > 4 { None } else { parse(&bytes, self.m).ok() };
+        if read.map(|claim| Fields::of(&claim, self.m)) != Some(*self) {
+            return Err(FAULTY);
+        }
+        let room = buffer.get_mut(..bytes.len()).ok_or(13)?;
+        room.copy_from_slice(&bytes);
+        Ok(bytes.len())
+    }
+}
+
 /// The verdict on a claim among all readings of a sound hand with their gains; no gain where there is no yaku.
 fn verdict(claim: &Claim, gains: &[(Reading, Option<i32>)]) -> u8 {
     let most = gains.iter().filter_map(|(_, gain)| *gain).max();

@@ -2,8 +2,8 @@
 
 use crate::plan::Plan;
 use crate::record::{Hand, ORDINARY, RON, TSUMO};
-use crate::sound::refusal;
 use crate::rng::Rng;
+use crate::sound::refusal;
 use crate::themes::THEMES;
 use crate::tiles::dora_after;
 
@@ -35,7 +35,10 @@ fn attempt(rng: &mut Rng, plan: &Plan) -> Hand {
         discarder,
         riichi: plan.riichi.unwrap_or(rng.pick(&[0, 0, 0, 0, 1, 1, 2])),
         situation: plan.situation.unwrap_or(ordinary),
-        indicator: { let dora = rng.pick(&held); indicator(rng, dora) },
+        indicator: {
+            let dora = rng.pick(&held);
+            indicator(rng, dora)
+        },
         winning,
         m: plan.melds.len() as u8,
         ..Hand::default()

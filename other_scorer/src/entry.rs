@@ -10,9 +10,16 @@ pub enum Entry {
     Draw(u8),
     Chombo(u8),
     /// A multiple ron: so many rons on one tile, their records end to end (02, S-6).
-    MultiRon { number: u8, records: Vec<u8> },
+    MultiRon {
+        number: u8,
+        records: Vec<u8>,
+    },
     /// The feeder of a holder's yaku (02, S-8).
-    Pao { holder: u8, feeder: u8, yaku: u8 },
+    Pao {
+        holder: u8,
+        feeder: u8,
+        yaku: u8,
+    },
     /// A correction: the result that it carries, a win, draw, chombo or multiple ron, supersedes the last finished booking (02, S-10).
     Correction(Box<Entry>),
 }

@@ -1,10 +1,10 @@
 //! Records with one chosen fault, for refusals 2 to 5 (01, Read).
 
-use crate::deal::themed;
 use crate::codec::pack;
+use crate::deal::themed;
 use crate::record::{Hand, CHI, PON, RON, TSUMO};
-use crate::sound::{refusal, situation_faults};
 use crate::rng::Rng;
+use crate::sound::{refusal, situation_faults};
 use crate::tiles::starts_run;
 
 /// The number of faults that `record` makes.

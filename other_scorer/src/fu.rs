@@ -17,8 +17,7 @@ pub struct Items {
 }
 
 /// Seven pairs: a base of 25 alone (02, S-3).
-pub const SEVEN_PAIRS: Items =
-    Items { base: 25, closed_ron: 0, pair: 0, groups: [0; 4], wait: 0, tsumo: 0, rounding: 0 };
+pub const SEVEN_PAIRS: Items = Items { base: 25, closed_ron: 0, pair: 0, groups: [0; 4], wait: 0, tsumo: 0, rounding: 0 };
 
 impl Items {
     /// The items in order: base, closed ron, pair, the four groups, wait, tsumo, rounding (02, S-3).
@@ -42,7 +41,11 @@ fn set_fu(set: &Set) -> u8 {
         (true, false) => 8,
         (true, true) => 16,
     };
-    if is_yaochu(kind) { 2 * simple } else { simple }
+    if is_yaochu(kind) {
+        2 * simple
+    } else {
+        simple
+    }
 }
 
 /// The items of a regular reading; rounding is what was added up to tens, and an open 20's ten too (02, S-3).

@@ -257,9 +257,7 @@ impl Ledger {
             return earlier.after(new);
         }
         let mut next = Ledger { earlier: None, ..self.clone() };
-        next.scores = [0, 1, 2, 3].map(|seat| {
-            self.scores[seat as usize] + self.moved(entry, seat)
-        });
+        next.scores = [0, 1, 2, 3].map(|seat| self.scores[seat as usize] + self.moved(entry, seat));
         next.sticks = self.left(entry);
         next.counter = self.counted(entry);
         if let Riichi(seat) = entry {

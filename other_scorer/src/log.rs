@@ -72,7 +72,11 @@ pub fn size(rest: &[u8]) -> Result<usize, usize> {
         (CORRECTION, _) => return Err(7),
         _ => return Err(0),
     };
-    if size <= rest.len() { Ok(size) } else { Err(3) }
+    if size <= rest.len() {
+        Ok(size)
+    } else {
+        Err(3)
+    }
 }
 
 /// The entry at an offset, that very part of the log, from its header on (01, Next entry).

@@ -46,7 +46,11 @@ impl Open {
 
     /// A random choice that keeps the hand closed.
     pub fn closed(rng: &mut Rng) -> Open {
-        if rng.percent(70) { Open::No } else { Open::ClosedKans }
+        if rng.percent(70) {
+            Open::No
+        } else {
+            Open::ClosedKans
+        }
     }
 
     /// The meld kind for a group, if it becomes a meld; `kans` counts kans made so far.

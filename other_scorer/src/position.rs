@@ -198,7 +198,9 @@ fn wins(position: &mut Position, hands: &[Hand], first: u8) -> u8 {
     for hand in hands {
         let counter = if hand.winner == first { position.counter } else { 0 };
         match scored(position, hand) {
-            Ok(scored) => paid.extend(payments(position, hand, &scored, counter).into_iter().map(|(payer, points)| (payer, hand.winner, points))),
+            Ok(scored) => {
+                paid.extend(payments(position, hand, &scored, counter).into_iter().map(|(payer, points)| (payer, hand.winner, points)))
+            }
             Err(number) => return number,
         }
     }

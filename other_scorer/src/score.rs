@@ -1,7 +1,7 @@
 //! Score: every reading valued, the best reported (01, Score).
 
-use crate::reading::{readings, Reading};
 use crate::codec::read;
+use crate::reading::{readings, Reading};
 use crate::record::Hand;
 use crate::shape::Shape;
 use crate::win::Win;
@@ -109,10 +109,12 @@ pub fn appraise(win: &Win, reading: &Reading) -> Option<Value> {
 pub fn valued(hand: &Hand, dealer: u8, wind: u8) -> Vec<Valued> {
     let win = Win::new(hand, dealer, wind);
     let all = readings(hand.concealed(), hand.winning);
-    all.into_iter().map(|reading| {
-        let value = appraise(&win, &reading);
-        (reading, value)
-    }).collect()
+    all.into_iter()
+        .map(|reading| {
+            let value = appraise(&win, &reading);
+            (reading, value)
+        })
+        .collect()
 }
 
 /// The place in the list of the first reading with the highest gain, then h, then fu (01, Readings).

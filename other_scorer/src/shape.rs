@@ -122,9 +122,6 @@ impl Shape {
 
     /// Pinfu: closed, four runs, the place a run with no wait fu, pair no value tile (01, Yaku, 4).
     pub fn is_pinfu(&self, win: &Win) -> bool {
-        win.closed
-            && self.runs().len() == 4
-            && self.wait == Wait::TwoSided
-            && win.worth(self.pair) == 0
+        win.closed && self.runs().len() == 4 && self.wait == Wait::TwoSided && win.worth(self.pair) == 0
     }
 }

@@ -17,7 +17,11 @@ pub fn suit(kind: u8) -> Option<u8> {
 
 /// The number on a suit tile, 1 to 9; 0 for an honour (01, Tiles).
 pub fn rank(kind: u8) -> u8 {
-    if kind < EAST { kind % 9 + 1 } else { 0 }
+    if kind < EAST {
+        kind % 9 + 1
+    } else {
+        0
+    }
 }
 
 /// Honours are the winds and dragons (01, Tiles).

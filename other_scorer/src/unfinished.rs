@@ -94,11 +94,46 @@ pub fn read(bytes: &[u8]) -> Result<Unfinished, u8> {
     }
 }
 
+/// The bytes of a string of bits, "zero bits to the byte".
+fn from_bits(bits: &str) -> Vec<u8> {
+    let byte = |at: usize| u8::from_str_radix(&format!("{:0<8}", &bits[at..bits.len().min(at + 8)]), 2).expect("bits");
+    (0..bits.len()).step_by(8).map(byte).collect()
+}
+
 /// The bytes of a hand, sound or not.
 pub fn pack(hand: &Unfinished) -> Vec<u8> {
     let melds = hand.melds().iter().map(|meld| format!("{:02b}{:06b}", meld.kind & 3, meld.tile & 63));
     let tiles = hand.concealed().iter().map(|tile| format!("{:06b}", tile & 63));
-    let bits = format!("{:03b}{}{}", hand.m, melds.collect::<String>(), tiles.collect::<String>());
-    let byte = |at: usize| u8::from_str_radix(&format!("{:0<8}", &bits[at..bits.len().min(at + 8)]), 2).expect("bits");
-    (0..bits.len()).step_by(8).map(byte).collect()
+    from_bits(&format!("{:03b}{}{}", hand.m, melds.collect::<String>(), tiles.collect::<String>()))
+}
+
+/// Bytes into the lent buffer, and their length; the error is refusal 13.
+fn put(bytes: &[u8], buffer: &mut [u8]) -> Result<usize, u8> {
+    buffer.get_mut(..bytes.len()).ok_or(13)?.copy_from_slice(bytes);
+    Ok(bytes.len())
+}
+
+/// Writes a hand into the lent buffer and gives the length; the error is refusal 2 to 4 or 13: "m over 4, a field too large for its
+/// bits, or an unused place not zero" (01, Write), and then what the bytes are refused for when they are read.
+pub fn write(hand: &Unfinished, buffer: &mut [u8]) -> Result<usize, u8> {
+    let m = hand.m as usize;
+    if m > 4 {
+        return Err(2);
+    }
+    let unused = hand.melds[m..].iter().any(|&meld| meld != Meld::default()) || hand.concealed[13 - 3 * m..].iter().any(|&tile| tile != 0);
+    let large = hand.melds().iter().any(|meld| meld.kind > 3 || meld.tile > 63) || hand.concealed().iter().any(|&tile| tile > 63);
+    if unused || large {
+        return Err(2);
+    }
+    let bytes = pack(hand);
+    read(&bytes)?;
+    put(&bytes, buffer)
+}
+
+/// The unfinished hand that a record is without its winning tile, into the lent buffer; the error is refusal 1 to 5 or 13. Its bits
+/// are the record's own, from the meld count on, which has 22 before it: "81 − 10m bits".
+pub fn from_record(record: &[u8], buffer: &mut [u8]) -> Result<usize, u8> {
+    let m = crate::codec::read(record)?.m as usize;
+    let bits: String = record.iter().map(|byte| format!("{byte:08b}")).collect();
+    put(&from_bits(&bits[22..22 + 81 - 10 * m]), buffer)
 }

@@ -1,9 +1,9 @@
 //! The vectors of the generated file: a record, dealer and wind, and what they score.
 
+use crate::codec::pack;
 use crate::damage::{damaged, noise};
 use crate::deal::{deal, drawn, near, themed};
 use crate::fault::{self, FAULTS};
-use crate::codec::pack;
 use crate::record::Hand;
 use crate::rng::Rng;
 use crate::score::{best, score, valued, Scored, Valued};

@@ -10,7 +10,11 @@ pub type Yaku = (u8, u8);
 
 /// One han less when the hand is open (01, Yaku, "−1").
 fn less_open(win: &Win, han: u8) -> u8 {
-    if win.closed { han } else { han - 1 }
+    if win.closed {
+        han
+    } else {
+        han - 1
+    }
 }
 
 /// Yaku from how the hand was won: 1, 6 to 11 (01, Yaku).

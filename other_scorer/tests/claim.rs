@@ -1,6 +1,6 @@
 //! Claims (02, S-13), by hand and of random hands.
 
-use other_scorer::claim::{judge, pack, parse, Claim, Judged};
+use other_scorer::claim::{judge, pack, parse, Claim, Fields, Judged};
 use other_scorer::codec;
 use other_scorer::deal::themed;
 use other_scorer::notation::hex::{from_hex, to_hex};
@@ -86,6 +86,9 @@ fn every_reading_there_and_back() {
             let gain = value.map_or(0, |value| value.gain as u32);
             let claim = Claim { reading: reading.clone(), gain };
             let bytes = pack(&claim);
+            let mut buffer = [0x5a; 8];
+            assert_eq!(Fields::of(&claim, hand.m).write(&mut buffer), Ok(bytes.len()));
+            assert!(buffer[..bytes.len()] == bytes && buffer[bytes.len()..].iter().all(|&byte| byte == 0x5a));
             assert_eq!(parse(&bytes, hand.m), Ok(claim));
             let judged = judge(&record, &bytes, dealer, wind);
             let most = best(&all).and_then(|at| all[at].1).map(|value| value.gain);
@@ -99,4 +102,55 @@ fn every_reading_there_and_back() {
         }
     }
     assert!(accepted > 1000);
+}
+
+#[test]
+fn written_or_refused() {
+    let five = Fields { gain: 5200, shape: 0, pair: 22, groups: [0, 0, 15, 15], place: 0, m: 0 };
+    let three = Fields { gain: 12000, shape: 0, pair: 27, groups: [52, 68, 68, 68], place: 1, m: 3 };
+    let pairs = Fields { gain: 1600, shape: 1, pair: 34, groups: [68; 4], place: 0, m: 0 };
+    let write = |given: Fields, length: usize| {
+        let mut buffer = vec![0x5a; length];
+        (given.write(&mut buffer), buffer)
+    };
+    assert_eq!(write(five, 8), (Ok(7), vec![22, 0, 0, 120, 240, 20, 80, 0x5a]));
+    assert_eq!(write(three, 5), (Ok(5), vec![27, 104, 69, 220, 0]));
+    assert_eq!(write(pairs, 3), (Ok(3), vec![64, 200, 0]));
+    assert_eq!(write(Fields { m: 4, ..pairs }, 3), (Ok(3), vec![64, 200, 0]));
+    assert_eq!(write(Fields { gain: 131_071, ..pairs }, 3), (Ok(3), vec![127, 255, 224]));
+    for (given, length) in [(five, 6), (three, 4), (pairs, 2), (pairs, 0)] {
+        assert_eq!(write(given, length), (Err(13), vec![0x5a; length]), "{given:?}");
+    }
+    for given in [
+        Fields { shape: 3, ..pairs },
+        Fields { shape: 4, ..five },
+        Fields { shape: 0, ..pairs },
+        Fields { shape: 1, ..five },
+        Fields { pair: 33, ..pairs },
+        Fields { place: 1, ..pairs },
+        Fields { groups: [68, 68, 68, 0], ..pairs },
+        Fields { pair: 34, ..five },
+        Fields { pair: 64, ..five },
+        Fields { groups: [0, 15, 0, 15], ..five },
+        Fields { groups: [0, 0, 15, 16], ..five },
+        Fields { groups: [0, 0, 15, 68], ..five },
+        Fields { groups: [0, 0, 15, 128], ..five },
+        Fields { groups: [52, 53, 68, 68], ..three },
+        Fields { groups: [68; 4], ..three },
+        Fields { place: 5, ..five },
+        Fields { place: 8, ..five },
+        Fields { place: 2, ..three },
+        Fields { gain: 131_072, ..five },
+        Fields { gain: 131_072, ..pairs },
+        Fields { gain: u32::MAX, ..three },
+        Fields { m: 1, ..five },
+        Fields { m: 2, ..three },
+        Fields { m: 4, ..three },
+        Fields { m: 5, ..pairs },
+        Fields { m: 255, ..pairs },
+    ] {
+        for length in 0..9 {
+            assert_eq!(write(given, length), (Err(22), vec![0x5a; length]), "{given:?}");
+        }
+    }
 }

@@ -56,7 +56,10 @@ fn the_worst_list_reaches_the_lowest_score() {
     }
     // Seat 2 is the first after seat 1, and takes the stick and the counters.
     assert_eq!(position.scores, [9_630_000, LOWEST, 12_401_000, 6_430_000]);
-    assert_eq!((position.hands, position.over, position.dealer, position.wind, position.sticks, position.counter), (200, true, 0, 0, 0, 200));
+    assert_eq!(
+        (position.hands, position.over, position.dealer, position.wind, position.sticks, position.counter),
+        (200, true, 0, 0, 0, 200)
+    );
     assert_eq!((FLOOR, LOWEST - FLOOR), (-28_540_000, 199 * 1000));
     for entry in [Entry::Riichi(1), win, Entry::Draw(8), Entry::Chombo(1), Entry::Pao { holder: 0, feeder: 1, yaku: 28 }] {
         let before = position;

@@ -5,8 +5,8 @@ use other_scorer::deal::themed;
 use other_scorer::fu::Items;
 use other_scorer::notation::parse;
 use other_scorer::rng::Rng;
-use other_scorer::score::valued;
 use other_scorer::score;
+use other_scorer::score::valued;
 use other_scorer::vector::make;
 
 /// The items of a hand's score, dealer 0, East.

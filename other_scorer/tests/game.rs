@@ -86,8 +86,7 @@ fn fresh_is_open_and_the_floor_itself_is_in_form() {
 
 #[test]
 fn refusals_1_to_7_are_met_one_by_one() {
-    let numbers: Vec<u8> =
-        refused().into_iter().map(|record| number(&Position::fresh(), Entry::Win(record))).collect();
+    let numbers: Vec<u8> = refused().into_iter().map(|record| number(&Position::fresh(), Entry::Win(record))).collect();
     assert_eq!(numbers, vec![1, 2, 3, 4, 5, 6, 7]);
 }
 
@@ -119,7 +118,12 @@ fn riichi_refuses_under_1_000_with_21_after_10() {
         assert_eq!(number(&with_points(points), Entry::Riichi(2)), 0);
         assert_eq!(number(&with_points(points), Entry::Riichi(4)), 8);
         assert_eq!(number(&Position { over: true, ..with_points(points) }, Entry::Riichi(1)), 9);
-        let declared = Position { declared: [false, true, false, false], sticks: 1, scores: [29_000, points, 60_000 - points, 30_000], ..Position::fresh() };
+        let declared = Position {
+            declared: [false, true, false, false],
+            sticks: 1,
+            scores: [29_000, points, 60_000 - points, 30_000],
+            ..Position::fresh()
+        };
         assert_eq!(number(&declared, Entry::Riichi(1)), 10);
     }
     for points in [1000, 1001, 1100, 1999, 2000, 30_000] {
@@ -133,7 +137,8 @@ fn riichi_refuses_under_1_000_with_21_after_10() {
 #[test]
 fn after_a_riichi_with_21_a_win_with_riichi_marked_meets_11() {
     let start = with_points(999);
-    let marked = [Entry::Win(pinfu(1, 3, &["riichi"])), Entry::Win(pinfu(1, 3, &["double"])), rons(&[pinfu(1, 3, &["riichi"]), pinfu(2, 3, &[])])];
+    let marked =
+        [Entry::Win(pinfu(1, 3, &["riichi"])), Entry::Win(pinfu(1, 3, &["double"])), rons(&[pinfu(1, 3, &["riichi"]), pinfu(2, 3, &[])])];
     for entry in marked {
         let mut position = start;
         assert_eq!((riichi(&mut position, 1), book(&mut position, &entry)), (21, 11));
@@ -315,7 +320,10 @@ fn a_position_may_be_at_the_ends_of_its_range() {
     let mut position = most;
     assert_eq!((riichi(&mut position, 0), position), (21, most));
     assert_eq!(draw(&mut position, 0b0001), 0);
-    assert_eq!((position.scores, position.sticks, position.is_open()), ([FLOOR - 1000, FLOOR - 1000, FLOOR - 1000, FLOOR + 3000], 114_280, false));
+    assert_eq!(
+        (position.scores, position.sticks, position.is_open()),
+        ([FLOOR - 1000, FLOOR - 1000, FLOOR - 1000, FLOOR + 3000], 114_280, false)
+    );
 }
 
 #[test]
@@ -390,7 +398,9 @@ fn pao_refuses_8_9_18() {
         assert_eq!(number(&Position::fresh(), pao_of(2, 2, yaku)), 18);
     }
     // Named already, with whatever feeder; another holder, or the other yaku, is free.
-    for (entry, refusal) in [(pao_of(1, 3, 28), 18), (pao_of(1, 0, 28), 18), (pao_of(1, 3, 29), 0), (pao_of(2, 3, 28), 0), (pao_of(3, 1, 28), 0)] {
+    for (entry, refusal) in
+        [(pao_of(1, 3, 28), 18), (pao_of(1, 0, 28), 18), (pao_of(1, 3, 29), 0), (pao_of(2, 3, 28), 0), (pao_of(3, 1, 28), 0)]
+    {
         assert_eq!(number(&named, entry), refusal);
     }
 }
@@ -538,7 +548,11 @@ fn a_multiple_ron_refuses_9_17_then_read_then_17_then_6_7_11() {
     for (at, unsound) in refused().into_iter().enumerate().take(5) {
         let refusal = at as u8 + 1;
         // The record that is cut takes a byte of the next one, which is cut then.
-        for rest in [vec![tsumo.clone()], vec![sound[0].clone(), sound[0].clone()], vec![record(&["456p78s234s99p+9s", "chi=123m", "seat=1", "ron=3"])]] {
+        for rest in [
+            vec![tsumo.clone()],
+            vec![sound[0].clone(), sound[0].clone()],
+            vec![record(&["456p78s234s99p+9s", "chi=123m", "seat=1", "ron=3"])],
+        ] {
             for place in 0..=rest.len() {
                 let mut list = rest.clone();
                 list.insert(place, unsound.clone());
@@ -691,7 +705,14 @@ fn a_correction_is_as_if_the_superseded_booking_was_never_made() {
 #[test]
 fn what_a_correction_gives_back() {
     // Two sticks, two counters, the deal of seat 1, seats 0 and 2 declared, seat 3 named for seat 1's dragons.
-    let start = Position { scores: [29_000, 30_000, 29_000, 30_000], sticks: 2, declared: [true, false, true, false], dealer: 1, hands: 5, ..Position::fresh() };
+    let start = Position {
+        scores: [29_000, 30_000, 29_000, 30_000],
+        sticks: 2,
+        declared: [true, false, true, false],
+        dealer: 1,
+        hands: 5,
+        ..Position::fresh()
+    };
     let start = Position { counter: 2, feeders: [0, 4, 0, 0, 0, 0, 0, 0], ..start };
     let mut game = Game::lent(start, None);
     assert_eq!(game.book(&Entry::Win(pinfu(3, 1, &[]))), 0);
@@ -721,7 +742,13 @@ fn none_to_supersede_is_20() {
             assert_eq!((game.book(&Entry::Chombo(0)), number_in(&game, new.clone())), (0, 0));
         }
         // Bookings that are refused are none.
-        let list = [(Entry::Riichi(4), 8), (pao_of(1, 1, 28), 18), (Entry::Draw(16), 8), (Entry::Win(vec![]), 1), (Entry::Chombo(4).as_correction(), 8)];
+        let list = [
+            (Entry::Riichi(4), 8),
+            (pao_of(1, 1, 28), 18),
+            (Entry::Draw(16), 8),
+            (Entry::Win(vec![]), 1),
+            (Entry::Chombo(4).as_correction(), 8),
+        ];
         let mut game = won.clone();
         list.iter().for_each(|(entry, number)| assert_eq!(game.book(entry), *number));
         assert_eq!((&game, number_in(&game, new.clone())), (&won, 0));
@@ -812,10 +839,13 @@ fn twenty_comes_before_all_else_but_9_for_a_game_out_of_form() {
         for new in corrections().into_iter().chain(unfit.clone().map(Entry::as_correction)) {
             assert_eq!(number_in(&Game::lent(position, None), new.clone()), if over { 20 } else { 9 });
             // With a result to supersede a position that is over is no hindrance, one out of form is.
-            let wanted = other_scorer::position::book(&mut Position::fresh(), match &new {
-                Entry::Correction(new) => new,
-                _ => unreachable!("a correction"),
-            });
+            let wanted = other_scorer::position::book(
+                &mut Position::fresh(),
+                match &new {
+                    Entry::Correction(new) => new,
+                    _ => unreachable!("a correction"),
+                },
+            );
             assert_eq!(number_in(&Game::lent(position, Some(Position::fresh())), new), if over { wanted } else { 9 });
         }
     }

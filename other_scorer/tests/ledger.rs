@@ -1,8 +1,8 @@
 //! The game against the ledger over random lists of entries (01, Ledger; 02, S-5 to S-8, S-10 and S-11).
 
-mod chance;
 #[path = "chance/cases.rs"]
 mod cases;
+mod chance;
 #[path = "chance/positions.rs"]
 mod positions;
 
@@ -22,7 +22,10 @@ fn ledger(position: &Position, earlier: Option<Position>) -> Ledger {
         hands: position.hands as u32,
         over: position.over,
         counter: position.counter as i64,
-        pao: (0..4).flat_map(|holder| [28, 29].map(|yaku| ((holder, yaku), position.feeder(holder, yaku)))).filter_map(|(key, seat)| Some((key, seat?))).collect(),
+        pao: (0..4)
+            .flat_map(|holder| [28, 29].map(|yaku| ((holder, yaku), position.feeder(holder, yaku))))
+            .filter_map(|(key, seat)| Some((key, seat?)))
+            .collect(),
         earlier: earlier.map(|earlier| Box::new(ledger(&earlier, None))),
     }
 }

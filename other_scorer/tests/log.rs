@@ -134,7 +134,8 @@ fn corrections_of_every_entry_and_every_cut() {
     for round in 0..200u8 {
         let number = 1 + round % 3;
         let records = (0..number).flat_map(|_| record(&mut rng)).collect();
-        let inside = [Entry::Win(record(&mut rng)), Entry::Draw(round % 16), Entry::Chombo(round % 16), Entry::MultiRon { number, records }];
+        let inside =
+            [Entry::Win(record(&mut rng)), Entry::Draw(round % 16), Entry::Chombo(round % 16), Entry::MultiRon { number, records }];
         for new in inside {
             let entry = new.clone().as_correction();
             let part = entry.bytes();
@@ -175,7 +176,8 @@ fn another_kind_of_entry_in_a_correction_is_bad() {
 #[test]
 fn lines_of_corrections() {
     // Nothing to put right; a win, put right by a draw that ends nothing, by a chombo; one refused; riichi; one too late.
-    let log = [&[0x60, 0x20, 0x10], &LINE_1[..], &[0x60, 0x28, 0x60, 0x31, 0x60, 0x3F, 0x04, 0x60, 0x10], &LINE_1[..], &[0x02, 0x60, 0x2F]].concat();
+    let log = [&[0x60, 0x20, 0x10], &LINE_1[..], &[0x60, 0x28, 0x60, 0x31, 0x60, 0x3F, 0x04, 0x60, 0x10], &LINE_1[..], &[0x02, 0x60, 0x2F]]
+        .concat();
     let lines = "1 X 20 30000 30000 30000 30000 0\n2 W 0 30000 32000 30000 28000 0\n3 X 0 33000 29000 29000 29000 0\n\
         4 X 0 33000 21000 33000 33000 0\n5 X 8 33000 21000 33000 33000 0\n6 R 8 33000 21000 33000 33000 0\n\
         7 X 0 30000 32000 30000 28000 0\n8 R 0 30000 32000 29000 28000 1\n9 X 20 30000 32000 29000 28000 1\n";

@@ -52,11 +52,9 @@ fn round_trips_of_hands_refused_with_4_or_5() {
 fn tiles_come_in_any_order() {
     let sorted = hand("234567m345p2267s+8s seat=1 ron=3");
     assert!(sorted.is_ok());
-    for line in [
-        "234567m345p67s22s+8s seat=1 ron=3",
-        "7s354p2s6s2s765432m+8s ron=3 seat=1 indicator=4z",
-        "234567m 345p 67s 22s +8s seat=1 ron=3",
-    ] {
+    for line in
+        ["234567m345p67s22s+8s seat=1 ron=3", "7s354p2s6s2s765432m+8s ron=3 seat=1 indicator=4z", "234567m 345p 67s 22s +8s seat=1 ron=3"]
+    {
         assert_eq!(hand(line), sorted);
     }
     let open = hand("567m456p67s22p+8s chi=423m seat=1 ron=3");

@@ -15,9 +15,7 @@ fn code(group: &Group) -> u8 {
 /// A regular reading as numbers: pair kind, codes, place.
 fn numbers(reading: &Reading) -> Option<(u8, Vec<u8>, usize)> {
     match reading {
-        Reading::Regular { pair, groups, place } => {
-            Some((*pair, groups.iter().map(code).collect(), *place))
-        }
+        Reading::Regular { pair, groups, place } => Some((*pair, groups.iter().map(code).collect(), *place)),
         _ => None,
     }
 }

@@ -1,7 +1,7 @@
 //! Reading and writing records (01, Tiles and the hand record).
 
-use other_scorer::deal::{drawn, near, themed};
 use other_scorer::codec::pack;
+use other_scorer::deal::{drawn, near, themed};
 use other_scorer::record::*;
 use other_scorer::rng::Rng;
 use other_scorer::{read, write, Hand, Meld};

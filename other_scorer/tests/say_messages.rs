@@ -61,7 +61,10 @@ fn limits_and_other_dealers() {
     let four = plain("111m333p555s77s99s+7s seat=1 ron=3");
     assert!(four.windows(2).any(|two| two == [70, 71]), "{four:?}");
     let dealer = plain("234567m345p2267s+8s seat=0 tsumo");
-    assert_eq!(dealer, [60, 65, 141, 142, 144, 3, 69, 11, 70, 61, 66, 28, 21, 68, 62, 66, 28, 21, 68, 63, 66, 28, 21, 68, 60, 67, 30, 27, 68]);
+    assert_eq!(
+        dealer,
+        [60, 65, 141, 142, 144, 3, 69, 11, 70, 61, 66, 28, 21, 68, 62, 66, 28, 21, 68, 63, 66, 28, 21, 68, 60, 67, 30, 27, 68]
+    );
 }
 
 #[test]
@@ -69,9 +72,11 @@ fn scores_of_a_game() {
     let fresh = Position::fresh();
     assert_eq!(scores(1, &fresh), Ok([60, 61, 62, 63].map(|player| [player, 3, 37, 68]).concat()));
     let position = Position { scores: [-500, 41_000, 0, i32::MIN], sticks: 1, counter: 12, dealer: 7, ..fresh };
-    let mandarin = vec![61, 76, 23, 68, 62, 4, 37, 28, 68, 63, 0, 68, 60, 76, 11, 1, 38, 31, 25, 13, 8, 37, 30, 24, 13, 8, 68, 77, 1, 78, 10, 2];
+    let mandarin =
+        vec![61, 76, 23, 68, 62, 4, 37, 28, 68, 63, 0, 68, 60, 76, 11, 1, 38, 31, 25, 13, 8, 37, 30, 24, 13, 8, 68, 77, 1, 78, 10, 2];
     assert_eq!(scores(4, &position), Ok(mandarin));
-    let english = vec![61, 76, 23, 68, 62, 13, 1, 51, 68, 63, 0, 68, 60, 76, 2, 53, 19, 13, 7, 52, 22, 17, 3, 51, 24, 13, 8, 68, 77, 1, 78, 43];
+    let english =
+        vec![61, 76, 23, 68, 62, 13, 1, 51, 68, 63, 0, 68, 60, 76, 2, 53, 19, 13, 7, 52, 22, 17, 3, 51, 24, 13, 8, 68, 77, 1, 78, 43];
     assert_eq!(scores(2, &position), Ok(english));
     assert_eq!(scores(3, &Position { dealer: 255, ..position }), scores(3, &Position { dealer: 3, ..position }));
 }

@@ -97,7 +97,10 @@ fn the_reported_one_has_the_figures_of_score() {
             (Some(one), 0) => {
                 let scored = vector.scored;
                 let own = one.value;
-                assert_eq!((own.h, own.fu, own.items, own.yaku, own.changes), (scored.h, scored.fu, scored.items, scored.yaku, scored.changes));
+                assert_eq!(
+                    (own.h, own.fu, own.items, own.yaku, own.changes),
+                    (scored.h, scored.fu, scored.items, scored.yaku, scored.changes)
+                );
                 assert!(list.iter().all(|other| other.value.gain <= own.gain));
             }
             (None, 6 | 7) => {}

@@ -1,7 +1,7 @@
 //! Lines 1 to 12 of document 01's table of hands.
 
-use other_scorer::notation::hand;
 use other_scorer::codec::pack;
+use other_scorer::notation::hand;
 use other_scorer::record::{CHI, RON, TSUMO};
 use other_scorer::{points, score, Scored};
 

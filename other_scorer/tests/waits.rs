@@ -38,7 +38,10 @@ fn waits_by_hand() {
     }
     let kan = Meld { kind: CLOSED_KAN, tile: 22 };
     assert_eq!(waits(&hand("123m456m99p46s", &[kan])), []);
-    assert_eq!(text(&waits(&hand("E", &[kan, Meld { kind: PON, tile: 0 }, Meld { kind: PON, tile: 1 }, Meld { kind: PON, tile: 2 }]))), "E");
+    assert_eq!(
+        text(&waits(&hand("E", &[kan, Meld { kind: PON, tile: 0 }, Meld { kind: PON, tile: 1 }, Meld { kind: PON, tile: 2 }]))),
+        "E"
+    );
 }
 
 #[test]

@@ -1,7 +1,7 @@
 //! Each yaku on a hand written out (01, Yaku; Fu and points).
 
-use other_scorer::notation::hand;
 use other_scorer::codec::pack;
+use other_scorer::notation::hand;
 use other_scorer::record::*;
 use other_scorer::{score, Hand, Scored};
 

@@ -186,8 +186,10 @@ class Cases:
             for _ in range(TURNS):
                 name = self.rng.choice([n for n in names if left[n]] or names[:1])
                 left[name] = max(0, left[name] - 1)
-                if any(p.type == "HbHand" for p in self.header.calls[self.number[name]].parameters):
+                if any(p.type in ("HbHand", "HbHeld") for p in self.header.calls[self.number[name]].parameters):
                     self.make("hb_read")
+                if name == "hb_write_claim":
+                    self.make("hb_reading")
                 given = {"buf": self.header.constants["HB_CARDS_MAX"]} if name == "hb_cards" and self.rng.random() < 0.8 else {}
                 self.make(name, damage=1 / 3, **given)
 

@@ -3,7 +3,7 @@
 
 The same file is compiled for the host, over the archive, and for the board. A case is the number of a call and its arguments: numbers, the least
 significant byte first; lent bytes with their length in two bytes before them; of a buffer only its length. A struct that a call takes is the last
-one of its type that came back. Case 255 changes a byte of such a struct. An answer's sum is over every member of what comes back, the structs that
+one of its type that came back; a claim, which none gives, is that of the last reading, with a meld for each 68 among its groups. Case 255 changes a byte of such a struct. An answer's sum is over every member of what comes back, the structs that
 were lent, and the buffer with eight bytes after it; bytes between members are left out."""
 import sys
 
@@ -60,6 +60,13 @@ static uint32_t answer(uint8_t call)
 """
 
 
+# of a struct that came back, what is kept beside it
+CLAIM = """    uint8_t melds = 0;
+    for (int i = 0; i < 4; i++) melds += x->shape == 0 && x->groups[i] == 68;
+    last_HbClaim = (HbClaim){x->gain, x->shape, x->pair, {x->groups[0], x->groups[1], x->groups[2], x->groups[3]}, x->place, melds};"""
+BESIDE = {"HbReading": [CLAIM]}
+
+
 def sum_of(header, kind):
     """The function that sums a struct up, and keeps it where calls take such a one."""
     lines = [f"static void add_{kind}(const {kind} *x)", "{"]
@@ -67,7 +74,7 @@ def sum_of(header, kind):
         at = f"x->{name}" + ("[i]" if length else "")
         one = f"add_{t}(&{at});" if t in header.structs else f"add((uint32_t){at}, {NUMBERS[t]});"
         lines.append(f"    for (int i = 0; i < {length}; i++) {one}" if length else f"    {one}")
-    return lines + [f"    last_{kind} = *x;"] * (kind in header.taken()) + ["}"]
+    return lines + [f"    last_{kind} = *x;"] * (kind in header.taken()) + BESIDE.get(kind, []) + ["}"]
 
 
 def call_of(header, call):
@@ -104,7 +111,8 @@ def main():
     for kind in header.taken():
         print(f"static {kind} last_{kind};")
     for kind in header.structs:  # a struct is declared after those in it
-        print("\n".join(sum_of(header, kind)))
+        if kind in header.given():
+            print("\n".join(sum_of(header, kind)))
     for call in header.calls:
         print("\n".join(call_of(header, call)))
     cases = "\n".join(f"    case {i}: make_{call.name}(); break;" for i, call in enumerate(header.calls))

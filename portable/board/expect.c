@@ -11,7 +11,6 @@
 static uint8_t cases[1 << 20];
 static unsigned long made[256], accepted[256];
 
-
 int main(int argc, char **argv)
 {
     int missing = 0;

@@ -64,6 +64,16 @@ class Header:
         """A struct with a size_t in it, which is laid out otherwise on 32 bits."""
         return any(t == "size_t" or (t in self.structs and self.has_size(t)) for _, t, _ in self.structs[kind])
 
+    def given(self):
+        """The structs that calls give, or are lent, with those in them."""
+        kinds, left = set(), [call.result for call in self.calls] + [p.type for call in self.calls for p in call.parameters if p.kind == "pointer"]
+        while left:
+            kind = left.pop()
+            if kind in self.structs and kind not in kinds:
+                kinds.add(kind)
+                left += [t for _, t, _ in self.structs[kind]]
+        return kinds
+
     def taken(self):
         """The structs that calls take."""
         return sorted({p.type for call in self.calls for p in call.parameters if p.kind in ("struct", "pointer")})

@@ -67,7 +67,7 @@ class Build:
                 sys.exit(f"report.py: {self.name}: {name}: stack {call.painted} painted, {self.stack[name]} by the call graph: "
                          "is a depth of depths.txt too small?")
         if self.ram or not self.test:
-            sys.exit(f"report.py: {self.name}: {self.ram} bytes of RAM, test.c {'passes' if self.test else 'fails'}")
+            sys.exit(f"report.py: {self.name}: {self.ram} bytes of RAM, interface/tests/ {'passes' if self.test else 'fails'}")
 
     def worst(self):
         """The deepest stack of any call, by the call graph where there is one."""
@@ -135,7 +135,7 @@ def cost_page(builds, counts, qemu, digest):
     calls = f"{len(counts)} calls with {number(builds[0].answers())} cases"
     return [
         f"Of the file with the MIR {digest}.",
-        f"Every build below gives the x86-64 archive's answers to all {calls} on qemu {qemu}, passes `interface/test.c` "
+        f"Every build below gives the x86-64 archive's answers to all {calls} on qemu {qemu}, passes `interface/tests/` "
         f"({number(int(builds[0].test.group(1)))} checks) and prints what `examples/firmware.c` prints on the host.",
         "Flash is code and constants in bytes, with what the compiler's library adds (memcpy, division); no RAM is used but stack. "
         f"Stack is in bytes, by gcc's call graph where not painted. Score's instructions are of the first {number(builds[0].calls['hb_score'].timed)} hands "

@@ -1,8 +1,9 @@
 #!/usr/bin/env python3
 """Wrong generators must be found: mutants.py LIBRARY RLIBS..
 
-Each edit makes the generator wrong in one place. It is found where the generator stops, gcc with -Werror refuses the file, interface/test.c fails
+Each edit makes the generator wrong in one place. It is found where the generator stops, gcc with -Werror refuses the file, interface/tests/ fails
 or does not end, or small.py fails. Exit status 1 if one is not found."""
+import glob
 import os
 import shutil
 import subprocess
@@ -75,7 +76,7 @@ def found_by(generator, folder, test, given):
     run(*GCC, test, program + ".o", "-o", program)
     status, last = run(program)
     if status != 0:
-        return f"test.c: {last}"
+        return f"interface/tests/: {last}"
     return None if run(sys.executable, "-B", os.path.join(HERE, "small.py"), generator)[0] == 0 else "small.py"
 
 
@@ -83,7 +84,7 @@ def main():
     alive = 0
     with tempfile.TemporaryDirectory() as folder:
         test, generator = os.path.join(folder, "test.o"), os.path.join(folder, "generator")
-        run(*GCC, "-c", os.path.join(ROOT, "interface", "test.c"), "-o", test)
+        run(*GCC, "-r", "-nostdlib", *glob.glob(os.path.join(ROOT, "interface", "tests", "*.c")), "-o", test)
         if found_by(GENERATOR, folder, test, sys.argv[1:]):
             sys.exit("mutants.py: the generator itself is found wrong")
         for module, old, new in EDITS:

@@ -1,3 +1,4 @@
 pub mod Tiles
 pub mod Draws
 pub mod Exact
+pub mod One

@@ -1,5 +1,5 @@
 -- The theorems of S-13 (02), over every record and claim; `Judge` has the theorem that there is exactly one answer.
-use Prim.Native.Nat.{ℕ, _≤_, _<_}
+use Prim.Native.Nat.{ℕ, _≤_}
 use mathlib.Core.Path.{_≡_}
 use mathlib.Core.List.{List}
 use mathlib.Core.Logic.{_↔_}
@@ -8,10 +8,10 @@ use lib.ListN.{getD}
 use Rattle.hand.specs.declared.Hand.{Hand}
 use Rattle.hand_record.specs.Record.{handOf, readOf, IsSound}
 use Rattle.reading.specs.declared.Reading.{Reading}
-use Rattle.score.specs.Named.{IsReadingOf, ReadsWithYaku, IsReported, gainIn}
+use Rattle.score.specs.Named.{IsReported, gainIn}
 use Rattle.score.specs.Score.{scoreOf}
 use Rattle.claim.specs.Claim.{Names}
-use Rattle.claim.specs.Verdict.{PaysMost}
+use Rattle.claim.specs.Verdict.{IsVerdict}
 use Rattle.claim.specs.IsJudged.{refusedWith, NamedWith}
 use Rattle.claim.specs.Judge.{judgedOf, HasVerdict}
 use Rattle.claim.specs.laws.Judged as laws
@@ -22,29 +22,10 @@ module _ (s : List ℕ) where
   hand = handOf (readOf s)
 
   module _ (claim : List ℕ) (dealer wind : ℕ) where
-    -- "a claim is accepted exactly when its reading is one of those tiles, has a yaku, pays that gain, and no other reading of them with a yaku pays more"
-    pub accepted-exactly : HasVerdict s claim dealer wind 0
-        ↔ NamedWith s claim dealer wind (λ r g. ReadsWithYaku hand dealer wind r × (gainIn hand dealer wind r ≡ g) × PaysMost hand dealer wind r)
-    accepted-exactly = laws.exactly s claim dealer wind 0
-
-    -- "Otherwise it names the first of these four that is false": it is no reading of those tiles
-    pub one-exactly : HasVerdict s claim dealer wind 1 ↔ NamedWith s claim dealer wind (λ r g. IsReadingOf hand r → ⊥)
-    one-exactly = laws.exactly s claim dealer wind 1
-
-    -- it is one, without a yaku
-    pub two-exactly : HasVerdict s claim dealer wind 2 ↔ NamedWith s claim dealer wind (λ r g. IsReadingOf hand r × (ReadsWithYaku hand dealer wind r → ⊥))
-    two-exactly = laws.exactly s claim dealer wind 2
-
-    -- it has one, and does not pay that gain
-    pub three-exactly : HasVerdict s claim dealer wind 3 ↔ NamedWith s claim dealer wind
-        (λ r g. ReadsWithYaku hand dealer wind r × (gainIn hand dealer wind r ≡ g → ⊥))
-    three-exactly = laws.exactly s claim dealer wind 3
-
-    -- it does, and another reading with a yaku pays more
-    pub four-exactly : HasVerdict s claim dealer wind 4
-        ↔ NamedWith s claim dealer wind (λ r g. ReadsWithYaku hand dealer wind r × (gainIn hand dealer wind r ≡ g)
-        × ((q : Reading) × ReadsWithYaku hand dealer wind q × (g < gainIn hand dealer wind q)))
-    four-exactly = laws.exactly s claim dealer wind 4
+    -- "a claim is accepted exactly when .." the four conditions hold of what it names, "Otherwise it names the first of these four that is false": each
+    -- verdict exactly where `IsVerdict` has it
+    pub verdict-exactly : (v : ℕ) → HasVerdict s claim dealer wind v ↔ NamedWith s claim dealer wind (λ r g. IsVerdict hand dealer wind r g v)
+    verdict-exactly = laws.exactly s claim dealer wind
 
     -- "It refuses with 22" exactly the claims that name nothing
     pub twenty-two-exactly : dealer ≤ 3 → wind ≤ 1 → IsSound s

@@ -4,6 +4,7 @@ pub mod Names
 pub mod Reads
 pub mod Verdict
 pub mod Exact
+pub mod One
 pub mod Found
 pub mod Judged
 pub mod Examples

@@ -219,7 +219,7 @@ fn verdict(h: Hand, dealer: u8, wind: u8, r: Reading, gain: Points) -> u8
     if !is_reading(c, m, win, r) {
         return 1;
     }
-    let t = score::hand_common_of(h, dealer, wind);
+    let t = score::hand_common_of(h, c, dealer, wind);
     let v = score_best::keep_better(t, score_best::none(0), r);
     let b = score_search::search_for(t, c, m, win, 0);
     weighed(v.valued, v.value.gain, gain, b.value.gain)

@@ -7,10 +7,9 @@ use Prim.Native.Nat.{ℕ}
 use lib.ListN.{length, replicate}
 use Rattle.position.specs.Booking.{Result, Booking, result}
 use Rattle.position.specs.Ledger.{isSet, outOfForm, refusalFor, effectOf, ledger}
-use Rattle.position.specs.Wins.{BestWithCounters, OfWin}
 use Rattle.game.specs.declared.Game.{Game}
 use Rattle.game.specs.Game.{Entry, booking, correction, freshGame, gameRefusal, gameAfter, gameFrom, standing}
-use Rattle.game.specs.Runs.{Runs, Every}
+use Rattle.game.specs.Runs.{Runs}
 pub use Rattle.game.specs.Runs.{refusalsFrom}
 pub use Rattle.game.specs.Demand3.{Demand3}
 use Rattle.game.specs.laws.After as after
@@ -30,10 +29,6 @@ plain-ledger = lists.plain-ledger
 -- every list has its run, so that demand 3 speaks of each
 pub runs-exists : (es : List Entry) (g : Game) → Runs g es (refusalsFrom g es) (gameFrom g es)
 runs-exists = lists.runs-exist
-
--- "which is equal for every reading of the tiles, so the best one stays best" (02, S-5)
-pub counters-keep-best : (es : List Entry) (ns : List ℕ) (g : Game) → Runs freshGame es ns g → Every (OfWin BestWithCounters) freshGame es ns
-counters-keep-best = laws.counters-keep-best
 
 -- ---- the keyed result was wrong (02, S-10)
 
@@ -77,19 +72,19 @@ module _ (es : List Entry) where
   abbrev g : Game
   g = gameFrom freshGame es
 
+  -- after entry e, where it is accepted, a correction by r is entry e′ instead of e, in number and game
+  abbrev Instead : Entry → Result → Entry → Type 0
+  Instead e r e′ =
+      let new = gameAfter g e in
+      gameRefusal g e ≡ 0 → (gameRefusal new (correction r) ≡ gameRefusal g e′) × (gameRefusal g e′ ≡ 0 → gameAfter new (correction r) ≡ gameAfter g e′)
+
   -- "Afterwards the game is the one in which the superseded booking was never made and the new one was", the number too: after a result a, a correction is
   -- what its result r would have been instead of a, "declared seats and counters included"; "This holds too when the superseded one had ended the game"
-  pub as-if-never-made : (a r : Result) → gameRefusal g (booking (result a)) ≡ 0
-      → let new = gameAfter g (booking (result a)) in
-      (gameRefusal new (correction r) ≡ gameRefusal g (booking (result r)))
-      × (gameRefusal g (booking (result r)) ≡ 0 → gameAfter new (correction r) ≡ gameAfter g (booking (result r)))
+  pub as-if-never-made : (a r : Result) → Instead (booking (result a)) r (booking (result r))
   as-if-never-made a r e = let p = lists.both-kept es in (superseded.same-refusal g p a r e, superseded.same-game g p a r e)
 
   -- "A correction that was accepted can itself be superseded": two are the second alone
-  pub correction-twice : (a r : Result) → gameRefusal g (correction a) ≡ 0
-      → let new = gameAfter g (correction a) in
-      (gameRefusal new (correction r) ≡ gameRefusal g (correction r))
-      × (gameRefusal g (correction r) ≡ 0 → gameAfter new (correction r) ≡ gameAfter g (correction r))
+  pub correction-twice : (a r : Result) → Instead (correction a) r (correction r)
   correction-twice a r e = let p = lists.both-kept es in (superseded.twice-refusal g p a r e, superseded.twice-game g p a r e)
 
   -- "as long as no other booking has been accepted since": after one that finished no hand there is none to supersede

@@ -9,15 +9,17 @@ use lib.IntN.{pos, negℤ, _+ℤ_}
 use lib.Signed.{ltZ}
 use Rattle.tiles.specs.Below.{any}
 use Rattle.hand_record.specs.Record.{IsSound}
+use Rattle.hand_rons.specs.Records.{recordsOf, notOnOneTile}
 use Rattle.reading.specs.declared.Reading.{Reading}
+use Rattle.reading.specs.All.{Each}
 use Rattle.position.specs.declared.Position.{Position}
-use Rattle.position.specs.Booking.{Booking, result, riichi, pao, win, draw, chombo}
+use Rattle.position.specs.Booking.{Booking, result, riichi, pao, win, draw, chombo, multiRon}
 use Rattle.position.specs.Ledger.{scoreAt, isDeclared, notOpen, isReady, effectOf}
-use Rattle.position.specs.Wins.{HasYaku, paidIn}
+use Rattle.position.specs.Wins.{paidIn}
 use Rattle.game.specs.declared.Game.{Game}
 use Rattle.game.specs.Game.{Entry, booking, freshGame, gameRefusal, gameFrom, standing}
 use Rattle.game_rules.specs.Past.{hasDeclared, hasNamed}
-use Rattle.game_rules.specs.History.{History, IsOpen, EachWithPast, RiichiAgrees, RiichiDeclared}
+use Rattle.game_rules.specs.History.{History, IsOpen, EachWithPast, WinsBy, RiichiDeclared}
 use Rattle.game_rules.specs.Payments.{WhoPays, declaredNotReady, bitsBy, DrawPays, FinePays}
 use Rattle.game_rules.specs.laws.Step as step
 use Rattle.game_rules.specs.laws.AcceptedWhen as when
@@ -50,9 +52,15 @@ module _ (es : List Entry) where
   riichi-accepted seat = when.in-game es (riichi seat) (when.riichi-when past (g .now) history seat)
 
   -- a win: the game open, the record sound, a yaku in a reading, and riichi field and declaration agreeing, which 11 asks for
-  pub win-accepted : (s : List ℕ) → (gameRefusal g (booking (result (win s))) ≡ 0)
-      ↔ (IsOpen past × IsSound s × ((r : Reading) × HasYaku (g .now) s r) × RiichiAgrees past s)
+  pub win-accepted : (s : List ℕ) → (gameRefusal g (booking (result (win s))) ≡ 0) ↔ (IsOpen past × WinsBy past (g .now) s)
   win-accepted s = when.in-game es (result (win s)) (when.win-when past (g .now) history s)
+
+  -- a multiple ron: the same of each of "one to three win records", and none of what 17 is for, "where a record isn't ron, two have one winner, or they differ
+  -- in discarder, winning tile, indicator or situation" (02, S-6)
+  pub multi-ron-accepted : (number : ℕ) (s : List ℕ) → let ss = recordsOf number s in
+      (gameRefusal g (booking (result (multiRon number s))) ≡ 0)
+      ↔ (IsOpen past × (0 < number) × (number ≤ 3) × Each (WinsBy past (g .now)) ss × (notOnOneTile ss ≡ false))
+  multi-ron-accepted number s = when.in-game es (result (multiRon number s)) (when.multi-ron-when past (g .now) history number s)
 
   -- a draw: "four bits", and the game open; "12 is never given now" (02, S-7)
   pub draw-accepted : (bits : ℕ) → (gameRefusal g (booking (result (draw bits))) ≡ 0) ↔ ((bits ≤ 15) × IsOpen past)

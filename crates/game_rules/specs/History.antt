@@ -5,10 +5,13 @@ use mathlib.Core.Logic.{_⊎_}
 use mathlib.Core.List.{List, [], _∷_}
 use Prim.Native.Nat.{ℕ, _+_, _/_, _<_, _≤_}
 use lib.Dec.{ltb, leb, eqb}
+use Rattle.hand_record.specs.Record.{IsSound}
+use Rattle.reading.specs.declared.Reading.{Reading}
 use Rattle.reading.specs.All.{Each}
 use Rattle.position.specs.declared.Position.{Position}
 use Rattle.position.specs.Booking.{Booking}
 use Rattle.position.specs.Ledger.{handFor, isSet, isDeclared, notOpen, feederIndex, feederAt}
+use Rattle.position.specs.Wins.{HasYaku}
 use Rattle.game_rules.specs.Past.{recordsIn, hasDeclared, hasNamed, handsIn, passes, dealerIn, countersIn, sticksPut, sticksReturned}
 
 -- position l after the bookings of this past
@@ -45,6 +48,10 @@ EachWithPast P (b ∷ past) = P b past × EachWithPast P past
 -- "11, riichi field non-zero and winner not declared, or the reverse": neither is so of a record that was accepted
 abbrev pub RiichiAgrees : List Booking → List ℕ → Type 0
 RiichiAgrees past s = ltb 0 (handFor s .fields .riichi) ≡ hasDeclared past (handFor s .fields .winner)
+
+-- a record that neither Score nor 11 refuses: it is sound, a reading of its tiles has a yaku, and riichi field and declaration agree
+abbrev pub WinsBy : List Booking → Position → List ℕ → Type 0
+WinsBy past l s = IsSound s × ((r : Reading) × HasYaku l s r) × RiichiAgrees past s
 
 -- of each record of a booking
 abbrev pub RiichiDeclared : Booking → List Booking → Type 0

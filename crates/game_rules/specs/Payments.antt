@@ -35,19 +35,21 @@ module _ (l : Position) (s : List ℕ) (r : Reading) where
       ((getD (value .yaku) 28 false ≡ true) × (feederAt l (feederIndex (f .winner) 28) ≡ 1 + feeder))
       ⊎ ((getD (value .yaku) 29 false ≡ true) × (winds (groupsOf (handFor s) r) ≡ 4) × (feederAt l (feederIndex (f .winner) 29) ≡ 1 + feeder))
 
+  -- nobody is named for it
+  abbrev pub NoneLiable : Type 0
+  NoneLiable = (feeder : ℕ) → IsLiable feeder → ⊥
+
   -- what it gives each seat with n counters, sticks left out
   pub record WhoPays (n : ℕ) (gives : ℕ → ℤ) : Type 0 where
     -- "ron, 4A to a child, 6A to the dealer"; "A ron payer pays 300 more for each counter" (02, S-5)
-    pub ron : ((feeder : ℕ) → IsLiable feeder → ⊥) → isRon f ≡ true
-        → gives (f .discarder) ≡ negℤ (pos (hundreds (cond (eqb (f .winner) (l .dealer)) 6 4 * value .basic .0) + 300 * n))
+    pub ron : NoneLiable → isRon f ≡ true → gives (f .discarder) ≡ negℤ (pos (hundreds (cond (eqb (f .winner) (l .dealer)) 6 4 * value .basic .0) + 300 * n))
     -- and nobody else pays
-    pub ron-others : ((feeder : ℕ) → IsLiable feeder → ⊥) → isRon f ≡ true
-        → (i : ℕ) → i < 4 → (i ≡ f .winner → ⊥) → (i ≡ f .discarder → ⊥) → gives i ≡ pos 0
+    pub ron-others : NoneLiable → isRon f ≡ true → (i : ℕ) → i < 4 → (i ≡ f .winner → ⊥) → (i ≡ f .discarder → ⊥) → gives i ≡ pos 0
     -- "dealer tsumo, 2A each"; "on tsumo each payer pays 100 more" (02, S-5)
-    pub dealers-tsumo : ((feeder : ℕ) → IsLiable feeder → ⊥) → isRon f ≡ false → f .winner ≡ l .dealer
+    pub dealers-tsumo : NoneLiable → isRon f ≡ false → f .winner ≡ l .dealer
         → (i : ℕ) → i < 4 → (i ≡ f .winner → ⊥) → gives i ≡ negℤ (pos (hundreds (2 * value .basic .0) + 100 * n))
     -- "child tsumo, children A, dealer 2A"
-    pub childs-tsumo : ((feeder : ℕ) → IsLiable feeder → ⊥) → isRon f ≡ false → (f .winner ≡ l .dealer → ⊥)
+    pub childs-tsumo : NoneLiable → isRon f ≡ false → (f .winner ≡ l .dealer → ⊥)
         → (gives (l .dealer) ≡ negℤ (pos (hundreds (2 * value .basic .0) + 100 * n)))
         × ((i : ℕ) → i < 4 → (i ≡ f .winner → ⊥) → (i ≡ l .dealer → ⊥) → gives i ≡ negℤ (pos (hundreds (value .basic .0) + 100 * n)))
     -- article 67 (02, S-8)

@@ -6,7 +6,7 @@ ghost use lib.Dec.{eqb};
 ghost use lib.ListN.{getD};
 ghost use Rattle.tiles.specs.Below.{countBelow};
 ghost use Rattle.tiles.specs.Tally.{tallyOf};
-ghost use Rattle.hand.specs.Held.{isClosed, meldHolds, inOthers, inHeld};
+ghost use Rattle.hand.specs.Held.{isClosed, meldHolds, inMelds, inOthers, inHeld};
 ghost use Rattle.hand.specs.Hand.{concealedTally, handTally};
 
 // The numbers of a hand, in the record's order: how 0 tsumo, 1 ron.
@@ -105,17 +105,24 @@ fn add_meld_if(t: [u8; 34], used: bool, b: u8) -> [u8; 34]
     if used { add_meld(t, b) } else { t }
 }
 
-// Melds and concealed tiles together, kans whole.
-pub fn held_tally(x: Held) -> [u8; 34]
-    ensures { λ r. ⌜ r ≡ tallyOf (inHeld x) ⌝ }
+// The tiles of all m melds, kans whole.
+fn add_melds(t: [u8; 34], x: Held) -> [u8; 34]
+    requires { ⌜ ((k : ℕ) → getD t k 0 ≤ 224) ⌝ }
+    ensures { λ r. ⌜ ((k : ℕ) → k < 34 → getD r k 0 ≡ getD t k 0 + inMelds x k) ⌝ }
 {
     let m = x.m;
     let d = x.melds;
-    let t0 = others_tally(x);
-    let t1 = add_meld_if(t0, 0 < m, d[0]);
+    let t1 = add_meld_if(t, 0 < m, d[0]);
     let t2 = add_meld_if(t1, 1 < m, d[1]);
     let t3 = add_meld_if(t2, 2 < m, d[2]);
     add_meld_if(t3, 3 < m, d[3])
+}
+
+// Melds and concealed tiles together.
+pub fn held_tally(x: Held) -> [u8; 34]
+    ensures { λ r. ⌜ r ≡ tallyOf (inHeld x) ⌝ }
+{
+    add_melds(others_tally(x), x)
 }
 
 // The concealed tiles with the winning tile: what readings go by.
@@ -125,9 +132,17 @@ pub fn concealed_tally(h: Hand) -> [u8; 34]
     tiles::add(others_tally(h.held), h.fields.winning, 1)
 }
 
+// All tiles of the hand, where c is the tally of its concealed tiles with the winning tile: the melds alone are counted.
+pub fn with_melds(c: [u8; 34], h: Hand) -> [u8; 34]
+    requires { ⌜ c ≡ concealedTally h ⌝ }
+    ensures { λ r. ⌜ r ≡ handTally h ⌝ }
+{
+    add_melds(c, h.held)
+}
+
 // All tiles of the hand: what yaku and dora go by.
 pub fn hand_tally(h: Hand) -> [u8; 34]
     ensures { λ r. ⌜ r ≡ handTally h ⌝ }
 {
-    tiles::add(held_tally(h.held), h.fields.winning, 1)
+    with_melds(concealed_tally(h), h)
 }

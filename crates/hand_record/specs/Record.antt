@@ -36,9 +36,13 @@ lengthOf m = getD (13 ∷ 12 ∷ 11 ∷ 10 ∷ 8 ∷ []) m 0
 abbrev pub padOf : ℕ → ℕ
 padOf m = getD (1 ∷ 3 ∷ 5 ∷ 7 ∷ 1 ∷ []) m 0
 
--- all widths of a record with m melds: the head, "m melds of 8 ..; 13 − 3m other concealed tiles of 6, ..; zero bits to the byte"
+-- the widths after a head: "m melds of 8 ..; 13 − 3m other concealed tiles of 6, ..; zero bits to the byte", n of them
+abbrev pub heldWidths : ℕ → ℕ → List ℕ
+heldWidths m n = eights m ++ (sixes (13 - 3 * m) ++ (n ∷ []))
+
+-- all widths of a record with m melds
 unfoldable pub widths : ℕ → List ℕ
-widths m = head ++ (eights m ++ (sixes (13 - 3 * m) ++ (padOf m ∷ [])))
+widths m = head ++ heldWidths m (padOf m)
 
 -- ---- a record's values, and the hand that they are
 
@@ -155,9 +159,13 @@ headList x =
 abbrev pub headFor : Hand → Head
 headFor h = record { fields = h .fields; m = h .held .m }
 
--- and all values of a record: the m melds, the 13 − 3m tiles, "zero bits to the byte"
+-- the values after a head: the m melds, the 13 − 3m tiles, "zero bits to the byte"
+abbrev pub heldValues : Held → List ℕ
+heldValues x = take (x .m) (x .melds) ++ (take (13 - 3 * x .m) (x .concealed) ++ (0 ∷ []))
+
+-- and all values of a record
 unfoldable pub valuesOf : Hand → List ℕ
-valuesOf h = headList (headFor h) ++ (take (h .held .m) (h .held .melds) ++ (take (13 - 3 * h .held .m) (h .held .concealed) ++ (0 ∷ [])))
+valuesOf h = headList (headFor h) ++ heldValues (h .held)
 
 -- "Write takes a hand": its record, each value at its width, as bytes
 unfoldable pub recordOf : Hand → List ℕ

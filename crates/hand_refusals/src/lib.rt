@@ -202,7 +202,7 @@ fn zero_from(c: [u8; 13], n: usize) -> bool
 }
 
 // A place past the m melds or past the 13 - 3m tiles is not 0.
-fn unused_not_zero(x: Held) -> bool
+pub fn unused_not_zero(x: Held) -> bool
     ensures { λ r. ⌜ r ≡ unusedNotZero x ⌝ }
 {
     let m = x.m;

@@ -149,7 +149,7 @@ pub fn is_winner(number: u8, hands: [Hand; 3], seat: u8) -> bool
         | ((2 < number) & (c.fields.winner == seat))
 }
 
-// The first seat after the discarder, in turn order, that wins one of so many hands; the last of them where no other does.
+// The first seat after the discarder, in turn order, that wins one of so many hands. It is the third seat where the two before it win none.
 pub fn first_after(discarder: u8, number: u8, hands: [Hand; 3]) -> u8
     requires { ⌜ (discarder ≤ 3) × (1 ≤ number) × (number ≤ 3) ⌝ }
     ensures { λ r. ⌜ ((rs : List (List ℕ)) → map handFor rs ≡ take number hands → r ≡ firstAfter discarder (isWinner rs)) ⌝ }

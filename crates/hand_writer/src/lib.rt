@@ -2,9 +2,29 @@
 ghost use mathlib.Core.Path.{_≡_};
 ghost use Prim.Native.Nat.{_+_, _*_, _-_, _≤_};
 ghost use Rattle.bits.specs.Bits.{pack, fill};
-ghost use Rattle.hand_record.specs.Record.{widths, valuesOf, writtenOf, bufferOf};
+ghost use Rattle.hand_record.specs.Record.{heldWidths, widths, heldValues, valuesOf, writtenOf, bufferOf};
+ghost use lib.ListN.{length};
+ghost use lib.Seq.{sets};
 use hand::Hand;
+use hand::Held;
 use hand_record::Written;
+
+// The bits of tiles held, m melds and then 13 - 3m tiles, and `pad` zero bits, stored from `at` on. An inner call of each writer.
+pub fn pack_held(x: Held, b: &mut [u8], at: usize, pad: usize)
+    requires { ⌜ (x .m ≤ 4) × (pad ≤ 8) × (at + 8 * x .m + 6 * (13 - 3 * x .m) + pad ≤ length (now b)) ⌝ }
+    ensures { λ _. ⌜ now (b .exit) ≡ sets (now (b .entry)) at (pack (heldWidths (x .m) pad) (heldValues x)) ⌝ }
+{
+    let m = x.m as usize;
+    let melds = x.melds;
+    let concealed = x.concealed;
+    let ew = [8u8; 4];
+    let sw = [6u8; 13];
+    let k = 13 - 3 * m;
+    let from = at + 8 * m;
+    bits::pack_into(&ew[..m], &melds[..m], b, at);
+    bits::pack_into(&sw[..k], &concealed[..k], b, from);
+    bits::put(b, from + 6 * k, pad, 0);
+}
 
 // The bits of a hand, with zeros after them.
 fn pack_hand(h: Hand) -> [u8; 104]
@@ -13,9 +33,7 @@ fn pack_hand(h: Hand) -> [u8; 104]
 {
     let f = h.fields;
     let x = h.held;
-    let m = x.m as usize;
-    let melds = x.melds;
-    let concealed = x.concealed;
+    let m = x.m;
     let mut b = [0u8; 104];
     let hw = hand_record::HEAD;
     let hv = [
@@ -26,16 +44,10 @@ fn pack_hand(h: Hand) -> [u8; 104]
         f.situation,
         f.indicator,
         f.winning,
-        x.m,
+        m,
     ];
-    let ew = [8u8; 4];
-    let sw = [6u8; 13];
-    let k = 13 - 3 * m;
-    let at = 25 + 8 * m;
     bits::pack_into(&hw, &hv, &mut b, 0);
-    bits::pack_into(&ew[..m], &melds[..m], &mut b, 25);
-    bits::pack_into(&sw[..k], &concealed[..k], &mut b, at);
-    bits::put(&mut b, at + 6 * k, hand_record::PADS[m], 0);
+    pack_held(x, &mut b, 25, hand_record::PADS[m as usize]);
     b
 }
 

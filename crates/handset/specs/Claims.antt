@@ -2,8 +2,13 @@
 use mathlib.Core.List.{List}
 use Prim.Native.Nat.{ℕ, _≤_}
 use lib.ListN.{length}
+use Rattle.hand.specs.declared.Held.{Held}
 use Rattle.hand.specs.declared.Hand.{Hand}
-use Rattle.hand_record.specs.Record.{writtenOf}
+use Rattle.hand_record.specs.Record.{refusalIn, readOf, writtenOf}
+use Rattle.claim_writer.specs.declared.Claim.{Claim}
+use Rattle.claim_writer.specs.Write as claims
+use Rattle.unfinished_writer.specs.Write.{unwritable, writtenOf as unfinishedWritten, heldInRecord, writtenFrom}
+use Rattle.unfinished_writer.specs.laws.Store.{within}
 use Rattle.text.specs.Text.{lengthIn}
 use Rattle.log_walk.specs.declared.Walk.{Walk}
 use Rattle.log_walk.specs.Walk.{linesOf}
@@ -13,6 +18,17 @@ use Rattle.handset.specs.laws.Lengths as laws
 -- Write: "It returns the length, 0 if refused", and the record fits
 pub written-within : (h : Hand) (buf : List ℕ) → writtenOf h buf .len ≤ length buf
 written-within h buf = laws.written-within h buf
+
+-- Write claim: so does a claim
+pub claim-within : (c : Claim) (buf : List ℕ) → claims.writtenOf c buf .len ≤ length buf
+claim-within c buf = laws.claim-within c buf
+
+-- the same of an unfinished hand, from its tiles held and from a record
+pub unfinished-within : (x : Held) (buf : List ℕ) → unfinishedWritten x buf .len ≤ length buf
+unfinished-within x buf = within x buf (unwritable x)
+
+pub record-within : (s buf : List ℕ) → writtenFrom s buf .len ≤ length buf
+record-within s buf = within (heldInRecord s) buf (refusalIn (readOf s .answer))
 
 -- Next entry: "that very part of the log"
 pub entry-within : (log : List ℕ) (at : ℕ) → nextEntryOf log at .length ≤ length log

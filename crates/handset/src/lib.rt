@@ -12,10 +12,13 @@ ghost use Rattle.score_readings.specs.NthOf.{nthOf};
 ghost use Rattle.score_readings.specs.Count.{countOf};
 ghost use Rattle.claim.specs.IsJudged.{IsJudged};
 ghost use Rattle.claim.specs.Judge.{judgedOf};
+ghost use Rattle.claim_writer.specs.Writes.{Writes};
+ghost use Rattle.claim_writer.specs.Write.{writtenOf as claimWrittenOf, bufferOf as claimBufferOf};
 ghost use Rattle.slip.specs.Slip.{slipRefusal, slipPage};
 ghost use Rattle.waits.specs.Waits.{IsWaits};
 ghost use Rattle.waits.specs.Answer.{waitsOf};
 ghost use Rattle.unfinished.specs.Unfinished.{refusalOf};
+ghost use Rattle.unfinished_writer.specs.Write.{writtenOf as unfinishedWritten, bufferOf as unfinishedBuffer, writtenFrom, bufferFrom};
 ghost use Rattle.ready.specs.Ready.{IsAnswer};
 ghost use Rattle.ready.specs.Answer.{fewestSwaps};
 ghost use Rattle.card_writer.specs.Call.{answerOf, cardBuffer};
@@ -31,8 +34,10 @@ ghost use Rattle.speech_table.specs.Messages.{waitsMessage, SaysReady, SaysScor
 ghost use Rattle.handset.specs.Interface.{nextEntryOf, Lined};
 use card_writer::Cards;
 use claim::Judged;
+use claim_writer::Claim;
 use game::Game;
 use hand::Hand;
+use hand::Held;
 use hand_record::ReadHand;
 use hand_record::Written;
 use log_walk::Printed;
@@ -126,6 +131,24 @@ pub extern "C" fn hb_ready(s: &[u8]) -> Ready
     ready::find(s)
 }
 
+// Write, of an unfinished hand: the bytes of the tiles held at the start of a buffer, as Waits and Ready take them, and their length, or the refusal.
+#[no_mangle]
+pub extern "C" fn hb_write_unfinished(x: Held, buf: &mut [u8]) -> Written
+    ensures { λ r. ⌜ r ≡ unfinishedWritten x (now (buf .entry)) ⌝ }
+    ensures { λ _. ⌜ now (buf .exit) ≡ unfinishedBuffer x (now (buf .entry)) ⌝ }
+{
+    unfinished_writer::write(x, buf)
+}
+
+// The unfinished hand that a record is without its winning tile, at the start of a buffer, and its length, or the refusal.
+#[no_mangle]
+pub extern "C" fn hb_unfinished(s: &[u8], buf: &mut [u8]) -> Written
+    ensures { λ r. ⌜ r ≡ writtenFrom (now (s .entry)) (now (buf .entry)) ⌝ }
+    ensures { λ _. ⌜ now (buf .exit) ≡ bufferFrom (now (s .entry)) (now (buf .entry)) ⌝ }
+{
+    unfinished_writer::from_record(s, buf)
+}
+
 // Cards: every practice card of a suit and a size, one byte a tile, at the start of a buffer, and how many they are; or refusal 19, and the buffer as it was.
 #[no_mangle]
 pub extern "C" fn hb_cards(suit: u8, size: u8, buf: &mut [u8]) -> Cards
@@ -143,6 +166,16 @@ pub extern "C" fn hb_judge(s: &[u8], claim: &[u8], dealer: u8, wind: u8) -> Judg
     ensures { λ r. ⌜ r ≡ judgedOf (now (s .entry)) (now (claim .entry)) dealer wind ⌝ }
 {
     claim::judge(s, claim, dealer, wind)
+}
+
+// Write claim: the bytes of a claim at the start of a buffer, and their number, or the refusal.
+#[no_mangle]
+pub extern "C" fn hb_write_claim(claim: Claim, buf: &mut [u8]) -> Written
+    ensures { λ r. ⌜ Writes claim (now (buf .entry)) r (now (buf .exit)) ⌝ }
+    ensures { λ r. ⌜ r ≡ claimWrittenOf claim (now (buf .entry)) ⌝ }
+    ensures { λ _. ⌜ now (buf .exit) ≡ claimBufferOf claim (now (buf .entry)) ⌝ }
+{
+    claim_writer::write(claim, buf)
 }
 
 // A game before its first booking.

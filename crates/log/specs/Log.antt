@@ -1,27 +1,18 @@
 -- Next entry (01, Log): for every log and offset there is exactly one thing that it gives; and the entries that a walk finds, one after the other.
-use mathlib.Core.Path.{_≡_}
 use mathlib.Core.List.{List, [], _∷_, _++_}
 use Prim.Native.Nat.{ℕ, zero, suc}
 use lib.ListN.{length, drop}
+use Rattle.tiles.specs.One.{ExactlyOne}
 use Rattle.log.specs.Next.{LogEntry, Next, end, entry, bad, IsNext}
 use Rattle.log.specs.laws.Exact as laws
 
 -- there is one, and every other is that one: so at most one prefix of bytes is an entry
-pub exactly-one : (log : List ℕ) (at : ℕ) → (n : Next) × IsNext log at n × ((m : Next) → IsNext log at m → m ≡ n)
+pub exactly-one : (log : List ℕ) (at : ℕ) → ExactlyOne (IsNext log at)
 exactly-one = laws.exactly-one
 
 -- what Next entry gives: that one
 unfoldable pub nextOf : List ℕ → ℕ → Next
 nextOf log at = exactly-one log at .0
-
-module _ (log : List ℕ) (at : ℕ) where
-  pub is-next : IsNext log at (nextOf log at)
-  unfolding nextOf
-  is-next = exactly-one log at .1
-
-  pub one-next : (n : Next) → IsNext log at n → n ≡ nextOf log at
-  unfolding nextOf
-  one-next = exactly-one log at .2
 
 -- the part: "an empty part" at 14 and at the end
 abbrev pub partIn : Next → List ℕ

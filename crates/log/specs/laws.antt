@@ -4,6 +4,7 @@ pub mod Parts
 pub mod Kinds
 pub mod Letters
 pub mod Exact
+pub mod One
 pub mod Next
 pub mod Walk
 pub mod Examples

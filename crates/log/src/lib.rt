@@ -1,7 +1,7 @@
 // The log (01, Log; 02, S-6, S-8 and S-10): the kinds of its entries, and Next entry. The public calls take all input.
 ghost use mathlib.Core.Path.{_≡_};
 ghost use mathlib.Core.List.{List, _∷_};
-ghost use Prim.Native.Nat.{ℕ, _+_, _/_, _%_, _≤_};
+ghost use Prim.Native.Nat.{ℕ, _+_, _/_, _%_, _≤_, _<_};
 ghost use Rattle.game.specs.Game.{Entry};
 ghost use Rattle.log.specs.Entry.{IsEntry, letterOf};
 ghost use Rattle.log.specs.Log.{partAt, refusalAt};
@@ -57,9 +57,10 @@ pub fn yaku(byte: u8) -> u8
     28 + byte / 8 % 2
 }
 
-// The letter that `tally` prints for a kind: that of every entry whose header names it.
+// The letter that `tally` prints for a kind: that of every entry whose header names it; 0 for a kind that no entry has.
 pub fn letter(kind: u8) -> u8
     ensures { λ r. ⌜ ((header : ℕ) (rest : List ℕ) (e : Entry) → IsEntry (header ∷ rest) e → kind ≡ header / 16 → r ≡ letterOf e) ⌝ }
+    ensures { λ r. ⌜ (6 < kind → r ≡ 0) ⌝ }
 {
     if kind == RIICHI {
         return b'R';
@@ -70,6 +71,9 @@ pub fn letter(kind: u8) -> u8
     if kind == DRAW {
         return b'D';
     }
+    if kind == CHOMBO {
+        return b'C';
+    }
     if kind == MULTI_RON {
         return b'M';
     }
@@ -79,7 +83,7 @@ pub fn letter(kind: u8) -> u8
     if kind == CORRECTION {
         return b'X';
     }
-    b'C'
+    0
 }
 
 // How many bytes n records have that lie end to end from the start of bytes, 0 where one is broken.
@@ -168,7 +172,7 @@ fn length_by(kind: u8, argument: u8, rest: &[u8]) -> usize
     1
 }
 
-// The same of a correction: the entry follows that replaces, a win, a draw, a chombo or a multiple ron.
+// The same of a correction: the replacing entry follows, a win, a draw, a chombo or a multiple ron.
 fn correction_length(argument: u8, rest: &[u8]) -> usize
     ensures { λ r. ⌜ r ≡ correctionLength argument (now (rest .entry)) ⌝ }
 {

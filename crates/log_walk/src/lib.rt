@@ -41,7 +41,7 @@ fn book_pao(g: Game, s: &[u8]) -> Booked
     game_bookings::pao(g, holder, feeder, yaku)
 }
 
-// The result of a kind, with its argument and the bytes after the header: of a win its record, of a multiple ron all of them.
+// The result of a kind, by its argument and the bytes after the header. These are a win's record, or all records of a multiple ron.
 fn book_result(g: Game, kind: u8, argument: u8, s: &[u8]) -> Booked
     ensures { λ r. ⌜ Books g (booking (Booking.result (resultBy kind argument (now (s .entry))))) (r .refusal) (r .game) ⌝ }
 {
@@ -86,7 +86,7 @@ fn book_correction(g: Game, kind: u8, argument: u8, s: &[u8]) -> Booked
     game_bookings::correct_chombo(g, argument)
 }
 
-// An entry's bytes, booked: of a correction the result stands in the entry after its header.
+// An entry's bytes, booked. A correction's result stands in the entry after its header.
 fn book_part(g: Game, part: &[u8]) -> Booked
     requires { ⌜ (0 < length (now part)) × (kindIn (now part) ≡ correctionKind → 0 < length (drop 1 (now part))) ⌝ }
     ensures { λ r. ⌜ Books g (entryOf (now (part .entry))) (r .refusal) (r .game) ⌝ }

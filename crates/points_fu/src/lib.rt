@@ -96,7 +96,7 @@ pub fn group_items(g: [u8; 4], ways: [u8; 4]) -> [Fu; 4]
     ]
 }
 
-// What each group earns, where `all` is what they do by their ways alone and the winning tile completes the one at `place`.
+// What each group earns. `all` is what they earn by their ways alone; by ron the group that the winning tile completes, at `place`, is open.
 pub fn items_at(all: [Fu; 4], g: [u8; 4], ways: [u8; 4], ron: bool, place: u8) -> [Fu; 4]
     requires { ⌜ (all ≡ itemsBy g ways) × (place ≤ 4) ⌝ }
     ensures { λ r. ⌜ r ≡ itemsBy g (waysAt ways ron place) ⌝ }

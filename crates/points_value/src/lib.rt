@@ -39,8 +39,8 @@ pub struct Worth {
     pub any: bool,
 }
 
-// What is the same at each place of the winning tile: the four groups, what they and the pair say, and h but for the yaku that go by the
-// place or the ways; and by the ways alone, how many concealed triplets and kans there are and what each group earns.
+// What is the same at each place of the winning tile: the four groups, and what they and the pair say. `han` is h without the yaku that go by the
+// place or the ways. By the ways alone, `ankou` triplets are concealed, `kan` groups are kans, and `items` is what each group earns.
 pub struct Common {
     pub groups: [u8; 4],
     pub tests: GroupTests,

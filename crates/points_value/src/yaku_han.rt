@@ -108,7 +108,7 @@ pub fn han_each(y: [bool; 37], closed: bool, values: Han) -> [Han; 37]
     out
 }
 
-// h, where it is `before` without the yaku that go by the place or the ways: 4, closed only, and 18 and 19; 30 and 31 are yakuman.
+// h. `before` is h without the yaku that go by the place or the ways: 4, which is closed only, 18 and 19. (30 and 31 are yakuman.)
 pub fn placed(before: Han, q: PlaceTests) -> Han
     requires { ⌜ before .0 ≤ 482 ⌝ }
     ensures { λ r. ⌜ r .0 ≡ before .0 + cond (q .pinfu) 1 0 + cond (eqb (q .ankou) 3) 2 0 + cond (eqb (q .kan) 3) 2 0 ⌝ }

@@ -5,20 +5,20 @@ use mathlib.Core.List.{List}
 use Prim.Native.Nat.{ℕ, _≤_, _<_}
 use lib.Dec.{eqb}
 use lib.IntN.{pos, negℤ}
-use lib.Signed.{ltZ}
+use lib.Signed.{ltZ, leZ}
 use lib.ListN.{getD}
 use Rattle.hand.specs.Hand.{isRon}
 use Rattle.hand_record.specs.Record.{IsSound}
 use Rattle.hand_record.specs.Claims.{sound}
 use Rattle.reading.specs.declared.Reading.{Reading}
 use Rattle.yaku_basics.specs.Tests.{winds}
-use Rattle.score.specs.Named.{groupsOf, IsReadingOf, scoredAs}
+use Rattle.score.specs.Named.{groupsOf, IsReadingOf, IsReported, scoredAs}
 use Rattle.position.specs.declared.Position.{Position}
 use Rattle.hand_rons.specs.Records.{recordsOf, isWinner, discarderOf, firstWinner, turnsAfter}
 use Rattle.position.specs.Booking.{Booking, result, riichi, win, multiRon}
 use Rattle.position.specs.Ledger.{fresh, scoreAt, floor, outOfForm, notOpen, handFor, refusalFor}
-use Rattle.position.specs.Ledger.{gainGives, holdsFourWinds, after, ledger}
-pub use Rattle.position.specs.Wins.{changeBy, paoBy}
+use Rattle.position.specs.Ledger.{holdsFourWinds, after, ledger}
+use Rattle.position.specs.Wins.{HasYaku, paidIn}
 use Rattle.position.specs.laws.Kept as kept
 use Rattle.position.specs.laws.NotReady as not-ready
 use Rattle.position.specs.laws.Tiles as tiles
@@ -38,6 +38,13 @@ never-below-floor = kept.never-below-floor
 pub counter-within-hands : (bs : List Booking) → ledger bs .counter ≤ ledger bs .hands
 counter-within-hands = kept.counter-within-hands
 
+-- "which is equal for every reading of the tiles, so the best one stays best": with n counters no reading with a yaku gives the winner more than the
+-- reported one
+pub counters-keep-best : (l : Position) (s : List ℕ) → notOpen l ≡ false → IsSound s → (r q : Reading)
+    → IsReported (handFor s) (l .dealer) (l .wind) r → HasYaku l s q → (n : ℕ)
+    → let winner = handFor s .fields .winner in leZ (paidIn l s q n winner) (paidIn l s r n winner) ≡ true
+counters-keep-best = tiles.best-with-counters
+
 -- ---- declared, yet not ready (02, S-7)
 
 -- "12 is never given now"
@@ -48,7 +55,7 @@ never-12 = not-ready.never-12
 
 -- "The winner's gain is what it was, so the choice of reading is too": whatever reading is reported, and whoever is the feeder
 pub winner-as-before : (l : Position) (s : List ℕ) (r : Reading) → notOpen l ≡ false → IsSound s →
-    let winner = handFor s .fields .winner in gainGives l s (paoBy l s r) (changeBy l s r) winner ≡ changeBy l s r winner
+    let winner = handFor s .fields .winner in paidIn l s r 0 winner ≡ getD (scoredAs (handFor s) (l .dealer) (l .wind) r .changes) winner (pos 0)
 winner-as-before l s r o i = tiles.winner-won l s o (sound s .0 i) r
 
 -- "with four wind triplets, not three and a pair": by the tiles, as the ledger has it, and in every reading with 29

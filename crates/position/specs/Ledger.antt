@@ -3,9 +3,9 @@
 use mathlib.Core.Path.{_≡_}
 use mathlib.Core.Bool.{Bool, true, false, _&&_, _||_, not, cond}
 use mathlib.Core.List.{List, [], _∷_}
-use Prim.Native.Nat.{ℕ, _+_, _-_, _*_, _/_, _%_, _^_}
+use Prim.Native.Nat.{ℕ, zero, suc, _+_, _-_, _*_, _/_, _%_, _^_}
 use lib.Dec.{ltb, leb, eqb}
-use lib.IntN.{ℤ, pos, negℤ, _+ℤ_}
+use lib.IntN.{ℤ, pos, negℤ, natAbs, _+ℤ_}
 use lib.Signed.{ltZ, leZ}
 use lib.ListN.{getD, set, replicate}
 use Rattle.tiles.specs.Below.{all, any, count, sum, tabulate}
@@ -200,68 +200,62 @@ going l gives sticks declared feeders =
 unfoldable pub riichiGives : ℕ → ℕ → ℤ
 riichiGives seat i = cond (eqb i seat) (negℤ (pos 1000)) (pos 0)
 
--- the winner gets what the others pay, p being what each seat pays
+-- the winner gets what the others pay, p being what a seat pays
 unfoldable pub paidByOthers : ℕ → (ℕ → ℕ) → ℕ → ℤ
-paidByOthers winner p i = cond (eqb i winner) (pos (sum 4 p)) (negℤ (pos (p i)))
+paidByOthers winner p i = cond (eqb i winner) (pos (sum 4 (λ j. cond (eqb j winner) 0 (p j)))) (negℤ (pos (p i)))
 
--- "A ron payer pays 300 more for each counter, and on tsumo each payer pays 100 more" (02, S-5):
--- what seat i pays more for n counters, one seat paying them alone or not
-unfoldable pub repeatPays : ℕ → ℕ → Bool → ℕ → ℕ → ℕ
-repeatPays winner payer alone n i = cond (eqb i winner) 0 (cond alone (cond (eqb i payer) (300 * n) 0) (100 * n))
+-- who is liable for a win's yaku (02, S-8): nobody, or the feeder that is named
+pub data Liable : Type 0 where
+  nobody : Liable
+  theFeeder : ℕ → Liable
 
--- "this addition" (02, S-5): the winner gets what the others pay more
-abbrev pub repeatGives : ℕ → ℕ → Bool → ℕ → ℕ → ℤ
-repeatGives winner payer alone n = paidByOthers winner (repeatPays winner payer alone n)
+-- who owes what at a win with n counters, by who is liable and whether it is a ron: of seat i, another than the winner, the reported reading takes `taken i`;
+-- a yakuman gives the winner `whole`
+module _ (taken : ℕ → ℕ) (discarder whole n : ℕ) where
+  -- "A ron payer pays 300 more for each counter, and on tsumo each payer pays 100 more" (02, S-5);
+  -- "On ron the feeder and the discarder pay half each, the discarder paying the counters; if they are one seat it pays all" (02, S-8; 004, article 67);
+  -- "the feeder pays the whole on tsumo, counters included"
+  unfoldable pub owes : Liable → Bool → ℕ → ℕ
+  owes nobody true i = taken i + cond (eqb i discarder) (300 * n) 0
+  owes nobody false i = taken i + 100 * n
+  owes (theFeeder x) true i = cond (eqb i x) (whole / 2) 0 + cond (eqb i discarder) (whole / 2 + 300 * n) 0
+  owes (theFeeder x) false i = cond (eqb i x) (whole + 300 * n) 0
+
+-- who a position says is liable: at a place it holds 0, or 1 + the feeder that is named
+abbrev pub liableBy : ℕ → Liable
+liableBy zero = nobody
+liableBy (suc x) = theFeeder x
+
+-- "If the holder then wins with that yaku reported (for 29, with four wind triplets, not three and a pair)" (02, S-8)
+abbrev pub liableIn : Position → ℕ → Bool → Bool → Liable
+liableIn l winner dragons winds =
+    cond dragons (liableBy (feederAt l (feederIndex winner 28))) (cond winds (liableBy (feederAt l (feederIndex winner 29))) nobody)
 
 -- what a yakuman gives the winner: "Yakuman 8,000"; "ron, 4A to a child, 6A to the dealer", and on tsumo "children A, dealer 2A" or "2A each",
 -- the same in all (01, Fu and points)
 abbrev pub wholeOf : Bool → ℕ
 wholeOf dealers = cond dealers 48000 32000
 
--- "the feeder pays the whole on tsumo .. On ron the feeder and the discarder pay half each ..; if they are one seat it pays all" (02, S-8; 004, article 67):
--- what seat i pays of the whole
-unfoldable pub paoPays : ℕ → ℕ → ℕ → Bool → ℕ → ℕ → ℕ
-paoPays winner discarder feeder ron whole i =
-    cond (eqb i winner) 0 (cond ron (cond (eqb i feeder) (whole / 2) 0 + cond (eqb i discarder) (whole / 2) 0) (cond (eqb i feeder) whole 0))
-
 -- "dealer's win"; any other is "a child's win"
 abbrev pub isDealersWin : Position → List ℕ → Bool
 isDealersWin l s = eqb (handFor s .fields .winner) (l .dealer)
 
--- a win with record s; liable is 0 where nobody is named for its yaku, and 1 + the feeder where one is
-module _ (l : Position) (s : List ℕ) (liable : ℕ) where
-  -- what seat i gets or pays of the winner's gain: its change c, or by article 67 with pao
-  abbrev pub gainGives : (ℕ → ℤ) → ℕ → ℤ
-  gainGives c i =
-      let f = handFor s .fields in
-      cond (isSet liable) (paidByOthers (f .winner) (paoPays (f .winner) (f .discarder) (liable - 1) (isRon f) (wholeOf (isDealersWin l s))) i) (c i)
-
-  -- what n counters give it: "the feeder pays the whole on tsumo, counters included. On ron .. the discarder paying the counters" (02, S-8);
-  -- on a tsumo without pao all pay them, and `liable - 1` is not read
-  abbrev pub counterGives : ℕ → ℕ → ℤ
-  counterGives n = let f = handFor s .fields in repeatGives (f .winner) (cond (isRon f) (f .discarder) (liable - 1)) (isRon f || isSet liable) n
-
--- "If the holder then wins with that yaku reported (for 29, with four wind triplets, not three and a pair)" (02, S-8): 0, or 1 + the feeder that is named
-abbrev pub paoIn : Position → ℕ → Bool → Bool → ℕ
-paoIn l winner dragons winds = cond dragons (feederAt l (feederIndex winner 28)) (cond winds (feederAt l (feederIndex winner 29)) 0)
+-- "A win gives the four changes of the reported reading"; "document 01's plus this addition" (02, S-5); "compared with article 67" (02, S-8): what a win with
+-- record s that scores v, with four wind triplets or not, gives seat i with n counters, sticks left out; what it takes of a seat is the size of its change
+unfoldable pub payments : Position → List ℕ → Scored → Bool → ℕ → ℕ → ℤ
+payments l s v fourWinds n =
+    let f = handFor s .fields in
+    let liable = liableIn l (f .winner) (getD (v .yaku) 28 false) (getD (v .yaku) 29 false && fourWinds) in
+    paidByOthers (f .winner) (owes (λ i. natAbs (getD (v .changes) i (pos 0))) (f .discarder) (wholeOf (isDealersWin l s)) n liable (isRon f))
 
 -- each wind is held three times or more; with 29 reported these are "four wind triplets", as `winds-of-reading` of Claims says
 abbrev pub holdsFourWinds : Hand → Bool
 holdsFourWinds h = all 4 (λ w. leb 3 (getD (handTally h) (27 + w) 0))
 
--- by what is reported of record s
-abbrev pub paoFor : Position → List ℕ → ℕ
-paoFor l s =
-    let yaku = scoredFor l s .yaku in
-    paoIn l (handFor s .fields .winner) (getD yaku 28 false) (getD yaku 29 false && holdsFourWinds (handFor s))
-
--- "A win gives the four changes of the reported reading, by the ledger's dealer and wind, and the winner 1,000 a stick"; "document 01's plus this addition"
--- (02, S-5);
--- "compared with article 67" (02, S-8): what a win with record s gives seat i, the winner taking n counters and k sticks
+-- what a win with record s gives seat i, "by the ledger's dealer and wind, and the winner 1,000 a stick", the winner taking n counters and k sticks
 unfoldable pub winGives : Position → List ℕ → ℕ → ℕ → ℕ → ℤ
 winGives l s n k i =
-    gainGives l s (paoFor l s) (λ j. getD (scoredFor l s .changes) j (pos 0)) i +ℤ counterGives l s (paoFor l s) n i
-    +ℤ cond (eqb i (handFor s .fields .winner)) (pos (1000 * k)) (pos 0)
+    payments l s (scoredFor l s) (holdsFourWinds (handFor s)) n i +ℤ cond (eqb i (handFor s .fields .winner)) (pos (1000 * k)) (pos 0)
 
 -- what all records give it: "all against the game as it was before. Sticks and counters go to the first winner" (02, S-6)
 unfoldable pub multiRonGives : Position → ℕ → List (List ℕ) → ℕ → ℤ
@@ -290,13 +284,10 @@ finePaid at i j = cond (not (eqb i j) && at i) 3000 0
 unfoldable pub fineOf : (ℕ → Bool) → ℕ → ℤ
 fineOf at i = pos (sum 4 (λ j. finePaid at j i)) +ℤ negℤ (pos (sum 4 (finePaid at i)))
 
--- "each declared seat gets 1,000 back"
-abbrev pub backTo : Position → ℕ → ℤ
-backTo l i = cond (isDeclared l i) (pos 1000) (pos 0)
-
--- what a chombo of the seats `at` gives seat i; of one seat it "costs the seat 9,000 and gives each other seat 3,000", as `chombo-costs-9000` of crate `game_rules` says
+-- what a chombo of the seats `at` gives seat i: its fine, and "each declared seat gets 1,000 back"; of one seat it "costs the seat 9,000 and gives each other
+-- seat 3,000", as `chombo-costs-9000` of crate `game_rules` says
 unfoldable pub chomboGives : Position → (ℕ → Bool) → ℕ → ℤ
-chomboGives l at i = fineOf at i +ℤ backTo l i
+chomboGives l at i = fineOf at i +ℤ cond (isDeclared l i) (pos 1000) (pos 0)
 
 -- of a chombo "a stick less for each" declared seat; "the deal and counter stay, and the hand is finished" (02, S-7)
 abbrev pub chomboOf : Position → (ℕ → Bool) → Effect
@@ -331,35 +322,24 @@ effectOf l (result (multiRon number s)) =
 abbrev pub isLast : Position → Bool
 isLast l = eqb (l .wind) 1 && eqb (l .dealer) 3
 
--- "The deal passes" to the next in "turn order"; "after South's seat 3 .. dealer and wind staying"
-abbrev pub dealerAfter : Position → Bool → ℕ
-dealerAfter l passes = cond (passes && not (isLast l)) ((l .dealer + 1) % 4) (l .dealer)
-
--- "after seat 3 the wind turns South"
-abbrev pub windAfter : Position → Bool → ℕ
-windAfter l passes = cond (passes && eqb (l .dealer) 3) 1 (l .wind)
-
--- "finished hands"
-abbrev pub handsAfter : Position → Bool → ℕ
-handsAfter l finishes = cond finishes (l .hands + 1) (l .hands)
-
--- "after South's seat 3 the game is marked over"; "it is marked so at 200 finished hands too, the deal passing as usual"
-abbrev pub overAfter : Position → Effect → Bool
-overAfter l e = (e .passes && isLast l) || eqb (handsAfter l (e .finishes)) lastHand
-
 -- the position after a booking that does e
 unfoldable pub applied : Position → Effect → Position
-applied l e = record {
-  scores = tabulate 4 0 (λ i. scoreAt l i +ℤ e .gives i);
-  sticks = e .sticks;
-  declared = tabulate 4 0 (λ i. mark (e .declared i));
-  dealer = dealerAfter l (e .passes);
-  wind = windAfter l (e .passes);
-  hands = handsAfter l (e .finishes);
-  over = mark (overAfter l e);
-  counter = e .counter;
-  feeders = e .feeders;
-}
+applied l e =
+    let hands = cond (e .finishes) (l .hands + 1) (l .hands) in
+    record {
+      scores = tabulate 4 0 (λ i. scoreAt l i +ℤ e .gives i);
+      sticks = e .sticks;
+      declared = tabulate 4 0 (λ i. mark (e .declared i));
+      -- "The deal passes" to the next in "turn order"; "after South's seat 3 .. dealer and wind staying"
+      dealer = cond (e .passes && not (isLast l)) ((l .dealer + 1) % 4) (l .dealer);
+      -- "after seat 3 the wind turns South"
+      wind = cond (e .passes && eqb (l .dealer) 3) 1 (l .wind);
+      hands = hands;
+      -- "after South's seat 3 the game is marked over"; "it is marked so at 200 finished hands too, the deal passing as usual"
+      over = mark ((e .passes && isLast l) || eqb hands lastHand);
+      counter = e .counter;
+      feeders = e .feeders;
+    }
 
 -- ---- the ledger after any booking, and after a list
 

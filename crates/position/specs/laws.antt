@@ -1,12 +1,13 @@
 pub mod Bounds
 pub mod Form
 pub mod Sums
+pub mod After
 pub mod Effect
 pub mod First
 pub mod Accepted
 pub mod Refusals
 pub mod PaidByOthers
-pub mod Repeat
+pub mod Owed
 pub mod Pao
 pub mod Fines
 pub mod Fair

@@ -7,10 +7,11 @@ ghost use lib.IntN.{pos, negℤ, _+ℤ_};
 ghost use lib.ListN.{getD};
 ghost use Rattle.tiles.specs.Below.{count, tabulate};
 ghost use Rattle.score.specs.laws.Z.{Within};
-ghost use Rattle.position.specs.Ledger.{lastHand, isSet, paidByOthers, repeatGives, wholeOf, paoPays, shareOf, fineOf};
+ghost use Rattle.position.specs.Ledger.{lastHand, isSet, paidByOthers, wholeOf, shareOf, fineOf};
 ghost use Rattle.position.specs.laws.Bounds.{amount, mostChange, mostSticks, mostGift};
 ghost use Rattle.position.specs.laws.Fines.{finedBy};
 ghost use Rattle.position.specs.laws.Sums.{Small, Changes, Gifts};
+ghost use Rattle.position_payments.specs.search.Parts.{paoPays, repeatPays};
 use points::Seats;
 use position_form::count_true;
 use units::Points;
@@ -141,7 +142,7 @@ fn addition(wins: bool, alone: bool, pays: bool, n: u32) -> i32
 // What n repeat counters give each seat at a win: the payer alone, or all others, pay more, and the winner gets it.
 fn additions(winner: u8, payer: u8, alone: bool, n: u32) -> [i32; 4]
     requires { ⌜ (winner ≤ 3) × (payer ≤ 3) × (alone ≡ true → winner ≡ payer → ⊥) × (n ≤ lastHand) ⌝ }
-    ensures { λ r. ⌜ (r ≡ tabulate 4 0 (repeatGives winner payer alone n)) × Changes r ⌝ }
+    ensures { λ r. ⌜ (r ≡ tabulate 4 0 (paidByOthers winner (repeatPays payer alone n))) × Changes r ⌝ }
 {
     [
         addition(0 == winner, alone, 0 == payer, n),
@@ -186,7 +187,7 @@ fn pao_given(wins: bool, owes: Points, whole: Points) -> i32
 // What article 67 gives each seat, by ron or not: feeder and discarder pay the winner the whole.
 fn pao_gives(s: Seats, ron: bool, feeder: u8) -> [i32; 4]
     requires { ⌜ (s .winner ≤ 3) × (s .discarder ≤ 3) × (ron ≡ true → s .winner ≡ s .discarder → ⊥) × (feeder ≤ 3) × (s .winner ≡ feeder → ⊥) ⌝ }
-    ensures { λ r. ⌜ (r ≡ tabulate 4 0 (paidByOthers (s .winner) (paoPays (s .winner) (s .discarder) feeder ron (wholeOf (eqb (s .winner) (s .dealer)))))) × Changes r ⌝ }
+    ensures { λ r. ⌜ (r ≡ tabulate 4 0 (paidByOthers (s .winner) (paoPays (s .discarder) feeder ron (wholeOf (eqb (s .winner) (s .dealer)))))) × Changes r ⌝ }
 {
     let w = s.winner;
     let d = s.discarder;
@@ -202,7 +203,7 @@ fn pao_gives(s: Seats, ron: bool, feeder: u8) -> [i32; 4]
 // What each seat gets or pays of the winner's gain: the changes c, or by article 67 with pao; liable is 0, or 1 + the feeder.
 pub fn won(s: Seats, ron: bool, c: [i32; 4], liable: u8) -> [i32; 4]
     requires { ⌜ (s .winner ≤ 3) × (s .discarder ≤ 3) × (ron ≡ true → s .winner ≡ s .discarder → ⊥) × (liable ≤ 4) × (liable ≡ 1 + s .winner → ⊥) × Changes c ⌝ }
-    ensures { λ r. ⌜ (r ≡ cond (isSet liable) (tabulate 4 0 (paidByOthers (s .winner) (paoPays (s .winner) (s .discarder) (liable - 1) ron (wholeOf (eqb (s .winner) (s .dealer)))))) c) × Changes r ⌝ }
+    ensures { λ r. ⌜ (r ≡ cond (isSet liable) (tabulate 4 0 (paidByOthers (s .winner) (paoPays (s .discarder) (liable - 1) ron (wholeOf (eqb (s .winner) (s .dealer)))))) c) × Changes r ⌝ }
 {
     if 0 < liable {
         return pao_gives(s, ron, liable - 1);
@@ -227,7 +228,7 @@ fn payer_of(ron: bool, discarder: u8, feeder: u8) -> u8
 // What n repeat counters give each seat at a win: all others pay them on tsumo, the discarder alone on ron, and the feeder alone on tsumo with pao.
 pub fn added(s: Seats, ron: bool, liable: u8, n: u32) -> [i32; 4]
     requires { ⌜ (s .winner ≤ 3) × (s .discarder ≤ 3) × (ron ≡ true → s .winner ≡ s .discarder → ⊥) × (liable ≤ 4) × (liable ≡ 1 + s .winner → ⊥) × (n ≤ lastHand) ⌝ }
-    ensures { λ r. ⌜ (r ≡ tabulate 4 0 (repeatGives (s .winner) (cond ron (s .discarder) (liable - 1)) (ron || isSet liable) n)) × Changes r ⌝ }
+    ensures { λ r. ⌜ (r ≡ tabulate 4 0 (paidByOthers (s .winner) (repeatPays (cond ron (s .discarder) (liable - 1)) (ron || isSet liable) n))) × Changes r ⌝ }
 {
     let payer = payer_of(ron, s.discarder, feeder_of(liable));
     additions(s.winner, payer, ron | (0 < liable), n)

@@ -9,7 +9,7 @@ ghost use Rattle.hand.specs.Refusals.{wrongDiscarder};
 ghost use Rattle.hand_record.specs.Record.{refusalIn, readOf};
 ghost use Rattle.hand_record.specs.laws.Bounds.{Bounds};
 ghost use Rattle.position.specs.Booking as Booking;
-ghost use Rattle.position.specs.Ledger.{lastHand, handFor, paoIn, holdsFourWinds, Moves};
+ghost use Rattle.position.specs.Ledger.{lastHand, handFor, liableBy, liableIn, holdsFourWinds, Moves};
 ghost use Rattle.position.specs.laws.Bounds.{mostSticks};
 ghost use Rattle.position.specs.laws.Form.{Open};
 ghost use Rattle.position.specs.laws.Sums.{Changes, Gifts};
@@ -48,7 +48,7 @@ fn holds_four_winds(h: Hand) -> bool
 // Who is liable for the winner's yaku that is reported: 0 where nobody is named, or 1 + the feeder.
 fn pao_of(p: Position, h: Hand, yaku: [bool; 37]) -> u8
     requires { ⌜ h .fields .winner ≤ 3 ⌝ }
-    ensures { λ r. ⌜ r ≡ paoIn p (h .fields .winner) (getD yaku 28 false) (getD yaku 29 false && holdsFourWinds h) ⌝ }
+    ensures { λ r. ⌜ liableBy r ≡ liableIn p (h .fields .winner) (getD yaku 28 false) (getD yaku 29 false && holdsFourWinds h) ⌝ }
 {
     let f = p.feeders;
     let w = h.fields.winner as usize;

@@ -97,7 +97,7 @@ fn next_kind(t: &[u8; 34], k: usize) -> usize
     i
 }
 
-// The first code from code on whose lowest kind has a tile, 68 where none below has: those before it do not fit, and pass.
+// The first code, from `code` on, whose lowest kind has a tile; 68 where no code below 68 has one. The codes passed over do not fit.
 pub fn next_code(t: &[u8; 34], code: u8) -> u8
     ensures { λ r. ⌜ (code ≤ r) × ((c : ℕ) → code ≤ c → c < r → (c < 68) × (fitsOf (now (t .entry)) c ≡ false) × (passesOf (now (t .entry)) c ≡ true)) ⌝ }
 {
@@ -156,7 +156,7 @@ fn in_suit(t: &[u8; 34], s: usize) -> Suit
     Suit { tiles, weight }
 }
 
-// The kinds p so far, and q where a suit or an honour has two tiles over threes; none where one has one over, or two have two.
+// A suit or honour has `over` tiles over threes. With none over, p, the kinds so far, stay. With two, and p still none, q are the kinds. Else none are left.
 fn joined(p: Pairs, over: u32, q: Pairs) -> Pairs
     ensures { λ r. ⌜ (over ≡ 0 → r ≡ p) × (over ≡ 2 → p .first ≡ 34 → r ≡ q) × (p .last < 34 → q .last < 34 → r .last < 34) ⌝ }
 {
@@ -169,7 +169,7 @@ fn joined(p: Pairs, over: u32, q: Pairs) -> Pairs
     Pairs { first: 35, last: 0 }
 }
 
-// The kinds that may be the pair beside groups, of one suit by threes or one honour: no other kind is.
+// The kinds that may be the pair beside groups: every third kind of one suit, or one honour. No other kind can be.
 pub fn pairs_in(t: &[u8; 34]) -> Pairs
     requires { ⌜ length (now t) ≡ 34 ⌝ }
     ensures { λ r. ⌜ (r .last < 34) × OnlyPairs (now (t .entry)) (r .first) (r .last) ⌝ }

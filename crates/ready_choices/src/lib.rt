@@ -87,7 +87,7 @@ pub fn begun_in(s: u8) -> Begun
     }
 }
 
-// How many a, b, g have a smaller sum than n.
+// How many triples a, b, g have a sum under n.
 fn tetra(n: u8) -> u8
     requires { ⌜ n ≤ 4 ⌝ }
     ensures { λ r. ⌜ (r ≡ tetraOf n) × (r ≤ 20) ⌝ }
@@ -95,7 +95,7 @@ fn tetra(n: u8) -> u8
     n * (n + 1) * (n + 2) / 6
 }
 
-// How many a, b have a smaller sum than n.
+// How many pairs a, b have a sum under n.
 fn triangle(n: u8) -> u8
     requires { ⌜ n ≤ 4 ⌝ }
     ensures { λ r. ⌜ (r ≡ triangleOf n) × (r ≤ 10) ⌝ }
@@ -103,7 +103,7 @@ fn triangle(n: u8) -> u8
     n * (n + 1) / 2
 }
 
-// How many a, b, g have a smaller sum than n less y: for every choice in a state by the same two numbers.
+// How many triples a, b, g have a sum under n - y. Every choice in a state takes it from the same two numbers, those of n.
 fn smaller(n: u8, y: u8) -> u8
     requires { ⌜ (n ≤ 4) × (y ≤ n) × (y ≤ 1) ⌝ }
     ensures { λ r. ⌜ (r ≡ tetraOf (n - y)) × (r ≤ 20) ⌝ }
@@ -152,7 +152,7 @@ fn pair(e: u8) -> u8
     if (e == 1) | (e == 4) | (e == 6) { 1 } else { 0 }
 }
 
-// A hand can be in the state s, of the parts q, at the kind k.
+// A hand can be in the state s at the kind k; q are the parts of s.
 pub fn live(k: u8, s: u8, q: Begun) -> bool
     requires { ⌜ Parted s q ⌝ }
     ensures { λ r. ⌜ r ≡ liveOf k s ⌝ }
@@ -164,7 +164,7 @@ pub fn live(k: u8, s: u8, q: Begun) -> bool
     true
 }
 
-// The choice of x runs, y triplets and z pairs in a state of the parts q, where so many are left to begin.
+// The choice of x runs, y triplets and z pairs in a state with the parts q, which has so many left to begin.
 pub fn taking(q: Begun, x: u8, y: u8, z: u8) -> Move
     requires { ⌜ (q .a + q .b + q .g ≤ 4) × (x + y ≤ q .g) × (y ≤ 1) × (z ≤ q .p) × (q .p ≤ 1) ⌝ }
     ensures { λ r. ⌜ r ≡ takes q x y z ⌝ }
@@ -240,7 +240,7 @@ fn orphans(k: u8, s: u8, e: u8) -> Move
     }
 }
 
-// The choice e at the kind k in any state, whose parts are q where it is one of a regular hand.
+// The choice e at the kind k in any state. q are its parts, where the state is one of a regular hand.
 pub fn made(k: u8, s: u8, q: Begun, e: u8) -> Move
     requires { ⌜ (s < 80) × (e < 10) × Parted s q ⌝ }
     ensures { λ r. ⌜ Makes k s e r ⌝ }
@@ -254,7 +254,7 @@ pub fn made(k: u8, s: u8, q: Begun, e: u8) -> Move
     orphans(k, s, e)
 }
 
-// What a move is worth where later is the value of the state after it.
+// What a move is worth; `later` is the value of the state after it.
 pub fn value(m: Move, later: u8, have: u8, room: u8) -> u8
     requires { ⌜ (later ≤ 200) × (have ≤ 4) ⌝ }
     ensures { λ r. ⌜ r ≡ valueOf m later have room ⌝ }

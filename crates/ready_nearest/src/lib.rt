@@ -41,7 +41,7 @@ pub struct Near {
     pub hand: [u8; 34],
 }
 
-// v, or what the move m is worth where that is more; the values after it begin at the place `from`.
+// The larger of v and what the move m is worth. The row of the next kind begins at `from`.
 fn better(v: u8, m: Move, from: usize, have: u8, room: u8, table: &[u8; 2800]) -> u8
     requires { ⌜ (m .to < 80) × (from ≤ 2720) × (have ≤ 4) × Small (now table) ⌝ }
     ensures { λ r. ⌜ r ≡ max v (valueOf m (getD (now (table .entry)) (from + m .to) 0) have room) ⌝ }
@@ -53,7 +53,7 @@ fn better(v: u8, m: Move, from: usize, have: u8, room: u8, table: &[u8; 2800]) -
     if v < w { w } else { v }
 }
 
-// v, or the best of two choices where that is more: x runs and no triplet, without a pair and with one.
+// The largest of v and what two choices are worth: x runs and no triplet, without a pair and with one.
 fn with_pair(v: u8, k: u8, s: u8, q: Begun, x: u8, have: u8, room: u8, table: &[u8; 2800]) -> u8
     requires { ⌜ (k < 34) × (s < 70) × (live k s ≡ true) × Parted s q × (x ≤ q .g) × (0 < x → isRunStart k ≡ true) × (have ≤ 4) × Small (now table) ⌝ }
     ensures { λ r. ⌜ ((e : ℕ) → Pairs e x → v ≡ most e (worth have room (after (now (table .entry)) k) k s) →

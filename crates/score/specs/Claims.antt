@@ -12,12 +12,13 @@ use Rattle.reading.specs.declared.Reading.{Reading}
 use Rattle.reading.specs.Order.{Before}
 use Rattle.yaku.specs.Yaku.{yakuman}
 use Rattle.points.specs.Points.{sumOfFour}
-use Rattle.points_fu.specs.Fu.{fu, groupFu, added, baseAlone}
+use Rattle.points_fu.specs.Fu.{fu, groupFu, added}
 use Rattle.score_best.specs.Best.{withYakuman, upTo}
 use Rattle.score.specs.declared.Scored.{Scored}
 use Rattle.score.specs.Readings.{AreReadingsOf}
-use Rattle.score.specs.Named.{wonOf, groupsOf, waysOf, fullReadingOf, worth, IsReadingOf, ReadsWithYaku, IsReported, gainIn, scoredAs, Named}
-use Rattle.score.specs.Score.{scoreOf, is-score}
+use Rattle.score.specs.Named.{wonOf, groupsOf, waysOf, fullReadingOf, worth, IsReadingOf, ReadsWithYaku, IsReported, gainIn, refusedWith, scoredAs, Named}
+use Rattle.score.specs.Score.{scoreOf}
+use Rattle.score.specs.laws.One.{is-score}
 use Rattle.score.specs.laws.Named as laws
 use Rattle.score.specs.laws.Items as items
 use Rattle.score.specs.laws.HandScore as hand-score
@@ -73,10 +74,6 @@ module _ (s : List ℕ) (dealer wind : ℕ) where
   pub items-total : added (scoreOf s dealer wind .items) ≡ scoreOf s dealer wind .fu .0
   items-total = items.total (is-score s dealer wind)
 
-  -- refused: "all else zero", the ten items too
-  pub no-items : (scoreOf s dealer wind .refusal ≡ 0 → ⊥) → scoreOf s dealer wind .items ≡ baseAlone 0
-  no-items = items.none (is-score s dealer wind)
-
   -- "how many readings it tried, those with no yaku and each place in equal groups counted: up to that one, it included, or all where there is none"
   -- (02, S-4): of any list that has all readings in order, those up to "the first yakuman reading"
   pub tried : dealer ≤ 3 → wind ≤ 1 → IsSound s → scoreOf s dealer wind .refusal ≡ 0 →
@@ -84,9 +81,9 @@ module _ (s : List ℕ) (dealer wind : ℕ) where
       (rs : List Reading) → AreReadingsOf h rs → scoreOf s dealer wind .tried ≡ length (upTo (withYakuman (worth h dealer wind)) rs)
   tried = tries.tried s dealer wind
 
-  -- "a refused call returns its number with all else zero" (01)
-  pub none-tried : (scoreOf s dealer wind .refusal ≡ 0 → ⊥) → scoreOf s dealer wind .tried ≡ 0
-  none-tried = tries.none-tried s dealer wind
+  -- "a refused call returns its number with all else zero" (01): the ten items and how many readings were tried too
+  pub refused-zero : (scoreOf s dealer wind .refusal ≡ 0 → ⊥) → scoreOf s dealer wind ≡ refusedWith (scoreOf s dealer wind .refusal)
+  refused-zero = tries.refused-zero s dealer wind
 
   -- "A yakuman can't be beaten, and among readings with one the first in document 01's order is reported" (02, S-4)
   pub first-yakuman : dealer ≤ 3 → IsSound s →

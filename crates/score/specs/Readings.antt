@@ -22,14 +22,3 @@ all-kinds h = length-tally (inConcealed h)
 -- the one such list
 unfoldable pub readingsOf : Hand → List Reading
 readingsOf h = exactly-one-list (concealedTally h) (h .held .m) (h .fields .winning) (all-kinds h) .0
-
-module _ (h : Hand) where
-  -- it is such a list
-  pub are-readings : AreReadingsOf h (readingsOf h)
-  unfolding readingsOf
-  are-readings = exactly-one-list (concealedTally h) (h .held .m) (h .fields .winning) (all-kinds h) .1
-
-  -- and the only one
-  pub only-readings : (rs : List Reading) → AreReadingsOf h rs → rs ≡ readingsOf h
-  unfolding readingsOf
-  only-readings = exactly-one-list (concealedTally h) (h .held .m) (h .fields .winning) (all-kinds h) .2

@@ -1,3 +1,4 @@
+pub mod Readings
 pub mod FullReading
 pub mod Paid
 pub mod Found
@@ -5,6 +6,7 @@ pub mod Best
 pub mod Named
 pub mod Items
 pub mod Exact
+pub mod One
 pub mod HandScore
 pub mod Written
 pub mod Tried

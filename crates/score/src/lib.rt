@@ -5,6 +5,7 @@ ghost use mathlib.Core.Bool.{false, cond};
 ghost use Prim.Native.Nat.{_-_, _<_, _≤_};
 ghost use lib.Dec.{ltb};
 ghost use lib.ListN.{getD};
+ghost use Rattle.hand.specs.Hand.{concealedTally};
 ghost use Rattle.hand.specs.Refusals.{wrongDiscarder};
 ghost use Rattle.yaku_basics.specs.Melds.{meldCode, meldWay};
 ghost use Rattle.score_best.specs.search.HandCommon.{IsHandCommon};
@@ -36,14 +37,14 @@ pub struct Scored {
     pub changes: [i32; 4],
 }
 
-// How the hand was won.
-fn won_of(h: Hand, dealer: u8, wind: u8) -> Won
-    requires { ⌜ (h .fields .winner ≤ 3) × (dealer ≤ 3) × (wind ≤ 1) ⌝ }
+// How the hand was won, where c is the tally of its concealed tiles with the winning tile.
+fn won_of(h: Hand, c: [u8; 34], dealer: u8, wind: u8) -> Won
+    requires { ⌜ (h .fields .winner ≤ 3) × (dealer ≤ 3) × (wind ≤ 1) × (c ≡ concealedTally h) ⌝ }
     ensures { λ r. ⌜ r ≡ wonOf h dealer wind ⌝ }
 {
     let f = h.fields;
     let x = h.held;
-    let t = hand::hand_tally(h);
+    let t = hand::with_melds(c, h);
     Won {
         tally: t,
         win: f.winning,
@@ -115,12 +116,12 @@ fn meld_ways(h: Hand) -> [u8; 4]
     ]
 }
 
-// What is the same in every reading of the hand.
-pub fn hand_common_of(h: Hand, dealer: u8, wind: u8) -> HandCommon
-    requires { ⌜ (h .held .m ≤ 4) × (h .fields .winner ≤ 3) × (dealer ≤ 3) × (wind ≤ 1) ⌝ }
+// What is the same in every reading of the hand, where c is the tally that the readings go by.
+pub fn hand_common_of(h: Hand, c: [u8; 34], dealer: u8, wind: u8) -> HandCommon
+    requires { ⌜ (h .held .m ≤ 4) × (h .fields .winner ≤ 3) × (dealer ≤ 3) × (wind ≤ 1) × (c ≡ concealedTally h) ⌝ }
     ensures { λ r. ⌜ (r ≡ handCommonOf h dealer wind) × IsHandCommon r ⌝ }
 {
-    let won = won_of(h, dealer, wind);
+    let won = won_of(h, c, dealer, wind);
     let t = won.tally;
     let tests = yaku_tiles::tile_tests(t, won.meldless);
     let codes = meld_codes(h);
@@ -187,8 +188,8 @@ pub fn score_hand(h: Hand, dealer: u8, wind: u8) -> Scored
     ensures { λ r. ⌜ Named h dealer wind r ⌝ }
     ensures { λ r. ⌜ r ≡ handScoreOf h dealer wind ⌝ }
 {
-    let t = hand_common_of(h, dealer, wind);
     let c = hand::concealed_tally(h);
+    let t = hand_common_of(h, c, dealer, wind);
     let b = score_search::search_for(t, c, h.held.m, h.fields.winning, 0);
     if 0 < b.tried {
         if b.valued {

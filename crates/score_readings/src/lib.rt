@@ -195,8 +195,8 @@ fn nth_hand(h: Hand, dealer: u8, wind: u8, n: u32) -> NthReading
     if n == 0 {
         return refused(8);
     }
-    let t = score::hand_common_of(h, dealer, wind);
     let c = hand::concealed_tally(h);
+    let t = score::hand_common_of(h, c, dealer, wind);
     let b = score_search::search_for(t, c, h.held.m, h.fields.winning, n);
     if b.valued {
         let x = score_search::search_for(t, c, h.held.m, h.fields.winning, 0);
@@ -212,8 +212,8 @@ fn count_hand(h: Hand, dealer: u8, wind: u8) -> u32
     requires { ⌜ (h .held .m ≤ 4) × (h .fields .winner ≤ 3) × (dealer ≤ 3) × (wind ≤ 1) ⌝ }
     ensures { λ r. ⌜ r ≡ length (readingsOf h) ⌝ }
 {
-    let t = score::hand_common_of(h, dealer, wind);
     let c = hand::concealed_tally(h);
+    let t = score::hand_common_of(h, c, dealer, wind);
     let b = score_search::search_for(t, c, h.held.m, h.fields.winning, 1);
     b.tried
 }

@@ -53,7 +53,7 @@ fn places(h: HandCommon, pair: u8, groups: [u8; 4], size: u8, win: u8, best: Bes
     b
 }
 
-// Stores each splitting of t into left groups of the codes from code on, behind the groups that so has, from the place n on; how many there are then.
+// Finds each splitting of t into `left` groups with codes from `code` on, and stores it behind `prefix`, from place n on. Gives how many are stored then.
 fn split(
     t: [u8; 34],
     code: u8,

@@ -31,7 +31,7 @@ saidOf language refusal message buf = cond (isKnown language) (cond (ltb 0 refus
 unfoldable pub saidBuffer : ℕ → ℕ → List ℕ → List ℕ → List ℕ
 saidBuffer language refusal message buf = cond (isKnown language) (cond (ltb 0 refusal) buf (bufferOf message buf)) buf
 
--- r and new are the answer and the buffer of a call in language l, whose answer to be said is refused with n or is the message m; old is the buffer before
+-- a call in language l has to say the message m, or hand on the refusal n, where it is not 0: it gives r, and makes the buffer new of old
 pub record Answers (l n : ℕ) (m old : List ℕ) (r : Said) (new : List ℕ) : Type 0 where
   pub answer : r ≡ saidOf l n m old
   pub buffer : new ≡ saidBuffer l n m old

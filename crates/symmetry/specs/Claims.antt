@@ -1,14 +1,12 @@
 -- The theorems of a table keyed from two sides (02, S-12).
-use Prim.Native.Nat.{ℕ, _≤_, _<_}
+use Prim.Native.Nat.{ℕ, _≤_}
 use mathlib.Core.Bool.{false}
-use mathlib.Core.List.{List, [], _∷_}
+use mathlib.Core.List.{List}
 use mathlib.Core.Path.{_≡_}
-use lib.ListN.{getD}
 use Rattle.hand_record.specs.Record.{handOf, readOf, IsSound}
 use Rattle.score.specs.Score.{scoreOf}
 use Rattle.symmetry.specs.Rotated.{on, rotatedHand, rotatedRecord, RotatedScore}
 use Rattle.symmetry.specs.Renamed.{IsRenaming, IsRenamed, isAllGreen, SameScore}
-use Rattle.symmetry.specs.laws.Kinds as kinds
 use Rattle.symmetry.specs.laws.Rotated as rotated
 use Rattle.symmetry.specs.laws.Renamed as renamed
 
@@ -29,10 +27,6 @@ module _ (n : ℕ) (s : List ℕ) (i : IsSound s) where
 
 -- ---- "any renaming of the three suits": by σ
 
--- each of the six orders of the three suits is one: a for man, b for pin, c for sou
-pub renaming-of : (a b c : ℕ) → a < 3 → b < 3 → c < 3 → (a ≡ b → ⊥) → (a ≡ c → ⊥) → (b ≡ c → ⊥) → IsRenaming (λ s. getD (a ∷ b ∷ c ∷ []) s 0)
-renaming-of = kinds.renaming-of
-
 module _ (σ : ℕ → ℕ) (r : IsRenaming σ) (s : List ℕ) (i : IsSound s) where
   -- there is a sound record of its hand renamed
   pub renamed-exists : (t : List ℕ) × IsSound t × IsRenamed σ (handOf (readOf s)) (handOf (readOf t))
@@ -44,9 +38,3 @@ module _ (σ : ℕ → ℕ) (r : IsRenaming σ) (s : List ℕ) (i : IsSound s) w
     -- "leaves changes, h and fu as they were, provided the hand is all green (yaku 34) neither before nor after"
     pub renamed-scores : SameScore (scoreOf s dealer wind) (scoreOf t dealer wind)
     renamed-scores = renamed.renamed-score σ r s i t j x dealer wind before after
-
-    -- "The yaku set may differ only where two readings tie": it never differs, not even there. Regular readings of the same tiles have their pairs in one
-    -- suit, and with the same pair their groups differ within one suit (laws/Suits of reading), so a renaming keeps the order, and where two tie the
-    -- image of the same one is reported
-    pub yaku-never-differs : scoreOf t dealer wind .yaku ≡ scoreOf s dealer wind .yaku
-    yaku-never-differs = renamed-scores .yaku

@@ -72,6 +72,9 @@ pub record SameScore (x y : Scored) : Type 0 where
   pub h : y .h .0 ≡ x .h .0
   pub fu : y .fu .0 ≡ x .fu .0
   pub items : SameItems (x .items) (y .items)
+  -- "The yaku set may differ only where two readings tie": it never differs, not even there. Regular readings of the same tiles have their pairs in one
+  -- suit, and with the same pair their groups differ within one suit (laws/Suits of reading), so a renaming keeps the order, and where two tie the image of
+  -- the same one is reported
   pub yaku : y .yaku ≡ x .yaku
   pub tried : y .tried ≡ x .tried
   pub changes : y .changes ≡ x .changes

@@ -1,14 +1,14 @@
 -- An unfinished hand as bytes (02, S-1): its bits, and what its reader refuses. What the tiles held are refused for is `hand`'s.
 use mathlib.Core.Path.{_≡_}
 use mathlib.Core.Bool.{Bool, false, _||_, cond, not}
-use mathlib.Core.List.{List, [], _∷_, _++_}
+use mathlib.Core.List.{List, [], _∷_}
 use Prim.Native.Nat.{ℕ, _+_, _*_, _-_}
 use lib.Dec.{ltb, eqb}
 use lib.ListN.{length, getD}
-use Rattle.bits.specs.Bits.{unpack, eights, bitsOf}
+use Rattle.bits.specs.Bits.{unpack, bitsOf}
 use Rattle.hand.specs.declared.Held.{Held}
 use Rattle.hand.specs.Held.{inHeld, wrongHeld, descends, overFour}
-use Rattle.hand_record.specs.Record.{sixes, heldBy, noneHeld}
+use Rattle.hand_record.specs.Record.{heldWidths, heldBy, noneHeld}
 use Rattle.unfinished.specs.declared.Unfinished.{Unfinished}
 
 -- ---- the layout
@@ -23,7 +23,7 @@ padOf m = getD (7 ∷ 1 ∷ 3 ∷ 5 ∷ 7 ∷ []) m 0
 
 -- all widths with m melds: "meld count 3 bits, melds, 13 − 3m tiles, zero bits to the byte"
 unfoldable pub widths : ℕ → List ℕ
-widths m = 3 ∷ (eights m ++ (sixes (13 - 3 * m) ++ (padOf m ∷ [])))
+widths m = 3 ∷ heldWidths m (padOf m)
 
 -- "meld count 3 bits"
 unfoldable pub countIn : List ℕ → ℕ

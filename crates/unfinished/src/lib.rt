@@ -8,10 +8,10 @@ ghost use Rattle.unfinished.specs.Unfinished.{lengthOf, padOf, heldRefus
 use hand::Held;
 
 // The bytes of an unfinished hand with 0 to 4 melds.
-const LENGTHS: [usize; 5] = [11, 9, 8, 7, 6];
+pub const LENGTHS: [usize; 5] = [11, 9, 8, 7, 6];
 
 // Its padding bits.
-const PADS: [usize; 5] = [7, 1, 3, 5, 7];
+pub const PADS: [usize; 5] = [7, 1, 3, 5, 7];
 
 // What the reader gives: 0 and the tiles held, or the refusal and none.
 pub struct Unfinished {
@@ -32,7 +32,7 @@ fn refused(n: u8) -> Unfinished
 }
 
 // 2 to 4 of the tiles held, first match wins; 0 where there is none.
-fn held_refusal(x: Held, padding: u32) -> u8
+pub fn held_refusal(x: Held, padding: u32) -> u8
     ensures { λ r. ⌜ r ≡ heldRefusal x padding ⌝ }
 {
     if hand_refusals::wrong_held(x, padding) {

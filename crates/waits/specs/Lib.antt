@@ -1,10 +1,8 @@
 -- Waits   what an unfinished hand waits for, and what the call answers
 -- Answer  there is exactly one answer
--- Claims  the theorems: waits-exactly, furiten-exactly, refused-none, first-refusal, refused-15
 -- search  how the code finds the waits
 -- laws    what they stand on, and a worked hand
 pub mod Waits
 pub mod search
 pub mod laws
 pub mod Answer
-pub mod Claims

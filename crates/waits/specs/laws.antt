@@ -1,5 +1,5 @@
 pub mod Found
 pub mod Over
 pub mod Exact
-pub mod Claims
+pub mod One
 pub mod Examples

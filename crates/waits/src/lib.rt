@@ -31,7 +31,8 @@ fn refused(n: u8) -> Waits
     }
 }
 
-// The tiles have a reading with m melds: a pair and groups, which is asked only where they may be, or without melds seven pairs or thirteen orphans.
+// The tiles have a reading with m melds. Where `may` is false they are no pair and groups, and nothing is searched. Without melds, seven pairs and
+// thirteen orphans are readings too.
 fn reads(t: [u8; 34], m: u8, may: bool) -> bool
     requires { ⌜ (m ≤ 4) × (may ≡ false → splitsInto (suc (4 - m)) true t ≡ false) ⌝ }
     ensures { λ r. ⌜ r ≡ readsOf t m ⌝ }
@@ -43,7 +44,7 @@ fn reads(t: [u8; 34], m: u8, may: bool) -> bool
     s | ((m == 0) & (reading_steps::is_seven_pairs(t) | reading_steps::is_orphans(t)))
 }
 
-// A kind of which n are held is a wait of the concealed tiles t; with it they may be a pair and groups, or are none.
+// The kind k, of which n are held, is a wait of the concealed tiles t. Where `may` is false, t with it is no pair and groups.
 fn is_wait(t: [u8; 34], n: u8, m: u8, k: u8, may: bool) -> bool
     requires { ⌜ (m ≤ 4) × (getD t k 0 ≤ 13) × (may ≡ false → splitsInto (suc (4 - m)) true (more t k 1) ≡ false) ⌝ }
     ensures { λ r. ⌜ r ≡ (ltb n 4 && readsOf (more t k 1) m) ⌝ }
@@ -93,7 +94,7 @@ fn one(b: bool) -> u8
     if b { 1 } else { 0 }
 }
 
-// The suits and honours of which a tile more may make a pair and groups: those with tiles over threes, where there are two at most.
+// The suits and honours of which one tile more may make a pair and groups. They are those with tiles over threes; where over two have such, there is none.
 fn open_sorts(t: &[u8; 34]) -> [bool; 10]
     requires { ⌜ (length (now t) ≡ 34) × ((k : ℕ) → getD (now t) k 0 ≤ 13) ⌝ }
     ensures { λ r. ⌜ ((k n : ℕ) → k < 34 → getD r (sortOf k) false ≡ false → splitsInto (suc n) true (more (now (t .entry)) k 1) ≡ false) ⌝ }

@@ -33,8 +33,8 @@ pub struct FullReading {
     pub place: u8,
 }
 
-// What the pair and the groups say at each place of the winning tile: the tests but for those that go by the place or the ways,
-// which are false; whether a yakuman or any yaku is among these; the han that yaku 3 counts; yaku 4 but for the place; whether the pair is a value tile.
+// What the pair and the groups say, the same at each place of the winning tile. `yaku` has the tests; those that go by the place or the ways are false.
+// `yakuman` and `any` say what is among them, `values` is the han of yaku 3, `runs` yaku 4 but for the place, `value` that the pair is a value tile.
 pub struct GroupTests {
     pub yaku: [bool; 37],
     pub yakuman: bool,
@@ -44,8 +44,8 @@ pub struct GroupTests {
     pub value: bool,
 }
 
-// What the place of the winning tile says, and the ways with it: whether the wait earns fu, yaku 4, how many concealed triplets and kans there are,
-// and whether a yakuman or any yaku is among all tests.
+// What the place of the winning tile says, and the ways with it: whether the wait earns fu; yaku 4; how many triplets are concealed and how many
+// groups are kans; and whether a yakuman, or any yaku, is among all tests.
 pub struct PlaceTests {
     pub wait: bool,
     pub pinfu: bool,

@@ -151,7 +151,7 @@ pub fn concealed(g: [u8; 4], ways: [u8; 4]) -> u8
         + is_concealed(g[3], ways[3])
 }
 
-// How many of `all` concealed triplets still are, where the winning tile completes the one at `place`.
+// How many of `all` concealed triplets stay concealed. The winning tile completes the pair (place 0) or a group; by ron that group is open.
 pub fn concealed_at(all: u8, g: [u8; 4], ways: [u8; 4], ron: bool, place: u8) -> u8
     requires { ⌜ (all ≡ concealedOf g ways) × (place ≤ 4) ⌝ }
     ensures { λ r. ⌜ r ≡ concealedOf g (waysAt ways ron place) ⌝ }
@@ -164,7 +164,7 @@ pub fn concealed_at(all: u8, g: [u8; 4], ways: [u8; 4], ron: bool, place: u8) ->
     }
 }
 
-// How many of `all` kans there still are: none that the winning tile completes.
+// How many of `all` kans there are, where a group that the winning tile completes by ron is none.
 pub fn kans_at(all: u8, ways: [u8; 4], ron: bool, place: u8) -> u8
     requires { ⌜ (all ≡ kansOf ways) × (place ≤ 4) ⌝ }
     ensures { λ r. ⌜ r ≡ kansOf (waysAt ways ron place) ⌝ }

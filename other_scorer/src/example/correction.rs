@@ -43,7 +43,8 @@ fn result(script: &mut Script, kind: char, keep: bool) -> Entry {
     let winners = if keep { &seats[..2] } else { &seats[1..3] };
     let from = if keep { seats[2] } else { script.rng.pick(&[seats[0], seats[3]]) };
     let fits = |hand: &Hand| (hand.riichi > 0) == declared.contains(&hand.winner);
-    let by_pao = |hand: &Hand| pao::yaku(hand, position.dealer, position.wind).is_some_and(|yaku| position.feeder(hand.winner, yaku).is_some());
+    let by_pao =
+        |hand: &Hand| pao::yaku(hand, position.dealer, position.wind).is_some_and(|yaku| position.feeder(hand.winner, yaku).is_some());
     match kind {
         'W' => Win(pack(&script.find(winners[0], |hand, scored| scored.refusal == 0 && fits(hand)))),
         'F' => Win(pack(&script.find(winners[0], |hand, scored| scored.refusal == 0 && fits(hand) && by_pao(hand)))),
@@ -52,7 +53,8 @@ fn result(script: &mut Script, kind: char, keep: bool) -> Entry {
         'U' => Draw(if keep { bits(&[position.dealer]) } else { 0 }),
         'C' => Chombo(script.rng.within(0, 3)),
         _ => {
-            let first = script.find(winners[0], |hand, scored| hand.how == RON && hand.discarder == from && scored.refusal == 0 && fits(hand));
+            let first =
+                script.find(winners[0], |hand, scored| hand.how == RON && hand.discarder == from && scored.refusal == 0 && fits(hand));
             loop {
                 let riichi = declared.contains(&winners[1]) as u8;
                 let second = on_tile_of(&mut script.rng, &first, winners[1], riichi);

@@ -127,12 +127,8 @@ impl Scene {
                 script.win(dealer, |_, scored| scored.yaku >> n & 1 == 1)
             }
             Scene::Melds(m) => script.win(dealer, |hand, _| hand.m == m),
-            Scene::MeldKind(kind) => {
-                script.win(dealer, |hand, _| hand.melds().iter().any(|meld| meld.kind == kind))
-            }
-            Scene::Han(low, high) => {
-                script.win(dealer, |_, scored| (low..=high).contains(&scored.h))
-            }
+            Scene::MeldKind(kind) => script.win(dealer, |hand, _| hand.melds().iter().any(|meld| meld.kind == kind)),
+            Scene::Han(low, high) => script.win(dealer, |_, scored| (low..=high).contains(&scored.h)),
             Scene::Refused(number) => refused(script, number),
             Scene::Draw(count) => draw(script, count as usize),
             Scene::Chombo(count, own) => chombo(script, count as usize, own),

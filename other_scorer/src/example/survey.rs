@@ -37,12 +37,26 @@ fn expected() -> Cover {
     cover.expect_numbers("draw ready", 0, 4);
     cover.expect("draw with sticks", &["none", "this hand's", "older"]);
     cover.expect_numbers("draw declared, not ready", 1, 4);
-    cover.expect("draw of a chombo", &["of the dealer", "not of the dealer", "a declared seat ready", "a ready seat not declared", "older sticks", "counters"]);
+    cover.expect(
+        "draw of a chombo",
+        &["of the dealer", "not of the dealer", "a declared seat ready", "a ready seat not declared", "older sticks", "counters"],
+    );
     cover.expect_numbers("chombo declared", 0, 4);
     cover.expect("chombo by", &["dealer", "child", "declared seat", "other seat"]);
     cover.expect("chombo with older sticks", &["yes"]);
     cover.expect_numbers("multiple ron of", 1, 3);
-    cover.expect("multiple ron", &["dealer wins", "dealer does not win", "sticks", "counters", "a declared winner", "records of two lengths", "first winner not first"]);
+    cover.expect(
+        "multiple ron",
+        &[
+            "dealer wins",
+            "dealer does not win",
+            "sticks",
+            "counters",
+            "a declared winner",
+            "records of two lengths",
+            "first winner not first",
+        ],
+    );
     cover.expect("multiple ron refused", &["2", "3", "4", "5", "6", "7", "9", "11", "17"]);
     cover.expect("multiple ron refused with 17", &multi_ron::FAULTS);
     cover.expect("multiple ron by pao", &["from the feeder", "from another", "the feeder wins too"]);
@@ -159,11 +173,14 @@ fn note_correction(cover: &mut Cover, before: &Game, after: &Position, new: &Ent
     let old = named(&earlier, old).replace("W by pao", "W");
     cover.add("correction of", if since.corrected { "a correction".into() } else { old });
     cover.add("correction by", named(&earlier, new));
-    cover.add("correction", match since.refused {
-        None => "at once",
-        Some('X') => "after a refused correction",
-        Some(_) => "after a refused booking",
-    });
+    cover.add(
+        "correction",
+        match since.refused {
+            None => "at once",
+            Some('X') => "after a refused correction",
+            Some(_) => "after a refused booking",
+        },
+    );
     cover.add_if(now.over, "correction", "of the end");
     cover.add_if(now.over && !after.over, "play goes on after the end", "yes");
     cover.add_if(earlier.declared.contains(&true), "correction gives back", "declared seats");
@@ -193,14 +210,17 @@ fn note_win(cover: &mut Cover, before: &Position, hand: &Hand, record: &[u8]) {
     for meld in hand.melds() {
         cover.add("win meld kind", ["chi", "pon", "open kan", "closed kan"][meld.kind as usize]);
     }
-    cover.add("win h", match scored.h {
-        0 => "yakuman",
-        1..=4 => "1-4",
-        5 => "5",
-        6..=7 => "6-7",
-        8..=10 => "8-10",
-        _ => "11 up",
-    });
+    cover.add(
+        "win h",
+        match scored.h {
+            0 => "yakuman",
+            1..=4 => "1-4",
+            5 => "5",
+            6..=7 => "6-7",
+            8..=10 => "8-10",
+            _ => "11 up",
+        },
+    );
     for n in (1..=36).filter(|n| scored.yaku >> n & 1 == 1) {
         cover.add("win yaku", n);
     }
@@ -264,7 +284,9 @@ fn note_refused(cover: &mut Cover, before: &Position, entry: &Entry, refusal: u8
     cover.add("refusal", refusal);
     cover.add_if(before.over, "refused after the end", format!("{letter} {refusal}"));
     match (entry, refusal) {
-        (Entry::Riichi(seat), 10) => cover.add("refusal 10 with", if before.affords_riichi(*seat) { "1,000 or more" } else { "under 1,000" }),
+        (Entry::Riichi(seat), 10) => {
+            cover.add("refusal 10 with", if before.affords_riichi(*seat) { "1,000 or more" } else { "under 1,000" })
+        }
         (Entry::Riichi(seat), 21) => cover.add("refusal 21 with", if before.scores[*seat as usize] < 0 { "under 0" } else { "0 to 999" }),
         (_, 11) => cover.add_if(marked(entry).iter().any(|seat| away.contains(seat)), "11 since a refusal 21", letter),
         _ => {}
@@ -276,14 +298,19 @@ fn note_refused(cover: &mut Cover, before: &Position, entry: &Entry, refusal: u8
     if let Entry::MultiRon { number, records } = entry {
         cover.add("multiple ron refused", refusal);
         let faults = multi_ron::hands(*number, records).map_or([false; 6], |hands| multi_ron::faults(&hands));
-        (0..6).filter(|&fault| refusal == 17 && faults[fault]).for_each(|fault| cover.add("multiple ron refused with 17", multi_ron::FAULTS[fault]));
+        (0..6)
+            .filter(|&fault| refusal == 17 && faults[fault])
+            .for_each(|fault| cover.add("multiple ron refused with 17", multi_ron::FAULTS[fault]));
     }
     if let (Entry::Pao { holder, feeder, yaku }, 18) = (entry, refusal) {
-        cover.add("refusal 18", match before.feeder(*holder, *yaku) {
-            _ if holder == feeder => "holder is the feeder",
-            named if named == Some(*feeder) => "named with the same feeder",
-            _ => "named with another feeder",
-        });
+        cover.add(
+            "refusal 18",
+            match before.feeder(*holder, *yaku) {
+                _ if holder == feeder => "holder is the feeder",
+                named if named == Some(*feeder) => "named with the same feeder",
+                _ => "named with another feeder",
+            },
+        );
     }
 }
 
@@ -301,7 +328,9 @@ fn note_accepted(cover: &mut Cover, before: &Position, after: &Position, booking
         }
         Entry::Draw(bits) => note_draw(cover, before, *bits),
         Entry::Chombo(seat) => note_chombo(cover, before, *seat),
-        Entry::MultiRon { number, records } => note_multi_ron(cover, before, &multi_ron::hands(*number, records).expect("an accepted multiple ron")),
+        Entry::MultiRon { number, records } => {
+            note_multi_ron(cover, before, &multi_ron::hands(*number, records).expect("an accepted multiple ron"))
+        }
         Entry::Pao { holder, yaku, .. } => note_pao(cover, before, *holder, *yaku),
         Entry::Correction(_) => {}
     }

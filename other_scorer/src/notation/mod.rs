@@ -6,8 +6,8 @@ pub mod print;
 pub mod tiles;
 pub mod unfinished;
 
-pub use parse::{parse, seat, Fault};
-pub use print::print;
+pub use parse::{meld, meld_kind, parse, seat, Fault};
+pub use print::{meld as meld_word, print};
 pub use tiles::{doubtful, text, tiles};
 
 use crate::record::{Hand, Meld};

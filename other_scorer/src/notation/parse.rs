@@ -74,7 +74,7 @@ fn one(text: &str) -> Result<u8, String> {
 }
 
 /// The kind of a meld by its word.
-pub(super) fn meld_kind(key: &str) -> Result<u8, String> {
+pub fn meld_kind(key: &str) -> Result<u8, String> {
     match key.to_ascii_lowercase().as_str() {
         "chi" => Ok(CHI),
         "pon" => Ok(PON),
@@ -87,8 +87,9 @@ pub(super) fn meld_kind(key: &str) -> Result<u8, String> {
     }
 }
 
-/// A meld of a kind from its tiles in any order.
-pub(super) fn meld(kind: u8, text: &str) -> Result<Meld, String> {
+/// A meld from its word and its tiles in any order: "chi" and "234m".
+pub fn meld(key: &str, text: &str) -> Result<Meld, String> {
+    let kind = meld_kind(key)?;
     let mut list = tiles(text)?;
     list.sort();
     let tile = list.first().copied().unwrap_or(0);
@@ -115,7 +116,7 @@ impl Draft {
 
     /// A word with a value.
     fn take_pair(&mut self, at: usize, key: &str, value: &str) -> Result<(), String> {
-        let kind = match key.to_ascii_lowercase().as_str() {
+        match key.to_ascii_lowercase().as_str() {
             "seat" => return set(&mut self.seat, at, seat(value)?),
             "ron" => return set(&mut self.win, at, (RON, seat(value)?)),
             "indicator" => return set(&mut self.indicator, at, one(value)?),
@@ -127,7 +128,7 @@ impl Draft {
         if self.melds.len() == 4 {
             return Err("a fifth meld, at most 4 fit".into());
         }
-        self.melds.push(meld(kind, value)?);
+        self.melds.push(meld(key, value)?);
         Ok(())
     }
 

@@ -6,7 +6,7 @@ use crate::record::*;
 use crate::sound::field_faults;
 
 /// The word of a meld.
-pub(super) fn meld(meld: &Meld) -> String {
+pub fn meld(meld: &Meld) -> String {
     let name = match meld.kind {
         CHI => "chi",
         PON => "pon",

@@ -1,6 +1,6 @@
 //! Notation of an unfinished hand: "567m22456p67s chi=234m" (02, S-1).
 
-use super::parse::{meld, meld_kind, Fault};
+use super::parse::{meld, Fault};
 use super::print::meld as word;
 use super::tiles::{plain, text, tiles};
 use crate::unfinished::{field_faults, Unfinished};
@@ -11,7 +11,7 @@ pub fn parse(words: &[&str]) -> Result<Unfinished, Fault> {
     for (word, text) in words.iter().enumerate() {
         let text: String = text.chars().map(plain).collect();
         let taken = match text.split_once('=') {
-            Some((key, value)) => meld_kind(key).and_then(|kind| meld(kind, value)).map(|meld| melds.push(meld)),
+            Some((key, value)) => meld(key, value).map(|meld| melds.push(meld)),
             None => tiles(&text).map(|list| concealed.extend(list)),
         };
         taken.map_err(|why| Fault { word, why })?;

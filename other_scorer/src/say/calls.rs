@@ -27,7 +27,11 @@ fn said(key: u8, words: impl FnOnce() -> Result<Vec<Word>, u8>) -> Message {
 
 /// What a record scores, or its refusal.
 fn accepted(scored: &Scored) -> Result<&Scored, u8> {
-    if scored.refusal == 0 { Ok(scored) } else { Err(scored.refusal) }
+    if scored.refusal == 0 {
+        Ok(scored)
+    } else {
+        Err(scored.refusal)
+    }
 }
 
 /// The Score message of a record that scores so with that dealer.
@@ -57,7 +61,11 @@ pub fn refusal(language: u8, number: u8) -> Message {
 pub fn waits(language: u8, bytes: &[u8], discards: &[u8]) -> Message {
     said(language, || {
         let found = waits::find(bytes, discards);
-        if found.refusal == 0 { Ok(messages::waits(&found)) } else { Err(found.refusal) }
+        if found.refusal == 0 {
+            Ok(messages::waits(&found))
+        } else {
+            Err(found.refusal)
+        }
     })
 }
 

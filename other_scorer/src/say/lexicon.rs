@@ -28,7 +28,10 @@ fn entries(language: Language) -> Vec<Entry> {
     let parts = match language {
         Language::English => [
             listed(0, "zero one two three four five six seven eight nine ten twenty thirty forty fifty sixty seventy eighty ninety"),
-            (19..).zip("one two three four five six seven eight nine".split(' ')).map(|(clip, one)| (format!("{one} hundred"), clip)).collect(),
+            (19..)
+                .zip("one two three four five six seven eight nine".split(' '))
+                .map(|(clip, one)| (format!("{one} hundred"), clip))
+                .collect(),
             listed(42, "eleven twelve thirteen fourteen fifteen sixteen seventeen eighteen nineteen thousand million billion"),
         ],
         Language::Japanese => {

@@ -82,7 +82,11 @@ fn japanese(number: u32) -> String {
 fn korean(number: u32) -> String {
     let each = groups(number, ["억", "만"]).map(|(digits, scale)| {
         let text = four(&digits, "일이삼사오육칠팔구", ["천", "백", "십", ""], "");
-        if text.is_empty() { text } else { without_one(&text, '일', &["천", "백", "십"]) + scale }
+        if text.is_empty() {
+            text
+        } else {
+            without_one(&text, '일', &["천", "백", "십"]) + scale
+        }
     });
     let text = each.concat();
     match text.strip_prefix("일만") {

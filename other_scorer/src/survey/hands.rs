@@ -12,8 +12,7 @@ use crate::vector::{decided_by, first_is_not_best, has_tie, Vector};
 use crate::win::Win;
 
 /// The items of fu in order (02, S-3).
-const ITEMS: [&str; 10] =
-    ["base", "closed-ron", "pair", "group-1", "group-2", "group-3", "group-4", "wait", "tsumo", "rounding"];
+const ITEMS: [&str; 10] = ["base", "closed-ron", "pair", "group-1", "group-2", "group-3", "group-4", "wait", "tsumo", "rounding"];
 
 const MELDS: [&str; 4] = ["chi count", "pon count", "open kan count", "closed kan count"];
 
@@ -39,10 +38,19 @@ impl Survey {
         cover.watch("fu");
         cover.expect("readings", &["1", "2", "3", "4", "5-8", "9+", "several-places"]);
         cover.expect("tried", &["all", "first-yakuman", "later-yakuman", "some-left", "several-and-some-left"]);
-        cover.expect("accepted", &[
-            "one-suit", "several-yakuman", "tie-other-yaku-set", "tie-without-yakuman",
-            "first-valuable-not-best", "chosen-by-h", "chosen-by-fu", "a-reading-without-yaku",
-        ]);
+        cover.expect(
+            "accepted",
+            &[
+                "one-suit",
+                "several-yakuman",
+                "tie-other-yaku-set",
+                "tie-without-yakuman",
+                "first-valuable-not-best",
+                "chosen-by-h",
+                "chosen-by-fu",
+                "a-reading-without-yaku",
+            ],
+        );
         cover.expect_kinds("winning tile");
         cover.expect_kinds("indicator");
     }

@@ -72,7 +72,11 @@ fn run_in(rng: &mut Rng, low: u8, high: u8) -> Group {
 
 /// A random group.
 fn any_group(rng: &mut Rng) -> Group {
-    if rng.percent(60) { any_run(rng) } else { Triplet(rng.within(0, 33)) }
+    if rng.percent(60) {
+        any_run(rng)
+    } else {
+        Triplet(rng.within(0, 33))
+    }
 }
 
 /// Different kinds from a list, in random order.

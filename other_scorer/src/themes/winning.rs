@@ -1,9 +1,9 @@
 //! Themes of situations.
 
+use super::any_group;
 use super::kinds::{seven_pairs, yaochu_each};
 use super::runs::{block, dense, four_runs, ordinary, straight, three_suits};
 use super::yakuman::{honour_pairs, nine_gates, orphans};
-use super::any_group;
 use crate::plan::{Open, Plan};
 use crate::reading::Group::Triplet;
 use crate::record::{CHANKAN, FIRST_TURN, LAST_TILE, RINSHAN, RON, TSUMO};

@@ -62,9 +62,7 @@ pub fn terminals_only(rng: &mut Rng) -> Plan {
 
 /// Only sou 2 3 4 6 8 and hatsu, runs 234 likely (yaku 34).
 pub fn all_green(rng: &mut Rng) -> Plan {
-    let groups = [(); 4].map(|_| {
-        if rng.percent(45) { Run(GREEN[0]) } else { Triplet(rng.pick(&GREEN)) }
-    });
+    let groups = [(); 4].map(|_| if rng.percent(45) { Run(GREEN[0]) } else { Triplet(rng.pick(&GREEN)) });
     let (pair, open) = (rng.pick(&GREEN), Open::any(rng));
     Plan::regular(rng, &groups, pair, open)
 }

@@ -229,7 +229,10 @@ fn of_win(before: &Position, record: &[u8]) -> Vec<&'static str> {
     let Some(feeder) = feeder else {
         let little = yaku.is_none() && score(record, before.dealer, before.wind).yaku >> WINDS & 1 == 1;
         let other = yaku.is_some_and(|yaku| (0..4).any(|seat| named(before, seat, yaku)));
-        let list = [(little && named(before, hand.winner, WINDS), "no pao: three wind triplets and a pair"), (other, "no pao: the yaku of another holder")];
+        let list = [
+            (little && named(before, hand.winner, WINDS), "no pao: three wind triplets and a pair"),
+            (other, "no pao: the yaku of another holder"),
+        ];
         return list.into_iter().filter(|(holds, _)| *holds).map(|(_, case)| case).collect();
     };
     let how = match hand.how {
@@ -365,7 +368,9 @@ fn met(before: &Game, entry: &Entry, refusal: u8) -> Vec<&'static str> {
 fn of_booking(before: &Position, booking: &Entry, refusal: u8) -> Vec<&'static str> {
     let mut met = match (booking, refusal) {
         (Entry::Win(record), 0) => of_win(before, record),
-        (Entry::MultiRon { number, records }, 0) => of_multi_ron(before, &multi_ron::hands(*number, records).expect("an accepted multiple ron")),
+        (Entry::MultiRon { number, records }, 0) => {
+            of_multi_ron(before, &multi_ron::hands(*number, records).expect("an accepted multiple ron"))
+        }
         (Entry::MultiRon { number, records }, 1..=7 | 11 | 17) => of_refused_multi_ron(before, *number, records, refusal),
         (Entry::Pao { holder, feeder, yaku }, _) => of_pao(before, (*holder, *feeder, *yaku), refusal),
         (Entry::Riichi(seat @ 0..=3), _) => of_riichi(before, *seat, refusal).into_iter().collect(),

@@ -14,7 +14,11 @@ use other_scorer::{Entry, Game, Position};
 /// The riichi field that fits a seat's declaration; with under 1,000 at times one though riichi is refused (02, S-11).
 fn riichi_field(rng: &mut Rng, position: &Position, seat: u8) -> u8 {
     let no_stick = !position.affords_riichi(seat) && rng.percent(15);
-    if position.declared[seat as usize] || no_stick { rng.within(1, 2) } else { 0 }
+    if position.declared[seat as usize] || no_stick {
+        rng.within(1, 2)
+    } else {
+        0
+    }
 }
 
 /// A hand as this seat's, with the riichi field that fits the declarations if `fits`; none if it is not sound then.
@@ -70,7 +74,11 @@ fn damaged_record(rng: &mut Rng) -> Vec<u8> {
 
 /// A seat, seldom over 3.
 fn seat(rng: &mut Rng) -> u8 {
-    if rng.percent(3) { rng.within(4, 255) } else { rng.within(0, 3) }
+    if rng.percent(3) {
+        rng.within(4, 255)
+    } else {
+        rng.within(0, 3)
+    }
 }
 
 /// Riichi of a seat, often of one with about 1,000 points (02, S-11).
@@ -223,7 +231,11 @@ fn draw(rng: &mut Rng, position: &Position, keep: bool) -> Entry {
 
 /// The seat that mostly wins: with `keep` the dealer.
 fn often(rng: &mut Rng, position: &Position, keep: bool) -> u8 {
-    if keep { position.dealer % 4 } else { rng.within(0, 3) }
+    if keep {
+        position.dealer % 4
+    } else {
+        rng.within(0, 3)
+    }
 }
 
 /// A random booking; with `keep` mostly one that keeps the deal.

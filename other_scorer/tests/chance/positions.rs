@@ -74,7 +74,11 @@ pub fn disturbed(rng: &mut Rng) -> Position {
 
 /// A position in form mostly, else disturbed.
 pub fn any(rng: &mut Rng) -> Position {
-    if rng.percent(80) { in_form(rng) } else { disturbed(rng) }
+    if rng.percent(80) {
+        in_form(rng)
+    } else {
+        disturbed(rng)
+    }
 }
 
 /// A game with any such position; half of them with an earlier one, any too, now and then out of form or over (02, S-10).

@@ -13,10 +13,13 @@ field-spec =
     (tie.spec (λ c κs. search needs) (λ c. search needs) (λ c. search needs) (λ c κs. search needs)
     (λ c. search needs) (λ c. search needs) (λ c. search needs) (λ c κs. search needs)
     (λ c.
-    let m : 2 ^ c .before .before .before .before .args .w ≤ 2 ^ 8 = pow-mono (c .before .before .before .before .pre .0) in
+    let byte = c .before .before in
+    let start = byte .before .before in
+    let m : 2 ^ start .args .w ≤ 2 ^ 8 = pow-mono (start .pre .0) in
     omega (arith, c .shifted .ensures .1))
     (λ c.
-    let k = c .before .before .before in
+    let byte = c .before .before in
+    let k = byte .before in
     let a = k .before in
-    rw (c .shifted .ensures .0, c .before .before .byte .ensures .0, c .before .byte2 .ensures .0)
+    rw (c .shifted .ensures .0, byte .byte .ensures .0, c .before .byte2 .ensures .0)
     (field-of (a .args .s .now) (a .args .p) (a .args .w) (λ d. k .shared-slice-known .given d .fits) (a .pre .1) (a .pre .0))))

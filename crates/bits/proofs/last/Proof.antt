@@ -15,7 +15,8 @@ last-spec =
     (λ c. omega (arith, c .shared-slice-known2 .given (length (c .before .before .args .s .now) - 1)))
     (λ c κs. search needs)
     (λ c.
-    let a = c .before .before .before in
+    let shared-slice-known = c .before .before in
+    let a = shared-slice-known .before in
     let m : 2 ^ a .args .w ≤ 2 ^ 8 = pow-mono (a .pre .0) in
     omega (arith, c .shifted .ensures .1))
     (λ c.

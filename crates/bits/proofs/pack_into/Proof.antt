@@ -18,13 +18,21 @@ Inv-loop ws vs b₀ at i₀ o₀ b i o =
 abbrev μ-loop : tie.MeasureT-loop
 μ-loop ws vs b₀ at i₀ o₀ b i o = length ws - i
 
+-- the start, from the head of `loop`
+abbrev start-of : tie.At-loop Inv-loop μ-loop → tie.Start Inv-loop μ-loop
+start-of c = let shared-slice-known2 = c .before .before in shared-slice-known2 .before .before
+
 -- within a turn
 abbrev start : tie.In-loop Inv-loop μ-loop → tie.Start Inv-loop μ-loop
-start c = c .before .before .before .before .before
+start c = let loop = c .before in start-of loop
 
 now : (c : tie.In-loop Inv-loop μ-loop) → Turn (start c .args .ws .now) (c .before .loop .i) (c .before .loop .o)
     (start c .args .at + widthOf (start c .args .ws .now)) (length (c .before .loop .b))
 now c = turn _ _ _ _ _ (c .loop-test .taken) (start c .pre .1) (c .before .loop .inv .1) (omega arith)
+
+-- a turn of `loop`, from after `slice-known2`
+abbrev turn-of : tie.After-slice-known2 Inv-loop μ-loop → tie.In-loop Inv-loop μ-loop
+turn-of c = let put = c .before .before in let put-arg = put .before .before in put-arg .before .before
 
 pub pack-into-spec : {M : Type 1} → statement M
 pack-into-spec =
@@ -34,16 +42,20 @@ pack-into-spec =
     (λ c. search needs)
     (λ c. omega (arith, now (c .before)))
     (λ c. search needs)
-    (λ c κs. (now (c .before .before .before) .0, now (c .before .before .before) .1))
-    (λ c. omega (arith, now (c .before .before .before .before .before .before)))
+    (λ c κs.
+    let put-arg = c .before in
+    let at-turn = put-arg .before .before in
+    (now at-turn .0, now at-turn .1))
+    (λ c. omega (arith, now (turn-of c)))
     (λ c. search needs)
     (λ c. search needs)
     (λ c.
-    let t = c .before .before .before .before .before .before in
+    let t = turn-of c in
     let l = t .before .loop in
     let a = start t .args in
-    let e : c .before .before .put .last .0 ≡ sets (l .b) (l .o) (digits (getD (a .ws .now) (l .i) 0) (getD (a .vs .now) (l .i) 0)) =
-    c .before .before .put .ensures in (
+    let put = c .before .before in
+    let e : put .put .last .0 ≡ sets (l .b) (l .o) (digits (getD (a .ws .now) (l .i) 0) (getD (a .vs .now) (l .i) 0)) =
+    put .put .ensures in (
       search needs,
       now t .2,
       ap length e ∙ simp length-sets (l .inv .2),
@@ -51,5 +63,6 @@ pack-into-spec =
     ))
     (λ c. search needs)
     (λ c.
-    let z : drop (c .before .loop .i) (c .before .before .before .before .before .args .ws .now) ≡ [] = drop-of-length-le _ (c .loop-test .left) in
-    rw z at (c .before .loop .inv .3)))
+    let loop = c .before in
+    let z : drop (loop .loop .i) (start-of loop .args .ws .now) ≡ [] = drop-of-length-le _ (c .loop-test .left) in
+    rw z at (loop .loop .inv .3)))

@@ -35,8 +35,12 @@ abbrev μ-loop2 : tie.MeasureT-loop2
 abbrev Three : Type 0
 Three = tie.Then1 Inv-loop μ-loop Inv-loop2 μ-loop2
 
+-- the start, from the head of `loop`
+abbrev start-of : tie.At-loop Inv-loop μ-loop Inv-loop2 μ-loop2 → tie.Start Inv-loop μ-loop Inv-loop2 μ-loop2
+start-of c = let shared-slice-known = c .before .before in shared-slice-known .before
+
 abbrev from : Three → tie.Start Inv-loop μ-loop Inv-loop2 μ-loop2
-from c = c .before .before .before .before .before
+from c = let loop = c .before .before in start-of loop
 
 -- the fields of a turn end within the bits, and with those left they end as all do
 abbrev Ends : tie.Start Inv-loop μ-loop Inv-loop2 μ-loop2 → ℕ → ℕ → ℕ → Type 0
@@ -57,7 +61,10 @@ abbrev One : Type 0
 One = tie.In-loop2 Inv-loop μ-loop Inv-loop2 μ-loop2
 
 abbrev start : One → tie.Start Inv-loop μ-loop Inv-loop2 μ-loop2
-start c = c .before .before .before .before .before .before
+start c =
+    let left-loop = c .before .before in
+    let loop = left-loop .before in
+    start-of loop
 
 one : (c : One) → Ends (start c) 1 (c .before .loop2 .i) (c .before .loop2 .o)
 one c =
@@ -72,16 +79,22 @@ run-into-spec =
     (tie.spec Inv-loop μ-loop Inv-loop2 μ-loop2
     (λ c. (search needs, rw sub-zero, refl, rw sub-zero))
     (λ c. search needs)
-    (λ c. let a = c .before .before .before .before in omega (arith, c .before .loop .inv .1, a .pre .4, a .pre .3))
+    (λ c. let loop = c .before in let a = start-of loop in omega (arith, loop .loop .inv .1, a .pre .4, a .pre .3))
     (λ c κs. (from c .pre .0, from c .pre .1, three c .1, leb-true _ _ (c .if1 .taken)))
     (λ c. search needs)
-    (λ c. let l = c .before .before .before .loop in omega (arith, three (c .before) .0, l .inv .2, from (c .before) .pre .2))
+    (λ c.
+    let then1 = c .before in
+    let l = then1 .before .before .loop in omega (arith, three then1 .0, l .inv .2, from then1 .pre .2))
     (λ c. search needs)
     (λ c. omega (arith, three (c .before) .0))
-    (λ c. let l = c .before .before .before .loop in simp length-set (omega (arith, three (c .before) .0, l .inv .2, from (c .before) .pre .2)))
+    (λ c.
+    let then1 = c .before in
+    let l = then1 .before .before .loop in simp length-set (omega (arith, three then1 .0, l .inv .2, from then1 .pre .2)))
     (λ c. search needs)
     (λ c. omega (arith, three (c .before) .0))
-    (λ c. let l = c .before .before .before .loop in simp length-set (omega (arith, three (c .before) .0, l .inv .2, from (c .before) .pre .2)))
+    (λ c.
+    let then1 = c .before in
+    let l = then1 .before .before .loop in simp length-set (omega (arith, three then1 .0, l .inv .2, from then1 .pre .2)))
     (λ c. omega (arith, from (c .before) .pre .1))
     (λ c. omega (arith, three (c .before) .1, from (c .before) .pre .3))
     (λ c. omega (arith, three (c .before) .0))
@@ -115,5 +128,7 @@ run-into-spec =
     (λ c. search needs)
     (λ c.
     let l = c .before .loop2 in
-    let z : c .before .before .before .before .before .before .args .n - l .i ≡ 0 = omega arith in
-    rw z at (l .inv .3) ∙ c .before .before .before .loop .inv .3))
+    let left-loop = c .before .before in
+    let loop = left-loop .before in
+    let z : start-of loop .args .n - l .i ≡ 0 = omega arith in
+    rw z at (l .inv .3) ∙ loop .loop .inv .3))

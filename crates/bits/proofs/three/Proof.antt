@@ -16,11 +16,21 @@ three-spec =
     tie.close
     (tie.spec (λ c κs. search needs)
     (λ c. search needs) (λ c. search needs) (λ c. search needs) (λ c. search needs) (λ c. search needs) (λ c. search needs) (λ c κs. search needs)
-    (λ c. omega (arith, c .shifted .ensures .1, byte (c .before .before .before)))
+    (λ c.
+    let word = c .before in
+    let start = word .before .before in
+    omega (arith, c .shifted .ensures .1, byte start))
     (λ c κs. search needs)
-    (λ c. omega (arith, c .shifted2 .ensures .1, byte (c .before .before .before .before)))
+    (λ c.
+    let word = c .before .before in
+    let start = word .before .before in
+    omega (arith, c .shifted2 .ensures .1, byte start))
     (λ c κs. search needs)
-    (λ c. omega (arith, c .shifted3 .ensures .1, byte (c .before .before .before .before .before)))
+    (λ c.
+    let shifted2 = c .before in
+    let word = shifted2 .before .before in
+    let start = word .before .before in
+    omega (arith, c .shifted3 .ensures .1, byte start))
     (λ c.
     let b = c .before .before in
     let k = b .before .before in

@@ -19,9 +19,13 @@ Inv-loop ws b at out₀ i₀ o₀ out i o =
 abbrev μ-loop : tie.MeasureT-loop
 μ-loop ws b at out₀ i₀ o₀ out i o = length ws - i
 
+-- the start, from the head of `loop`
+abbrev start-of : tie.At-loop Inv-loop μ-loop → tie.Start Inv-loop μ-loop
+start-of c = let shared-slice-known2 = c .before .before in shared-slice-known2 .before .before
+
 -- within a turn
 abbrev start : tie.In-loop Inv-loop μ-loop → tie.Start Inv-loop μ-loop
-start c = c .before .before .before .before .before
+start c = let loop = c .before in start-of loop
 
 now : (c : tie.In-loop Inv-loop μ-loop) → Turn (start c .args .ws .now) (c .before .loop .i) (c .before .loop .o)
     (start c .args .at + widthOf (start c .args .ws .now)) (length (start c .args .b .now))
@@ -50,5 +54,6 @@ unpack-into-spec =
     ))
     (λ c. search needs)
     (λ c.
-    let z : drop (c .before .loop .i) (c .before .before .before .before .before .args .ws .now) ≡ [] = drop-of-length-le _ (c .loop-test .left) in
-    rw z at (c .before .loop .inv .3)))
+    let loop = c .before in
+    let z : drop (loop .loop .i) (start-of loop .args .ws .now) ≡ [] = drop-of-length-le _ (c .loop-test .left) in
+    rw z at (loop .loop .inv .3)))

@@ -14,6 +14,10 @@ byte c d = c .shared-slice-known .given (c .before .args .i + d) .fits
 first : (c : tie.After-shared-slice-known) → getD (c .before .args .s .now) (c .before .args .i) 0 < 256
 first c = c .shared-slice-known .given (c .before .args .i) .fits
 
+-- after `shared-slice-known`, from after `shared-slice-known4`
+abbrev shared-slice-known-of : tie.After-shared-slice-known4 → tie.After-shared-slice-known
+shared-slice-known-of c = let shared-slice-known2 = c .before .before in shared-slice-known2 .before
+
 pub word-spec : {M : Type 1} → statement M
 word-spec =
     tie.close
@@ -32,6 +36,6 @@ word-spec =
     (λ c. let k = c .before .before in omega (arith, first k, byte k 1, byte k 2))
     (λ c. search needs)
     (λ c. search needs)
-    (λ c. omega (arith, byte (c .before .before .before) 3))
-    (λ c. let k = c .before .before .before in omega (arith, first k, byte k 1, byte k 2, byte k 3))
+    (λ c. omega (arith, byte (shared-slice-known-of c) 3))
+    (λ c. let k = shared-slice-known-of c in omega (arith, first k, byte k 1, byte k 2, byte k 3))
     (λ c. rw add-zero (omega arith)))

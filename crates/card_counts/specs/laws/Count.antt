@@ -12,7 +12,8 @@ use Rattle.tiles.specs.Tally.{more}
 use Rattle.reading.specs.search.Readings.{isEmpty, less, fits, without}
 use Rattle.reading.specs.All.{Each, none, also as each}
 use Rattle.reading_splits.specs.search.SplitsInto.{lowest, pieceAt, splitsInto}
-use Rattle.cards.specs.CardList.{cardsOf, cardBytes, cards-exactly, only-cards}
+use Rattle.cards.specs.CardList.{cardsOf, cardBytes}
+use Rattle.cards.specs.laws.One.{cards-exactly, only-cards}
 use Rattle.cards.specs.search.Draws.{draw, draws, drawn}
 use Rattle.cards.specs.laws.Exact.{card-list-drawn}
 use Rattle.card_counts.specs.laws.Shift.{count-alike, all-members}

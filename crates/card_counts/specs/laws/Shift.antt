@@ -18,7 +18,8 @@ use Rattle.reading.specs.laws.Groups.{run-or, run-in, at-same, at-other}
 use Rattle.reading.specs.laws.Lists.{each-imp, each-map, each-member, pairwise-map}
 use Rattle.reading_splits.specs.Splits.{Splits}
 use Rattle.cards.specs.Cards.{Card, IsCardList}
-use Rattle.cards.specs.CardList.{cardsOf, cards-exactly, only-cards}
+use Rattle.cards.specs.CardList.{cardsOf}
+use Rattle.cards.specs.laws.One.{cards-exactly, only-cards}
 use Rattle.cards.specs.laws.Tiles.{among-kind, kind-each, splits-cong, in-suit, suit-in, each-both, each-uses}
 
 -- a kind is below e, or e on from one

@@ -43,26 +43,35 @@ pub +count-spec : {M : Type 1} → statement M
     μ-loop
     (λ c κs. tt)
     (λ c.
-    let s = c .before .before .before .args in
-    sym (counted-one (s .n) (s .left) (s .end) (s .low) (s .t5) (c .before .before .if1 .taken) (sym (c .before .splits .ensures .1) ∙ c .if2 .taken)))
+    let splits = c .before in
+    let start = splits .before .before in
+    let s = start .args in
+    sym (counted-one (s .n) (s .left) (s .end) (s .low) (s .t5) (splits .before .if1 .taken) (sym (splits .splits .ensures .1) ∙ c .if2 .taken)))
     (λ c.
-    let s = c .before .before .before .args in
-    sym (counted-none (s .n) (s .left) (s .end) (s .low) (s .t5) (c .before .before .if1 .taken) (sym (c .before .splits .ensures .1) ∙ c .if2 .left)))
+    let splits = c .before in
+    let start = splits .before .before in
+    let s = start .args in
+    sym (counted-none (s .n) (s .left) (s .end) (s .low) (s .t5) (splits .before .if1 .taken) (sym (splits .splits .ensures .1) ∙ c .if2 .left)))
     (λ c. (omega arith, omega arith))
     (λ c. omega arith)
     (λ c. omega arith)
     (λ c. omega arith)
     (λ c κs. omega arith)
     (λ c κs.
-    let p = c .before .before .before .before .before .pre .1 in
-    (omega arith, (omega (arith, p .0), p .1, omega (arith, p .2, c .before .before .before .loop .inv .0))))
+    let then3 = c .before in
+    let loop = then3 .before .before in
+    let start = loop .before .before in
+    let p = start .pre .1 in
+    (omega arith, (omega (arith, p .0), p .1, omega (arith, p .2, loop .loop .inv .0))))
     (λ c.
-    let l = c .before .before .before .before in
+    let then3 = c .before .before in
+    let l = then3 .before .before in
     let start = l .before .before in
     let s = start .args in
     let whole = counted-few (s .n) (s .left) (s .end) (s .low) (s .t5) (start .pre .1 .0) (start .pre .1 .2) in
-    let turn = left-with (s .n) (s .left) (s .end) (l .loop .a) (s .t5) (l .before .if1 .left) (c .before .before .before .loop-test .taken) (l .loop .c) _
-    (l .loop .inv .1) (c .before .add .result) (c .count .result) (c .before .before .if3 .taken) (c .before .add .ensures) (c .count .ensures) in
+    let add = c .before in
+    let turn = left-with (s .n) (s .left) (s .end) (l .loop .a) (s .t5) (l .before .if1 .left) (then3 .before .loop-test .taken) (l .loop .c) _
+    (l .loop .inv .1) (add .add .result) (c .count .result) (then3 .if3 .taken) (add .add .ensures) (c .count .ensures) in
     omega (arith, turn, whole))
     (λ c. omega arith)
     (λ c. omega arith)

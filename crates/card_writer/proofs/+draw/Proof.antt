@@ -52,7 +52,7 @@ claims t = (
 -- a turn that draws a tile: what the call writes comes before what is left then
 module _ (t : ℕ) (c : draw-lts.In-loop (claims t) (draw-at t) draw.Post Inv-loop μ-loop) where
   abbrev start : draw-lts.Start (claims t) (draw-at t) draw.Post Inv-loop μ-loop
-  start = c .before .before .before .before
+  start = let else1 = c .before .before in else1 .before .before
 
   abbrev rest : ℕ → List ℕ
   rest a = let s = start .args in written (take (s .size - s .left) (s .prefix)) (s .n) (s .left) (s .end) a (s .t4)
@@ -79,22 +79,27 @@ pub +draw-spec : {M : Type 1} → statement M
     μ-loop
     (λ c κs. tt)
     (λ c κs.
-    let s = c .before .before .before .before .before in
+    let splits = c .before .before in
+    let then1 = splits .before in
+    let s = then1 .before .before in
     let l : length (s .args .prefix) ≡ 8 = search needs in (
       s .pre .1 .1,
       leaf-room (s .args .prefix) (s .args .t4) (s .args .size) (s .args .left) (s .args .n) (s .args .end) (s .args .low)
-          (c .before .before .before .if1 .taken) (s .args .at) (length (s .args .buf .now)) (sym (c .before .before .splits .ensures .1) ∙ c .before .if2 .taken)
+          (then1 .if1 .taken) (s .args .at) (length (s .args .buf .now)) (sym (splits .splits .ensures .1) ∙ c .before .if2 .taken)
           (omega arith) (s .pre .1 .3),
     ))
     (λ c. c .before .before .put-card .kept .0)
     (λ c.
-    let p = c .before .before .before .before in
-    let s = p .before .before .before .before in
-    put-leaf (s .args .prefix) (s .args .t4) (s .args .size) (s .args .left) (s .args .n) (s .args .end) (s .args .low) (p .before .before .if1 .taken)
-    (sym (p .before .splits .ensures .1) ∙ p .if2 .taken) (c .before .before .put-card .ensures))
+    let put-card = c .before .before in
+    let p = put-card .before .before in
+    let then1 = p .before .before in
+    let s = then1 .before .before in
+    put-leaf (s .args .prefix) (s .args .t4) (s .args .size) (s .args .left) (s .args .n) (s .args .end) (s .args .low) (then1 .if1 .taken)
+    (sym (p .before .splits .ensures .1) ∙ p .if2 .taken) (put-card .put-card .ensures))
     (λ c.
-    let s = c .before .before .before .before in
-    put-over (s .args .prefix) (s .args .t4) (s .args .size) (s .args .left) (s .args .n) (s .args .end) (s .args .low) (c .before .before .if1 .taken)
+    let then1 = c .before .before in
+    let s = then1 .before .before in
+    put-over (s .args .prefix) (s .args .t4) (s .args .size) (s .args .left) (s .args .n) (s .args .end) (s .args .low) (then1 .if1 .taken)
     (s .args .buf .now) (s .args .at) (sym (c .before .splits .ensures .1) ∙ c .if2 .left))
     (λ c. left-all _ _ _)
     (λ c. omega arith)
@@ -104,10 +109,12 @@ pub +draw-spec : {M : Type 1} → statement M
     (λ c κs. omega arith)
     (λ c. omega arith)
     (λ c κs.
-    let d = c .before .before .before in
+    let then3 = c .before .before in
+    let d = then3 .before in
     let u = c .add .result in
     let p = start t d .pre .1 in
-    let r = left-room (next t d u) (rest t d (d .before .loop .a + 1)) (turn t d u (c .before .before .if3 .taken) (c .add .ensures)) (d .before .loop .inv)
+    let loop = d .before in
+    let r = left-room (next t d u) (rest t d (loop .loop .a + 1)) (turn t d u (then3 .if3 .taken) (c .add .ensures)) (loop .loop .inv)
     (p .3) in
     (omega arith, (omega (arith, p .0), p .1, p .2, r)))
     (λ c. omega arith)

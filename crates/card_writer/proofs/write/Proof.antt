@@ -17,7 +17,7 @@ use Rattle.card_writer.proofs.write.Tie as tie
 -- a suit and a size that are accepted
 module _ (c : tie.Else2) where
   abbrev start : tie.Start
-  start = c .before .before .before .before
+  start = let else1 = c .before .before in else1 .before .before
 
   suited : start .args .suit ≤ 2
   suited = omega (arith, c .before .before .if1 .left)
@@ -55,15 +55,19 @@ write-spec =
     (tie.spec
     (λ c κs. search needs)
     (λ c.
-    let s = c .before .before .before .args in
-    let k = kept-suit (s .suit) (s .size) (s .buf .now) (c .before .if1 .taken) in
+    let then1 = c .before in
+    let at-start = then1 .before .before in
+    let s = at-start .args in
+    let k = kept-suit (s .suit) (s .size) (s .buf .now) (then1 .if1 .taken) in
     (c .refused .ensures ∙ k .0, k .1))
     (λ c κs. search needs)
     (λ c κs. search needs)
     (λ c.
     let n = c .before .before in
-    let s = n .before .before .before .args in
-    let k = kept-size (s .suit) (s .size) (s .buf .now) (n .before .if1 .left) (sym (n .is-size .ensures) ∙ not-true _ (c .before .if2 .taken)) in
+    let else1 = n .before in
+    let at-start = else1 .before .before in
+    let s = at-start .args in
+    let k = kept-size (s .suit) (s .size) (s .buf .now) (else1 .if1 .left) (sym (n .is-size .ensures) ∙ not-true _ (c .before .if2 .taken)) in
     (c .refused2 .ensures ∙ k .0, k .1))
     (λ c. omega (arith, sized c .many))
     (λ c. search needs)
@@ -89,7 +93,9 @@ write-spec =
     (λ c. search needs)
     (λ c.
     let drawn = c .before .before in
-    let d = drawn .before .before .before in
-    let e = all-drawn (suit d) (size d) (replicate 8 0) (suited (d .before)) in
-    put-all (suit d) (size d) (start (d .before) .args .buf .now) (drawn .draw .last .0) (drawn .draw .result) (d .count .result) (suited (d .before))
-    (sized (d .before)) (count d) (omega (arith, product d, drawn .before .before .if3 .left)) (rw e at (drawn .draw .ensures))))
+    let else3 = drawn .before .before in
+    let d = else3 .before in
+    let else2 = d .before in
+    let e = all-drawn (suit d) (size d) (replicate 8 0) (suited else2) in
+    put-all (suit d) (size d) (start else2 .args .buf .now) (drawn .draw .last .0) (drawn .draw .result) (d .count .result) (suited else2)
+    (sized else2) (count d) (omega (arith, product d, else3 .if3 .left)) (rw e at (drawn .draw .ensures))))

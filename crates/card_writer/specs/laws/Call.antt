@@ -11,7 +11,8 @@ use lib.ListN.{length, take, drop, replicate}
 use lib.Seq.{sets-eq}
 use Rattle.reading.specs.search.Readings.{concatMap}
 use Rattle.text.specs.Put.{Put}
-use Rattle.cards.specs.CardList.{cardsOf, cardBytes, only-cards}
+use Rattle.cards.specs.CardList.{cardsOf, cardBytes}
+use Rattle.cards.specs.laws.One.{only-cards}
 use Rattle.cards.specs.search.Draws.{drawn}
 use Rattle.cards.specs.laws.Exact.{card-list-drawn}
 use Rattle.card_counts.specs.laws.Count.{whole}

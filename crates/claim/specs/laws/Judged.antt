@@ -1,5 +1,5 @@
 -- The one answer is what the code finds; each verdict exactly when S-13 names it.
-use Prim.Native.Nat.{ℕ, zero, suc, _≤_, _<_}
+use Prim.Native.Nat.{ℕ, _≤_, _<_}
 use mathlib.Core.Path.{_≡_, refl, sym, ap, _∙_, subst}
 use mathlib.Core.List.{List}
 use mathlib.Core.Logic.{_↔_}
@@ -17,19 +17,18 @@ use Rattle.points.specs.laws.Bounds.{gain-le}
 use Rattle.points_value.specs.Value.{valueOf}
 use Rattle.score_best.specs.laws.Top.{basic-le}
 use Rattle.score.specs.declared.Scored.{Scored}
-use Rattle.score.specs.Named.{wonOf, seatsOf, worth, IsReadingOf, ReadsWithYaku, IsReported, gainIn}
+use Rattle.score.specs.Named.{wonOf, seatsOf, worth, ReadsWithYaku, IsReported, gainIn}
 use Rattle.score.specs.Score.{scoreOf}
 use Rattle.score.specs.laws.Named.{most, best, accepted as acceptedBy}
 use Rattle.score.specs.laws.HandScore.{scored}
-use Rattle.score.specs.laws.Paid.{read-paid}
 use Rattle.claim.specs.declared.Judged.{Judged}
 use Rattle.claim.specs.Claim.{Names}
 use Rattle.claim.specs.Verdict.{PaysMost, IsVerdict, accepted, one, two, three, four}
 use Rattle.claim.specs.IsJudged.{refusedWith, judgedAs, IsNamed, NamedWith, IsJudged, eight, unreadable, faulty, passed}
-use Rattle.claim.specs.Judge.{judgedOf, HasVerdict, is-judged, one-answer}
+use Rattle.claim.specs.Judge.{judgedOf, HasVerdict}
+use Rattle.claim.specs.laws.One.{is-judged, one-answer}
 use Rattle.claim.specs.search.Judge.{foundOf}
 use Rattle.claim.specs.laws.Names.{claimable}
-use Rattle.claim.specs.laws.Verdict.{better}
 use Rattle.claim.specs.laws.Exact.{one-claim, found-is}
 
 module _ (s claim : List ℕ) (dealer wind : ℕ) where
@@ -54,39 +53,27 @@ module _ (s claim : List ℕ) (dealer wind : ℕ) where
   passed-of (faulty d w y n) e = absurd (omega arith)
   passed-of (passed {r} {g} x v) e = (r, g, x, v)
 
-  -- what the verdict v says of what the claim names
-  abbrev Says : ℕ → Reading → ℕ → Type 0
-  Says zero r g = ReadsWithYaku hand dealer wind r × (gainIn hand dealer wind r ≡ g) × PaysMost hand dealer wind r
-  Says (suc zero) r g = IsReadingOf hand r → ⊥
-  Says (suc (suc zero)) r g = IsReadingOf hand r × (ReadsWithYaku hand dealer wind r → ⊥)
-  Says (suc (suc (suc zero))) r g = ReadsWithYaku hand dealer wind r × (gainIn hand dealer wind r ≡ g → ⊥)
-  Says (suc (suc (suc (suc zero)))) r g =
-      ReadsWithYaku hand dealer wind r × (gainIn hand dealer wind r ≡ g) × ((q : Reading) × ReadsWithYaku hand dealer wind q × (g < gainIn hand dealer wind q))
-  Says (suc (suc (suc (suc (suc v))))) r g = ⊥
-
-  says : {r : Reading} {g v : ℕ} → IsNamed s claim dealer wind r g → IsVerdict hand dealer wind r g v → Says v r g
-  says x (accepted a b c) = (a, b, c)
-  says x (one a) = a
-  says x (two a b) = (a, b)
-  says x (three a b) = (a, b)
-  says {r} {g} x (four a b c) =
-      let (q, u, l) = better hand dealer wind (read-paid s dealer (x .seat) (sound s .0 (x .sound))) r g a c in
-      (a, b, (q, u, omega (arith, l, b)))
-
-  is-said : {r : Reading} {g : ℕ} (v : ℕ) → Says v r g → IsVerdict hand dealer wind r g v
-  is-said zero p = accepted (p .0) (p .1) (p .2)
-  is-said (suc zero) p = one p
-  is-said (suc (suc zero)) p = two (p .0) (p .1)
-  is-said (suc (suc (suc zero))) p = three (p .0) (p .1)
-  is-said (suc (suc (suc (suc zero)))) p = four (p .0) (p .1) (λ m. let (q, u, l) = p .2 in omega (arith, m q u, l, p .1))
-  is-said (suc (suc (suc (suc (suc v))))) p = absurd p
-
-  pub exactly : (v : ℕ) → HasVerdict s claim dealer wind v ↔ NamedWith s claim dealer wind (Says v)
+  pub exactly : (v : ℕ) → HasVerdict s claim dealer wind v ↔ NamedWith s claim dealer wind (λ r g. IsVerdict hand dealer wind r g v)
   exactly v = (
-    λ e.
-        let (r, g, x, i) = passed-of (subst (λ (a : Judged). IsJudged s claim dealer wind a) e (is-judged s claim dealer wind)) refl in
-        (r, g, x, says x i),
-    λ (r, g, x, p). sym (one-answer s claim dealer wind (judgedAs v) (passed x (is-said v p))),
+    λ e. passed-of (subst (λ (a : Judged). IsJudged s claim dealer wind a) e (is-judged s claim dealer wind)) refl,
+    λ (r, g, x, i). sym (one-answer s claim dealer wind (judgedAs v) (passed x i)),
+  )
+
+  -- what the verdict 0 says of what the claim names
+  abbrev Accepted : Reading → ℕ → Type 0
+  Accepted r g = ReadsWithYaku hand dealer wind r × (gainIn hand dealer wind r ≡ g) × PaysMost hand dealer wind r
+
+  is-accepted : {r : Reading} {g v : ℕ} → IsVerdict hand dealer wind r g v → v ≡ 0 → Accepted r g
+  is-accepted (accepted a b c) e = (a, b, c)
+  is-accepted (one a) e = absurd (omega arith)
+  is-accepted (two a b) e = absurd (omega arith)
+  is-accepted (three a b) e = absurd (omega arith)
+  is-accepted (four a b q u l) e = absurd (omega arith)
+
+  pub accepted-exactly : HasVerdict s claim dealer wind 0 ↔ NamedWith s claim dealer wind Accepted
+  accepted-exactly = (
+    λ e. let (r, g, x, i) = exactly 0 .0 e in (r, g, x, is-accepted i refl),
+    λ (r, g, x, p). exactly 0 .1 (r, g, x, accepted (p .0) (p .1) (p .2)),
   )
 
   -- ---- 22
@@ -109,11 +96,11 @@ module _ (s claim : List ℕ) (dealer wind : ℕ) where
   -- ---- Score's own reading
 
   module _ {r : Reading} {g : ℕ} (t : HasVerdict s claim dealer wind 0) (n : Names (hand .held .m) claim r g) where
-    claims : IsNamed s claim dealer wind r g × Says 0 r g
+    claims : IsNamed s claim dealer wind r g × Accepted r g
     claims =
-        let (q, k, x, p) = exactly 0 .0 t in
+        let (q, k, x, p) = accepted-exactly .0 t in
         let (e, f) = one-claim s claim dealer wind (x .sound) (x .names) n in
-        subst (λ (y : Reading). IsNamed s claim dealer wind y g × Says 0 y g) e (subst (λ (y : ℕ). IsNamed s claim dealer wind q y × Says 0 q y) f (x, p))
+        subst (λ (y : Reading). IsNamed s claim dealer wind y g × Accepted y g) e (subst (λ (y : ℕ). IsNamed s claim dealer wind q y × Accepted q y) f (x, p))
 
     pub pays-as-scored : getD (scoreOf s dealer wind .changes) (hand .fields .winner) (pos 0) ≡ pos g
     unfolding worth valueOf wonOf
@@ -128,7 +115,7 @@ module _ (s claim : List ℕ) (dealer wind : ℕ) where
         ∙ ap pos e
 
 -- 17 bits hold every gain
-gain-fits : (h : Hand) (dealer wind : ℕ) (r : Reading) → h .fields .winner ≤ 3 → gainIn h dealer wind r < 131072
+pub gain-fits : (h : Hand) (dealer wind : ℕ) (r : Reading) → h .fields .winner ≤ 3 → gainIn h dealer wind r < 131072
 unfolding worth valueOf wonOf
 gain-fits h dealer wind r w = omega (arith, gain-le (seatsOf h dealer) (worth h dealer wind r .basic .0) (basic-le _ _ _) (isRon (h .fields)) (omega arith))
 
@@ -141,6 +128,6 @@ own-reading s dealer wind d w y r i =
     (i .yaku .0) in (
       c .0,
       c .1,
-      exactly s (c .0) dealer wind 0 .1
+      accepted-exactly s (c .0) dealer wind .1
           (r, gainIn h dealer wind r, record { seat = d; round = w; sound = y; names = c .1 }, (i .yaku, refl, λ q u. most h dealer wind r q i u)),
     )

@@ -73,7 +73,7 @@ module _ (m : ℕ) (s : List ℕ) (few : m ≤ 4) where
     pub reading : readingIn m b ≡ r
     pub gain : gainOf m b ≡ g
 
-  size-of : (pair place gain : ℕ) (codes : List ℕ) → unpack (widths m) b ≡ 0 ∷ pair ∷ (codes ++ (place ∷ gain ∷ [])) → length codes ≡ 4 - m
+  pub size-of : (pair place gain : ℕ) (codes : List ℕ) → unpack (widths m) b ≡ 0 ∷ pair ∷ (codes ++ (place ∷ gain ∷ [])) → length codes ≡ 4 - m
   size-of pair place gain codes e =
       let a : length (unpack (widths m) b) ≡ suc (suc (length (codes ++ (place ∷ gain ∷ [])))) = ap (λ (x : List ℕ). length x) e in
       omega (
@@ -154,7 +154,7 @@ made ws vs pad n l f e p =
     (omega (arith, length-drop (widthOf ws) (bitsOf s), length-bitsOf s, size, e)) in
     (s, record { size = omega (arith, size, e, p); values = ends .0; padding = ap (val 0) (sym all) ∙ ap (λ (x : List ℕ). getD x 0 0) (ends .1) })
 
-codes-below : (c : ℕ) (gs : List ℕ) → Ascends c gs → EachBelow 128 gs
+pub codes-below : (c : ℕ) (gs : List ℕ) → Ascends c gs → EachBelow 128 gs
 codes-below c [] o = below-nil 128 (omega arith)
 codes-below c (g ∷ gs) o = below-cons 128 g gs (let h = group-in g (o .1) in omega arith) (codes-below g gs (o .2))
 

@@ -51,24 +51,12 @@ module _ (h : Hand) (dealer wind : ℕ) (paid : Paid h dealer) where
         go true true false l ea ey ep el = three (test .0 ea, ey) (λ e. eqb-false (gainIn h dealer wind r) g ep e)
         go true true true true ea ey ep el =
             let (q, i, e) = reported r (test .0 ea, ey) in
-            four (test .0 ea, ey) (eqb-true (gainIn h dealer wind r) g ep)
-            (λ all. omega (arith, all q (i .yaku), e, ltb-true (gainIn h dealer wind r) (keptOf h dealer wind .value .gain .0) el))
+            let p = eqb-true (gainIn h dealer wind r) g ep in
+            four (test .0 ea, ey) p q (i .yaku) (omega (arith, p, e, ltb-true (gainIn h dealer wind r) (keptOf h dealer wind .value .gain .0) el))
         go true true true false ea ey ep el =
             let (q, i, e) = reported r (test .0 ea, ey) in
             accepted (test .0 ea, ey) (eqb-true (gainIn h dealer wind r) g ep)
             (λ x u. omega (arith, most h dealer wind q x i u, e, ltb-false (gainIn h dealer wind r) (keptOf h dealer wind .value .gain .0) el))
-
-    -- where not every reading pays at most as much, one pays more
-    pub better : ReadsWithYaku h dealer wind r → (PaysMost h dealer wind r → ⊥)
-        → (q : Reading) × ReadsWithYaku h dealer wind q × (gainIn h dealer wind r < gainIn h dealer wind q)
-    better w n =
-        let (q, i, e) = reported r w in
-        go q i (ltb (gainIn h dealer wind r) (gainIn h dealer wind q)) refl
-      where
-        go : (q : Reading) → IsReported h dealer wind q → (l : Bool) → ltb (gainIn h dealer wind r) (gainIn h dealer wind q) ≡ l
-            → (q : Reading) × ReadsWithYaku h dealer wind q × (gainIn h dealer wind r < gainIn h dealer wind q)
-        go q i true e = (q, i .yaku, ltb-true (gainIn h dealer wind r) (gainIn h dealer wind q) e)
-        go q i false e = absurd (n (λ x u. omega (arith, most h dealer wind q x i u, ltb-false (gainIn h dealer wind r) (gainIn h dealer wind q) e)))
 
 module _ (h : Hand) (dealer wind : ℕ) (r : Reading) (g : ℕ) where
   pub only-one : {v w : ℕ} → IsVerdict h dealer wind r g v → IsVerdict h dealer wind r g w → v ≡ w
@@ -76,24 +64,24 @@ module _ (h : Hand) (dealer wind : ℕ) (r : Reading) (g : ℕ) where
   only-one (accepted a b c) (one p) = absurd (p (a .0))
   only-one (accepted a b c) (two p q) = absurd (q a)
   only-one (accepted a b c) (three p q) = absurd (q b)
-  only-one (accepted a b c) (four p q s) = absurd (s c)
+  only-one (accepted a b c) (four p q x u l) = absurd (omega (arith, c x u, b, l))
   only-one (one a) (accepted p q s) = absurd (a (p .0))
   only-one (one a) (one p) = refl
   only-one (one a) (two p q) = absurd (a p)
   only-one (one a) (three p q) = absurd (a (p .0))
-  only-one (one a) (four p q s) = absurd (a (p .0))
+  only-one (one a) (four p q x u l) = absurd (a (p .0))
   only-one (two a b) (accepted p q s) = absurd (b p)
   only-one (two a b) (one p) = absurd (p a)
   only-one (two a b) (two p q) = refl
   only-one (two a b) (three p q) = absurd (b p)
-  only-one (two a b) (four p q s) = absurd (b p)
+  only-one (two a b) (four p q x u l) = absurd (b p)
   only-one (three a b) (accepted p q s) = absurd (b q)
   only-one (three a b) (one p) = absurd (p (a .0))
   only-one (three a b) (two p q) = absurd (q a)
   only-one (three a b) (three p q) = refl
-  only-one (three a b) (four p q s) = absurd (b q)
-  only-one (four a b c) (accepted p q s) = absurd (c s)
-  only-one (four a b c) (one p) = absurd (p (a .0))
-  only-one (four a b c) (two p q) = absurd (q a)
-  only-one (four a b c) (three p q) = absurd (q b)
-  only-one (four a b c) (four p q s) = refl
+  only-one (three a b) (four p q x u l) = absurd (b q)
+  only-one (four a b x u l) (accepted p q s) = absurd (omega (arith, s x u, q, l))
+  only-one (four a b x u l) (one p) = absurd (p (a .0))
+  only-one (four a b x u l) (two p q) = absurd (q a)
+  only-one (four a b x u l) (three p q) = absurd (q b)
+  only-one (four a b x u l) (four p q y v k) = refl

@@ -3,32 +3,36 @@ use mathlib.Core.Path.{_≡_, refl, sym, _∙_}
 use mathlib.Core.Bool.{Bool, true, false, _||_, not, cond}
 use mathlib.Core.Logic.{inl, inr, _↔_}
 use mathlib.Core.List.{List}
-use Prim.Native.Nat.{ℕ, zero, suc, _+_, _≤_}
+use Prim.Native.Nat.{ℕ, zero, suc, _+_, _≤_, _<_}
 use native.Mathlib.Omega.{arith}
 use borrow.Author.Tests.{ltb-false, le-ltb, eqb-true, eqb-false, ne-eqb}
 use lib.Dec.{ltb, eqb}
 use lib.IntN.{pos}
 use lib.Signed.{ltZ}
-use Rattle.hand_record.specs.Record.{IsSound}
 use Rattle.hand_record.specs.Claims.{sound}
 use Rattle.hand_record.specs.laws.Bounds.{read-bounds}
-use Rattle.reading.specs.declared.Reading.{Reading}
+use Rattle.hand_rons.specs.Records.{recordsOf, notOnOneTile}
+use Rattle.reading.specs.All.{Each, none, also}
 use Rattle.position.specs.declared.Position.{Position}
-use Rattle.position.specs.Booking.{Booking, result, riichi, win, draw, chombo, pao}
+use Rattle.position.specs.Booking.{Booking, result, riichi, win, draw, chombo, pao, multiRon}
 use Rattle.position.specs.Ledger.{scoreAt, isSet, notOpen, feederIndex, feederAt, refusalFor, refusalsOf}
-use Rattle.position.specs.Wins.{HasYaku}
+use Rattle.position.specs.Wins.{IsWinning}
 use Rattle.position.specs.laws.Accepted as accepted
 use Rattle.position.specs.laws.Form.{InForm}
 use Rattle.position.specs.laws.Kept.{kept-form}
 use Rattle.position.specs.laws.Pao.{right-pao, feeder-small}
 use Rattle.position.specs.laws.Refusals.{riichi-by, chombo-by, draw-by, pao-by}
-use Rattle.position.specs.laws.Tiles.{win-accepted-when}
+use Rattle.position.specs.laws.Tiles.{win-accepted-when, multi-ron-accepted-when}
 use Rattle.game.specs.Game.{Entry, booking, freshGame, gameRefusal, gameFrom}
 use Rattle.game.specs.laws.Lists.{both-kept, plain-refusal}
 use Rattle.game_rules.specs.Past.{hasDeclared, hasNamed}
-use Rattle.game_rules.specs.History.{History, IsOpen, RiichiAgrees}
+use Rattle.game_rules.specs.History.{History, IsOpen, WinsBy}
 use Rattle.game_rules.specs.laws.Feeders.{OneOfTwo, place-below, two-bounds}
 use Rattle.game_rules.specs.laws.RiichiDeclared.{record-agrees, agrees-record}
+
+each-of : {P Q : List ℕ → Type 0} → ((s : List ℕ) → P s → Q s) → {ss : List (List ℕ)} → Each P ss → Each Q ss
+each-of f none = none
+each-of f (also {x = s} p ps) = also (f s p) (each-of f ps)
 
 module _ (past : List Booking) (l : Position) (h : History past l) where
   opened : notOpen l ≡ false → IsOpen past
@@ -43,14 +47,25 @@ module _ (past : List Booking) (l : Position) (h : History past l) where
     λ a. riichi-by l seat (a .0) (h .shut ∙ a .1) (h .declared seat (omega (arith, a .0)) ∙ a .2) false (a .3),
   )
 
-  pub win-when : (s : List ℕ) → (refusalFor l (result (win s)) ≡ 0)
-      ↔ (IsOpen past × IsSound s × ((r : Reading) × HasYaku l s r) × RiichiAgrees past s)
+  -- what neither Score nor 11 refuses, by the position and by its past
+  wins-by : (s : List ℕ) → IsWinning l s → WinsBy past l s
+  wins-by s y = (y .0, y .1, record-agrees past l h s (read-bounds s (sound s .0 (y .0)) .winner) (y .2))
+
+  by-wins : (s : List ℕ) → WinsBy past l s → IsWinning l s
+  by-wins s y = (y .0, y .1, agrees-record past l h s (read-bounds s (sound s .0 (y .0)) .winner) (y .2))
+
+  pub win-when : (s : List ℕ) → (refusalFor l (result (win s)) ≡ 0) ↔ (IsOpen past × WinsBy past l s)
   win-when s =
-      let w = win-accepted-when l s (refusalFor l (result (win s))) refl in (
-        λ e.
-            let a = w .0 e in
-            (opened (a .0), a .1, a .2, record-agrees past l h s (read-bounds s (sound s .0 (a .1)) .winner) (a .3)),
-        λ a. w .1 (h .shut ∙ a .0, a .1, a .2, agrees-record past l h s (read-bounds s (sound s .0 (a .1)) .winner) (a .3)),
+      let w = win-accepted-when l s (refusalFor l (result (win s))) refl in
+      (λ e. let a = w .0 e in (opened (a .0), wins-by s (a .1)), λ a. w .1 (h .shut ∙ a .0, by-wins s (a .1)))
+
+  pub multi-ron-when : (number : ℕ) (s : List ℕ) → let ss = recordsOf number s in
+      (refusalFor l (result (multiRon number s)) ≡ 0)
+      ↔ (IsOpen past × (0 < number) × (number ≤ 3) × Each (WinsBy past l) ss × (notOnOneTile ss ≡ false))
+  multi-ron-when number s =
+      let w = multi-ron-accepted-when l number s (refusalFor l (result (multiRon number s))) refl in (
+        λ e. let a = w .0 e in (opened (a .0), a .1, a .2, each-of wins-by (a .3), a .4),
+        λ a. w .1 (h .shut ∙ a .0, a .1, a .2, each-of by-wins (a .3), a .4),
       )
 
   few-bits : (bits : ℕ) → refusalFor l (result (draw bits)) ≡ 0 → bits ≤ 15

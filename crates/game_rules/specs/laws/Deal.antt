@@ -11,7 +11,8 @@ use Rattle.hand_rons.specs.laws.OneTile.{winnerOf}
 use Rattle.position.specs.declared.Position.{Position}
 use Rattle.position.specs.Booking.{Booking, result, riichi, win, draw, chombo, pao, multiRon}
 use Rattle.position.specs.Ledger.{lastHand, isReady, refusalFor, Effect, chomboOf, drawOf, isAtFault, effectOf}
-use Rattle.position.specs.Ledger.{isLast, dealerAfter, windAfter, handsAfter, overAfter}
+use Rattle.position.specs.Ledger.{isLast}
+use Rattle.position.specs.laws.After.{dealerAfter, windAfter, handsAfter, overAfter}
 use Rattle.game_rules.specs.Past.{isWin, hasWon, isChombo, hasPassed, passes, dealerIn}
 use Rattle.game_rules.specs.History.{History}
 use Rattle.game_rules.specs.laws.Accepted.{win-wins, multi-ron-wins, deals, draw-by-past}

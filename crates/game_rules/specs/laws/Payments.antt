@@ -1,14 +1,14 @@
 -- Who pays what: what the ledger gives each seat is what documents 01 and 02 say case by case.
 use mathlib.Core.Path.{_≡_, refl, sym, ap, _∙_, subst}
-use mathlib.Core.Bool.{Bool, true, false, _&&_, _||_, cond}
+use mathlib.Core.Bool.{Bool, true, false, _&&_, cond}
 use mathlib.Core.Logic.{_⊎_, inl, inr}
 use mathlib.Core.List.{List}
-use Prim.Native.Nat.{ℕ, zero, suc, _+_, _-_, _*_, _≤_, _<_}
+use Prim.Native.Nat.{ℕ, zero, suc, _+_, _*_, _/_, _≤_, _<_}
 use native.Mathlib.Nat.{zero-mul, one-mul}
 use native.Mathlib.Omega.{arith}
-use borrow.Author.Tests.{eq-eqb, ne-eqb, eqb-true, lt-ltb}
+use borrow.Author.Tests.{eq-eqb, ne-eqb, eqb-true}
 use lib.Dec.{eqb}
-use lib.IntN.{ℤ, pos, negℤ, _+ℤ_, _-ℤ_}
+use lib.IntN.{pos, negℤ, natAbs, _+ℤ_}
 use lib.ListN.{getD}
 use Rattle.tiles.specs.Below.{any, count, allBelow}
 use Rattle.tiles.specs.laws.Below.{every-at}
@@ -21,55 +21,21 @@ use Rattle.reading.specs.declared.Reading.{Reading}
 use Rattle.yaku_basics.specs.Tests.{winds}
 use Rattle.points.specs.declared.Seats.{Seats}
 use Rattle.points.specs.Points.{hundreds, share, pays, changes}
-use Rattle.points.specs.Claims.{changes-sum-zero}
-use Rattle.points.specs.laws.Balance.{below-four, other-pays}
+use Rattle.points.specs.laws.Balance.{below-four}
 use Rattle.score.specs.Named.{groupsOf, seatsOf, worth, scoredAs}
-use Rattle.score.specs.laws.Z.{add-law, sub-law-z, neg-law, eq-parts, parts-eq}
 use Rattle.position.specs.declared.Position.{Position}
 use Rattle.position.specs.Booking.{result, draw, chombo}
-use Rattle.position.specs.Ledger.{isSet, isDeclared, notOpen, handFor, feederAt, feederIndex, isReady, readySeats, paidByOthers, repeatPays}
-use Rattle.position.specs.Ledger.{repeatGives, wholeOf, paoPays, isDealersWin, gainGives, counterGives, paoIn, shareOf, drawGives, chomboGives}
-use Rattle.position.specs.Ledger.{effectOf}
-use Rattle.position.specs.Wins.{changeBy, paoBy, paidIn}
+use Rattle.position.specs.Ledger.{isDeclared, notOpen, handFor, feederAt, feederIndex, isReady, readySeats, paidByOthers, Liable, nobody, theFeeder, owes}
+use Rattle.position.specs.Ledger.{liableBy, liableIn, wholeOf, isDealersWin, payments, shareOf, drawGives, chomboGives, effectOf}
+use Rattle.position.specs.Wins.{paidIn}
 use Rattle.position.specs.Article67.{Article67}
 use Rattle.position.specs.laws.Form.{InForm, open-of}
-use Rattle.position.specs.laws.Repeat.{added-zero}
-use Rattle.position.specs.laws.Pao.{pao-zero, article-67, pao-feeder-seat}
+use Rattle.position.specs.laws.PaidByOthers.{even-zero, paid-by-others-even}
+use Rattle.position.specs.laws.Owed.{IsOther, whole-even, all-owed, other-size}
+use Rattle.position.specs.laws.Pao.{feeder-seat}
 use Rattle.position.specs.laws.Winds.{not-both}
 use Rattle.position.specs.laws.Fines.{fined-at}
-use Rattle.game_rules.specs.Payments.{IsLiable, WhoPays, declaredNotReady, bitsBy, DrawPays, FinePays}
-
--- ---- what a seat pays of the gain and of the counters
-
-both-paid : (x y : ℕ) → pos 0 -ℤ pos x +ℤ negℤ (pos y) ≡ negℤ (pos (x + y))
-both-paid x y = eq-parts _ _ (omega (arith, add-law (pos 0 -ℤ pos x) (negℤ (pos y)), sub-law-z (pos 0) (pos x), neg-law (pos y), neg-law (pos (x + y))))
-
--- four and four that sum to 0
-both-zero : (x y : ℕ → ℤ) → x 0 +ℤ x 1 +ℤ x 2 +ℤ x 3 ≡ pos 0 → y 0 +ℤ y 1 +ℤ y 2 +ℤ y 3 ≡ pos 0
-    → x 0 +ℤ y 0 +ℤ (x 1 +ℤ y 1) +ℤ (x 2 +ℤ y 2) +ℤ (x 3 +ℤ y 3) ≡ pos 0
-both-zero x y p q =
-    let z0 = x 0 +ℤ y 0 in
-    let z1 = x 1 +ℤ y 1 in
-    let z2 = x 2 +ℤ y 2 in
-    let z3 = x 3 +ℤ y 3 in
-    eq-parts _ _ (omega (
-      arith,
-      parts-eq _ _ p,
-      parts-eq _ _ q,
-      add-law (x 0) (x 1),
-      add-law (x 0 +ℤ x 1) (x 2),
-      add-law (x 0 +ℤ x 1 +ℤ x 2) (x 3),
-      add-law (y 0) (y 1),
-      add-law (y 0 +ℤ y 1) (y 2),
-      add-law (y 0 +ℤ y 1 +ℤ y 2) (y 3),
-      add-law (x 0) (y 0),
-      add-law (x 1) (y 1),
-      add-law (x 2) (y 2),
-      add-law (x 3) (y 3),
-      add-law z0 z1,
-      add-law (z0 +ℤ z1) z2,
-      add-law (z0 +ℤ z1 +ℤ z2) z3,
-    ))
+use Rattle.game_rules.specs.Payments.{IsLiable, NoneLiable, WhoPays, declaredNotReady, bitsBy, DrawPays, FinePays}
 
 -- ---- one payment of the four: w wins, d deals, x discards, a is A
 
@@ -98,23 +64,67 @@ module _ (w d x a : ℕ) where
     unfolding pays share
     by-child k e = rw (ne-eqb w i (λ z. o (sym z)), ne-eqb w d k, ne-eqb d i (λ z. e (sym z)), one-mul a)
 
-  -- with the counters, n of them
-  module _ (n i : ℕ) (h : i < 4) (o : i ≡ w → ⊥) where
-    other-gives : (ron : Bool) (payer : ℕ)
-        → getD (changes seats ron a) i (pos 0) +ℤ repeatGives w payer ron n i ≡ negℤ (pos (pays seats ron a i + repeatPays w payer ron n i))
-    unfolding paidByOthers
-    other-gives ron payer =
-        rw (other-pays seats ron a i h (λ e. o (sym e)), ne-eqb i w o) (both-paid (pays seats ron a i) (repeatPays w payer ron n i))
+-- ---- by article 67
+
+module _ (taken : ℕ → ℕ) (w d x k n : ℕ) (ron : Bool) (h : w ≤ 3) (l : d ≤ 3) (g : x ≤ 3) (other : w ≡ x → ⊥) (own : ron ≡ true → w ≡ d → ⊥) where
+  abbrev owed : ℕ → ℕ
+  owed = owes taken d (2 * k) n (theFeeder x) ron
+
+  pays-owed : (i : ℕ) → (i ≡ w → ⊥) → (m : ℕ) → owed i ≡ m → paidByOthers w owed i ≡ negℤ (pos m)
+  unfolding paidByOthers
+  pays-owed i o m e = rw (ne-eqb i w o, e)
+
+  gains-all : paidByOthers w owed w ≡ pos (2 * k + 300 * n)
+  unfolding paidByOthers
+  gains-all = rw (eq-eqb w w refl) (ap pos (all-owed taken w d k n h l (theFeeder x) (g, other) ron own))
+
+  -- on tsumo
+  whole-owed : ron ≡ false → owed x ≡ 2 * k + 300 * n
+  unfolding owes
+  whole-owed r = rw (r, eq-eqb x x refl)
+
+  -- on ron, of two seats
+  feeder-owes : ron ≡ true → (x ≡ d → ⊥) → owed x ≡ 2 * k / 2
+  unfolding owes
+  feeder-owes r o = rw (r, eq-eqb x x refl, ne-eqb x d o) (omega arith)
+
+  discarder-owes : ron ≡ true → (x ≡ d → ⊥) → owed d ≡ 2 * k / 2 + 300 * n
+  unfolding owes
+  discarder-owes r o = rw (r, eq-eqb d d refl, ne-eqb d x (λ e. o (sym e))) (omega arith)
+
+  -- of one
+  all-of-one : ron ≡ true → x ≡ d → owed x ≡ 2 * k + 300 * n
+  unfolding owes
+  all-of-one r e = rw (r, eq-eqb x x refl, eq-eqb x d e) (omega arith)
+
+  others-owe-nothing : (i : ℕ) → (i ≡ x → ⊥) → (ron ≡ true → i ≡ d → ⊥) → owed i ≡ 0
+  unfolding owes
+  others-owe-nothing i b c = go ron refl
+    where
+      go : (r : Bool) → ron ≡ r → owes taken d (2 * k) n (theFeeder x) r i ≡ 0
+      go true e = rw (ne-eqb i x b, ne-eqb i d (c e))
+      go false e = rw (ne-eqb i x b)
+
+  by-article-67 : Article67 w d x ron (2 * k) (300 * n) (paidByOthers w owed)
+  by-article-67 = record {
+    gain = gains-all;
+    tsumo = λ r. pays-owed x (λ e. other (sym e)) (2 * k + 300 * n) (whole-owed r);
+    halves = λ r o. (
+      pays-owed x (λ e. other (sym e)) (2 * k / 2) (feeder-owes r o),
+      pays-owed d (λ e. own r (sym e)) (2 * k / 2 + 300 * n) (discarder-owes r o),
+    );
+    one = λ r e. pays-owed x (λ e. other (sym e)) (2 * k + 300 * n) (all-of-one r e);
+    others = λ i a b c. pays-owed i a 0 (others-owe-nothing i b c);
+  }
 
 -- ---- who is liable
 
-zero-of : (n : ℕ) → ((k : ℕ) → n ≡ 1 + k → ⊥) → n ≡ 0
-zero-of zero none = refl
-zero-of (suc n) none = absurd (none n (omega arith))
+none-at : (n : ℕ) → ((k : ℕ) → n ≡ 1 + k → ⊥) → liableBy n ≡ nobody
+none-at zero none = refl
+none-at (suc n) none = absurd (none n (omega arith))
 
-alone : (b : Bool) → b || true ≡ true
-alone true = refl
-alone false = refl
+named-at : (n k : ℕ) → n ≡ 1 + k → liableBy n ≡ theFeeder k
+named-at n k e = let one : n ≡ suc k = omega arith in ap liableBy one
 
 module _ (l : Position) (s : List ℕ) (r : Reading) where
   abbrev f : Fields
@@ -126,29 +136,42 @@ module _ (l : Position) (s : List ℕ) (r : Reading) where
   abbrev four : Bool
   four = eqb (winds (groupsOf (handFor s) r)) 4
 
-  none-liable : ((feeder : ℕ) → IsLiable l s r feeder → ⊥) → paoBy l s r ≡ 0
+  abbrev liable : Liable
+  liable = liableIn l (f .winner) (getD yaku 28 false) (getD yaku 29 false && four)
+
+  none-liable : NoneLiable l s r → liable ≡ nobody
   none-liable none = go (getD yaku 28 false) (getD yaku 29 false) four refl refl refl
     where
-      go : (a b c : Bool) → getD yaku 28 false ≡ a → getD yaku 29 false ≡ b → four ≡ c → paoIn l (f .winner) a (b && c) ≡ 0
-      go true b c p q e = zero-of (feederAt l (feederIndex (f .winner) 28)) (λ k z. none k (inl (p, z)))
+      go : (a b c : Bool) → getD yaku 28 false ≡ a → getD yaku 29 false ≡ b → four ≡ c → liableIn l (f .winner) a (b && c) ≡ nobody
+      go true b c p q e = none-at (feederAt l (feederIndex (f .winner) 28)) (λ k z. none k (inl (p, z)))
       go false true true p q e =
-          zero-of (feederAt l (feederIndex (f .winner) 29)) (λ k z. none k (inr (q, eqb-true (winds (groupsOf (handFor s) r)) 4 e, z)))
+          none-at (feederAt l (feederIndex (f .winner) 29)) (λ k z. none k (inr (q, eqb-true (winds (groupsOf (handFor s) r)) 4 e, z)))
       go false true false p q e = refl
       go false false c p q e = refl
 
-  liable-is : (feeder : ℕ) → IsLiable l s r feeder → paoBy l s r ≡ 1 + feeder
-  liable-is feeder (inl (p, z)) = rw p z
+  liable-is : (feeder : ℕ) → IsLiable l s r feeder → liable ≡ theFeeder feeder
+  liable-is feeder (inl (p, z)) = rw p (named-at (feederAt l (feederIndex (f .winner) 28)) feeder z)
   liable-is feeder (inr (q, e, z)) = go (getD yaku 28 false) refl
     where
-      go : (a : Bool) → getD yaku 28 false ≡ a → paoIn l (f .winner) a (getD yaku 29 false && four) ≡ 1 + feeder
+      go : (a : Bool) → getD yaku 28 false ≡ a → liableIn l (f .winner) a (getD yaku 29 false && four) ≡ theFeeder feeder
       go true p = absurd (not-both (handFor s) (l .dealer) (l .wind) r p q)
-      go false p = rw (q, eq-eqb (winds (groupsOf (handFor s) r)) 4 e) z
+      go false p = rw (q, eq-eqb (winds (groupsOf (handFor s) r)) 4 e) (named-at (feederAt l (feederIndex (f .winner) 29)) feeder z)
 
   -- ---- a win
 
   module _ (n : ℕ) (o : notOpen l ≡ false) (i : IsSound s) where
     abbrev a : ℕ
     a = worth (handFor s) (l .dealer) (l .wind) r .basic .0
+
+    abbrev σ : Seats
+    σ = seatsOf (handFor s) (l .dealer)
+
+    -- what the reading takes of a seat
+    abbrev taken : Bool → ℕ → ℕ
+    taken ron j = natAbs (getD (changes σ ron a) j (pos 0))
+
+    abbrev owedBy : Liable → ℕ → ℕ
+    owedBy who = owes (taken (isRon f)) (f .discarder) (wholeOf (isDealersWin l s)) n who (isRon f)
 
     form : InForm l
     form = open-of l o .form
@@ -159,79 +182,61 @@ module _ (l : Position) (s : List ℕ) (r : Reading) where
     from-other : isRon f ≡ true → f .discarder ≡ f .winner → ⊥
     from-other e z = other-seat f (bounds .other) e (sym z)
 
-    -- with k liable
-    abbrev givesBy : ℕ → ℕ → ℤ
-    givesBy k j = gainGives l s k (changeBy l s r) j +ℤ counterGives l s k n j
-
     -- another seat than the winner, where nobody is liable
-    module _ (none : (feeder : ℕ) → IsLiable l s r feeder → ⊥) (j : ℕ) (h : j < 4) (k : j ≡ f .winner → ⊥) where
-      by-ron : isRon f ≡ true
-          → paidIn l s r n j ≡ negℤ (pos (pays (seatsOf (handFor s) (l .dealer)) true a j + repeatPays (f .winner) (f .discarder) true n j))
+    module _ (none : NoneLiable l s r) (j : ℕ) (h : j < 4) (k : j ≡ f .winner → ⊥) where
+      pays-its-own : paidIn l s r n j ≡ negℤ (pos (owedBy nobody j))
+      unfolding payments paidByOthers
+      pays-its-own = rw (ne-eqb j (f .winner) k) (ap (λ (who : Liable). negℤ (pos (owedBy who j))) (none-liable none))
+
+      size : (ron : Bool) → taken ron j ≡ pays σ ron a j
+      size ron = other-size σ ron a j h (λ e. k (sym e))
+
+      by-ron : isRon f ≡ true → paidIn l s r n j ≡ negℤ (pos (pays σ true a j + cond (eqb j (f .discarder)) (300 * n) 0))
+      unfolding owes
       by-ron e =
-          ap (λ (m : ℕ). givesBy m j) (none-liable none)
-          ∙ rw e (other-gives (f .winner) (l .dealer) (f .discarder) a n j h k true (f .discarder))
+          pays-its-own ∙ ap (λ (b : Bool). negℤ (pos (owes (taken b) (f .discarder) (wholeOf (isDealersWin l s)) n nobody b j))) e
+          ∙ ap (λ (p : ℕ). negℤ (pos (p + cond (eqb j (f .discarder)) (300 * n) 0))) (size true)
 
-      by-tsumo : isRon f ≡ false
-          → paidIn l s r n j ≡ negℤ (pos (pays (seatsOf (handFor s) (l .dealer)) false a j + repeatPays (f .winner) (0 - 1) false n j))
+      by-tsumo : isRon f ≡ false → paidIn l s r n j ≡ negℤ (pos (pays σ false a j + 100 * n))
+      unfolding owes
       by-tsumo e =
-          ap (λ (m : ℕ). givesBy m j) (none-liable none)
-          ∙ rw e (other-gives (f .winner) (l .dealer) (f .discarder) a n j h k false (0 - 1))
+          pays-its-own ∙ ap (λ (b : Bool). negℤ (pos (owes (taken b) (f .discarder) (wholeOf (isDealersWin l s)) n nobody b j))) e
+          ∙ ap (λ (p : ℕ). negℤ (pos (p + 100 * n))) (size false)
 
-    -- by article 67, with k liable
-    by-article-67 : (k : ℕ) → 0 < k → k ≤ 4 → (k ≡ 1 + f .winner → ⊥)
-        → Article67 (f .winner) (f .discarder) (k - 1) (isRon f) (wholeOf (isDealersWin l s)) (300 * n) (givesBy k)
-    by-article-67 k p m other =
-        let set : isSet k ≡ true = lt-ltb 0 k p in
-        let paid = article-67 (f .winner) (f .discarder) (k - 1) (isRon f) (isDealersWin l s) n (bounds .winner) (bounds .discarder) (omega arith)
-        (λ e. other (omega arith)) (λ e z. from-other e (sym z)) in
-        subst (λ (b : Bool). Claimed b (isRon f || b)) (sym set) (subst (Claimed true) (sym (alone (isRon f))) paid)
-      where
-        -- what is claimed, where somebody is liable or not, and pays the counters alone or not
-        Claimed : Bool → Bool → Type 0
-        Claimed b c =
-            Article67 (f .winner) (f .discarder) (k - 1) (isRon f) (wholeOf (isDealersWin l s)) (300 * n)
-            (λ j. cond b (paidByOthers (f .winner) (paoPays (f .winner) (f .discarder) (k - 1) (isRon f) (wholeOf (isDealersWin l s))) j) (changeBy l s r j)
-            +ℤ repeatGives (f .winner) (cond (isRon f) (f .discarder) (k - 1)) c n j)
+    -- by article 67, where a feeder is
+    abbrev Claimed : ℕ → Liable → ℕ → Type 0
+    Claimed whole who feeder =
+        Article67 (f .winner) (f .discarder) feeder (isRon f) whole (300 * n)
+        (paidByOthers (f .winner) (owes (taken (isRon f)) (f .discarder) whole n who (isRon f)))
 
-    gain-zero : (k : ℕ) → let c = gainGives l s k (changeBy l s r) in c 0 +ℤ c 1 +ℤ c 2 +ℤ c 3 ≡ pos 0
-    gain-zero k = go (isSet k)
-      where
-        go : (b : Bool) →
-            let c : ℕ → ℤ = λ j. cond b
-            (paidByOthers (f .winner) (paoPays (f .winner) (f .discarder) (k - 1) (isRon f) (wholeOf (isDealersWin l s))) j) (changeBy l s r j) in
-            c 0 +ℤ c 1 +ℤ c 2 +ℤ c 3 ≡ pos 0
-        go true = pao-zero (f .discarder) (k - 1) (isRon f) (wholeOf (isDealersWin l s)) (f .winner) (bounds .winner)
-        go false = changes-sum-zero (seatsOf (handFor s) (l .dealer)) (isRon f) a (omega (arith, bounds .winner))
+    by-feeder : (feeder : ℕ) → IsLiable l s r feeder → Claimed (wholeOf (isDealersWin l s)) liable feeder
+    by-feeder feeder y =
+        let e = liable-is feeder y in
+        let seat = feeder-seat l form (f .winner) (bounds .winner) (getD yaku 28 false) (getD yaku 29 false && four) in
+        let other : IsOther (f .winner) (theFeeder feeder) = subst (IsOther (f .winner)) e seat in
+        let paid = by-article-67 (taken (isRon f)) (f .winner) (f .discarder) feeder (cond (isDealersWin l s) 24000 16000) n (isRon f) (bounds .winner)
+        (bounds .discarder) (other .0) (other .1) (λ e z. from-other e (sym z)) in
+        subst (λ (who : Liable). Claimed (wholeOf (isDealersWin l s)) who feeder) (sym e)
+        (subst (λ (whole : ℕ). Claimed whole (theFeeder feeder) feeder) (sym (whole-even (isDealersWin l s))) paid)
 
     pub who-pays : WhoPays l s r n (paidIn l s r n)
-    unfolding repeatPays
+    unfolding payments
     who-pays = record {
       ron = λ none e.
           let x : ℕ = f .discarder in
           let o = from-other e in
-          by-ron none x (omega (arith, bounds .discarder)) o e ∙ rw (discarder-pays (f .winner) (l .dealer) x a o, ne-eqb x (f .winner) o, eq-eqb x x refl);
+          by-ron none x (omega (arith, bounds .discarder)) o e ∙ rw (discarder-pays (f .winner) (l .dealer) x a o, eq-eqb x x refl);
       ron-others = λ none e j h k x.
-          by-ron none j h k e
-          ∙ rw (others-pay-nothing (f .winner) (l .dealer) (f .discarder) a j k x, ne-eqb j (f .winner) k, ne-eqb j (f .discarder) x);
-      dealers-tsumo = λ none e d j h k.
-          by-tsumo none j h k e ∙ rw (to-dealer (f .winner) (l .dealer) (f .discarder) a j k d, ne-eqb j (f .winner) k);
+          by-ron none j h k e ∙ rw (others-pay-nothing (f .winner) (l .dealer) (f .discarder) a j k x, ne-eqb j (f .discarder) x);
+      dealers-tsumo = λ none e d j h k. by-tsumo none j h k e ∙ rw (to-dealer (f .winner) (l .dealer) (f .discarder) a j k d);
       childs-tsumo = λ none e d.
           let o : l .dealer ≡ f .winner → ⊥ = λ z. d (sym z) in (
             by-tsumo none (l .dealer) (omega (arith, form .dealer)) o e
-                ∙ rw (by-dealer (f .winner) (l .dealer) (f .discarder) a (l .dealer) o d refl, ne-eqb (l .dealer) (f .winner) o),
-            λ j h k x. by-tsumo none j h k e ∙ rw (by-child (f .winner) (l .dealer) (f .discarder) a j k d x, ne-eqb j (f .winner) k),
+                ∙ rw (by-dealer (f .winner) (l .dealer) (f .discarder) a (l .dealer) o d refl),
+            λ j h k x. by-tsumo none j h k e ∙ rw (by-child (f .winner) (l .dealer) (f .discarder) a j k d x),
           );
-      with-pao = λ feeder y.
-          let k : ℕ = paoBy l s r in
-          let e = liable-is feeder y in
-          let seat = pao-feeder-seat l form (f .winner) (bounds .winner) (getD yaku 28 false) (getD yaku 29 false && four) in
-          let same : k - 1 ≡ feeder = omega arith in
-          subst (λ (x : ℕ). Article67 (f .winner) (f .discarder) x (isRon f) (wholeOf (isDealersWin l s)) (300 * n) (givesBy k)) same
-          (by-article-67 k (omega arith) (seat .0) (seat .1));
-      zero =
-          let k : ℕ = paoBy l s r in
-          both-zero (gainGives l s k (changeBy l s r)) (counterGives l s k n) (gain-zero k)
-          (added-zero (cond (isRon f) (f .discarder) (k - 1)) (isRon f || isSet k) n (f .winner) (bounds .winner));
+      with-pao = by-feeder;
+      zero = even-zero (paidIn l s r n) (paid-by-others-even (owedBy liable) (f .winner) (omega (arith, bounds .winner)));
     }
 
 -- ---- a draw

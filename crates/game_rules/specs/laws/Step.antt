@@ -10,7 +10,8 @@ use lib.ListN.{replicate}
 use Rattle.points.specs.laws.Balance.{below-four}
 use Rattle.position.specs.declared.Position.{Position}
 use Rattle.position.specs.Booking.{Booking}
-use Rattle.position.specs.Ledger.{fresh, isSet, isDeclared, notOpen, refusalFor, effectOf, overAfter, handsAfter, applied, after, ledgerFrom, ledger}
+use Rattle.position.specs.Ledger.{fresh, isSet, isDeclared, notOpen, refusalFor, effectOf, applied, after, ledgerFrom, ledger}
+use Rattle.position.specs.laws.After.{overAfter, handsAfter}
 use Rattle.position.specs.laws.Form.{of-form}
 use Rattle.position.specs.laws.Effect.{is-mark, declared-applied, Kept}
 use Rattle.position.specs.laws.Kept.{fresh-kept, kept-form, after-kept}

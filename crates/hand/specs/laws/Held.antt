@@ -13,7 +13,7 @@ use Rattle.tiles.specs.laws.Tally.{at-le, getD-tally, tally-bound, tally-ext, m
 use Rattle.hand.specs.declared.Held.{Held}
 use Rattle.hand.specs.declared.Hand.{Hand}
 use Rattle.hand.specs.Held.{meldTile, meldKind, meldHolds, inMelds, inOthers, inHeld, others}
-use Rattle.hand.specs.Hand.{inHand}
+use Rattle.hand.specs.Hand.{inConcealed, inHand}
 
 pub meld-le : (b k : ℕ) → meldHolds b k ≤ 4
 unfolding meldHolds
@@ -36,6 +36,10 @@ module _ (x : Held) (k : ℕ) where
   pub held-le : inHeld x k ≤ 29
   unfolding inHeld
   held-le = omega (arith, melds-le, others-le)
+
+pub concealed-le : (h : Hand) (k : ℕ) → inConcealed h k ≤ 14
+unfolding inConcealed
+concealed-le h k = omega (arith, others-le (h .held) k, at-le (h .fields .winning) 1 k)
 
 pub hand-le : (h : Hand) (k : ℕ) → inHand h k ≤ 30
 unfolding inHand

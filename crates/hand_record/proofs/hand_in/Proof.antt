@@ -16,8 +16,9 @@ room : (c : tie.Start) → 25 + 8 * c .args .m + 6 * (13 - 3 * c .args .m) + pad
 room c = whole (c .args .m) (c .pre .0) .0 ∙ ap (λ (n : ℕ). 8 * n) (sym (c .pre .1))
 
 made : (c : tie.After-refusal)
-    → answerBy (record { fields = c .before .before .before .before .args .f; held = c .before .before .held-in .result }) (c .refusal .result)
-    ≡ answerIn (c .before .before .before .before .args .m) (bitsOf (c .before .before .before .before .args .s .now))
+    → let held-in = c .before .before in let start = held-in .before .before in
+    answerBy (record { fields = start .args .f; held = held-in .held-in .result }) (c .refusal .result)
+    ≡ answerIn (start .args .m) (bitsOf (start .args .s .now))
 made c =
     let h = c .before .before in
     let a = h .before .before in

@@ -17,6 +17,8 @@ header-spec =
     let c6 = c .before .before in
     let c4 = c6 .before .before in
     let c2 = c4 .before .before in
+    let field = c2 .before in
+    let start = field .before .before in
     rw (
       c .field8 .ensures,
       c .before .field7 .ensures,
@@ -25,6 +27,6 @@ header-spec =
       c4 .field4 .ensures,
       c4 .before .field3 .ensures,
       c2 .field2 .ensures,
-      c2 .before .field .ensures,
+      field .field .ensures,
     )
-    (sym (head-at (bitsOf (c2 .before .before .before .args .s .now))))))
+    (sym (head-at (bitsOf (start .args .s .now))))))

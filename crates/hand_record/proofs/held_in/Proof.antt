@@ -14,6 +14,9 @@ held-in-spec =
     (λ c. search needs)
     (λ c κs. search needs)
     (λ c.
-    let a = c .before .before .before .before .before .before .before in
-    held-made (a .args .at) (a .args .m) (bitsOf (a .args .s .now)) _ _ (a .pre .0) (c .before .before .before .before .run-into .ensures)
+    let concealed = c .before .before in
+    let run-into = concealed .before .before in
+    let shared-slice-known = run-into .before .before in
+    let a = shared-slice-known .before in
+    held-made (a .args .at) (a .args .m) (bitsOf (a .args .s .now)) _ _ (a .pre .0) (run-into .run-into .ensures)
     (c .before .run-into2 .ensures)))

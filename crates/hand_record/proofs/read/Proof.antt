@@ -20,10 +20,14 @@ read-spec =
     c .refused2 .ensures ∙ sym (read-not _ (λ f. omega (arith, ap (λ (x : Head). x .m) h))))
     (λ c. search needs) (λ c. search needs) (λ c. search needs) (λ c κs. search needs)
     (λ c.
-    let h = c .before .before .before .header .ensures in
-    c .refused3 .ensures ∙ sym (read-not _ (λ f. c .before .if3 .taken (f .right ∙ ap (λ (x : Head). lengthOf (x .m)) (sym h)))))
-    (λ c κs. (search needs, c .before .if3 .left, ap (λ (x : Head). x .fields) (c .before .before .before .header .ensures)))
+    let then3 = c .before in
+    let h = then3 .before .before .header .ensures in
+    c .refused3 .ensures ∙ sym (read-not _ (λ f. then3 .if3 .taken (f .right ∙ ap (λ (x : Head). lengthOf (x .m)) (sym h)))))
+    (λ c κs.
+    let else3 = c .before in
+    (search needs, else3 .if3 .left, ap (λ (x : Head). x .fields) (else3 .before .before .header .ensures)))
     (λ c.
-    let h = c .before .before .before .before .header .ensures in
+    let else3 = c .before .before in
+    let h = else3 .before .before .header .ensures in
     c .hand-in .ensures
-    ∙ read-as _ _ (ap (λ (x : Head). x .m) (sym h)) (record { four = omega arith; few = omega arith; right = c .before .before .if3 .left })))
+    ∙ read-as _ _ (ap (λ (x : Head). x .m) (sym h)) (record { four = omega arith; few = omega arith; right = else3 .if3 .left })))

@@ -9,4 +9,6 @@ unfolding readHandOf
 read-hand-spec =
     tie.close
     (tie.spec (λ c κs. search needs) (λ c κs. search needs) (λ c κs. search needs)
-    (λ c. rw (c .refusal .ensures, c .before .fields-of .ensures, ← c .before .before .before .read .ensures)))
+    (λ c.
+    let fields-of = c .before in
+    rw (c .refusal .ensures, fields-of .fields-of .ensures, ← fields-of .before .before .read .ensures)))

@@ -10,22 +10,29 @@ use Rattle.hand_record.proofs.record_length.Tie as tie
 returns : tie.Need-returns
 returns c = sym (record-short (c .before .before .args .s .now) (omega arith))
 
+-- the start, from after `meld-count`
+abbrev start-of : tie.After-meld-count → tie.Start
+start-of c = let else1 = c .before in else1 .before .before
+
 returns-2 : tie.Need-returns-2
 returns-2 c =
-    let s = c .before .before .before .before .args .s .now in
-    let e : c .before .meld-count .result ≡ countIn s = c .before .meld-count .ensures in
+    let meld-count = c .before in
+    let s = start-of meld-count .args .s .now in
+    let e : meld-count .meld-count .result ≡ countIn s = meld-count .meld-count .ensures in
     sym (record-over s (omega arith) (omega arith))
 
 returns-3 : tie.Need-returns-3
 returns-3 c =
-    let s = c .before .before .before .before .before .args .s .now in
-    let e : c .before .before .meld-count .result ≡ countIn s = c .before .before .meld-count .ensures in
+    let meld-count = c .before .before in
+    let s = start-of meld-count .args .s .now in
+    let e : meld-count .meld-count .result ≡ countIn s = meld-count .meld-count .ensures in
     sym (record-cut s (omega arith) (omega arith) (rw (← e) (omega arith)))
 
 returns-4 : tie.Need-returns-4
 returns-4 c =
-    let s = c .before .before .before .before .before .args .s .now in
-    let e : c .before .before .meld-count .result ≡ countIn s = c .before .before .meld-count .ensures in
+    let meld-count = c .before .before in
+    let s = start-of meld-count .args .s .now in
+    let e : meld-count .meld-count .result ≡ countIn s = meld-count .meld-count .ensures in
     ap lengthOf e ∙ sym (record-whole s (omega arith) (omega arith) (rw (← e) (omega arith)))
 
 pub record-length-spec : {M : Type 1} → statement M

@@ -21,7 +21,7 @@ use Rattle.hand.specs.Refusals.{tooLarge, refusalOf, unwritable}
 use Rattle.hand_record.specs.declared.Head.{Head}
 use Rattle.hand_record.specs.declared.HandRead.{HandRead}
 use Rattle.hand_record.specs.declared.Answer.the-variants.{Sound, Refused}
-use Rattle.hand_record.specs.Record.{head, headBy, headList, headFor, sixes, lengthOf, padOf, headOf, paddingOf}
+use Rattle.hand_record.specs.Record.{head, headBy, headList, headFor, sixes, lengthOf, padOf, heldWidths, heldValues, headOf, paddingOf}
 use Rattle.hand_record.specs.Record.{handIn, refusedWith, soundAs, wrongLength, countIn, answerBy, answerIn, readOf, widths, valuesOf, recordOf}
 use Rattle.hand_record.specs.search.Offsets.{meldsOf, tilesOf, heldIn, handAt}
 use Rattle.hand_record.specs.laws.Offsets.{melds-length, tiles-length, hand-at, unpack-widths}
@@ -39,6 +39,47 @@ head-list b = refl
 head-back : (x : Head) (b : List ℕ) → unpack head b ≡ headList x → headOf b ≡ x
 unfolding headOf
 head-back x b e = ap headBy e
+
+-- ---- the tiles held of bits
+
+-- the values of the tiles held that bits from `at` on are
+pub held-values : (x : Held) (at : ℕ) (b : List ℕ) → x ≡ heldIn at (x .m) b
+    → heldValues x ≡ meldsOf at (x .m) b ++ (tilesOf at (x .m) b ++ (0 ∷ []))
+unfolding heldIn
+held-values x at b e =
+    let m : ℕ = x .m in
+    let k : ℕ = 13 - 3 * m in
+    let em : take m (x .melds) ≡ meldsOf at m b =
+    ap (λ (y : Held). take m (y .melds)) e ∙ take-fill 4 m (meldsOf at m b) (melds-length at m b) in
+    let et : take k (x .concealed) ≡ tilesOf at m b =
+    ap (λ (y : Held). take k (y .concealed)) e ∙ take-fill 13 k (tilesOf at m b) (tiles-length at m b) in
+    ap (λ (l : List ℕ). l ++ (take k (x .concealed) ++ (0 ∷ []))) em ∙ ap (λ (l : List ℕ). meldsOf at m b ++ (l ++ (0 ∷ []))) et
+
+-- their unused places are zero
+pub held-unused : (x : Held) (at : ℕ) (b : List ℕ) → x ≡ heldIn at (x .m) b → unusedNotZero x ≡ false
+unfolding heldIn
+held-unused x at b e =
+    let m : ℕ = x .m in
+    unused-of x
+    (λ i g. ap (λ (y : Held). getD (y .melds) i 0) e ∙ fill-past 4 (meldsOf at m b) i (omega (arith, melds-length at m b)))
+    (λ i g. ap (λ (y : Held). getD (y .concealed) i 0) e ∙ fill-past 13 (tilesOf at m b) i (omega (arith, tiles-length at m b)))
+
+-- bits with the values of tiles held, and p after them, are those tiles held
+pub held-again : (x : Held) (at p : ℕ) (b : List ℕ) → x .m ≤ 4 → length (x .melds) ≡ 4 → length (x .concealed) ≡ 13 → unusedNotZero x ≡ false
+    → meldsOf at (x .m) b ++ (tilesOf at (x .m) b ++ (p ∷ [])) ≡ heldValues x → (heldIn at (x .m) b ≡ x) × (p ≡ 0)
+unfolding heldIn
+held-again x at p b few lm lc u q =
+    let m : ℕ = x .m in
+    let k : ℕ = 13 - 3 * m in
+    let q1 = app-inj (meldsOf at m b) (take m (x .melds)) _ _ (melds-length at m b ∙ sym (length-take-le m (x .melds) (omega arith))) q in
+    let q2 = app-inj (tilesOf at m b) (take k (x .concealed)) _ _ (tiles-length at m b ∙ sym (length-take-le k (x .concealed) (omega arith))) (q1 .1) in
+    let z = zeros-of x u in
+    let em : fill 4 (meldsOf at m b) ≡ x .melds = ap (fill 4) (q1 .0) ∙ fill-take 4 m (x .melds) lm few (z .0) in
+    let et : fill 13 (tilesOf at m b) ≡ x .concealed = ap (fill 13) (q2 .0) ∙ fill-take 13 k (x .concealed) lc (omega arith) (z .1) in (
+      ap (λ (l : List ℕ). record { m = m; melds = l; concealed = fill 13 (tilesOf at m b) }) em
+          ∙ ap (λ (l : List ℕ). record { m = m; melds = x .melds; concealed = l }) et,
+      ap (λ (l : List ℕ). getD l 0 0) (q2 .1),
+    )
 
 -- ---- what a sound answer says
 
@@ -98,13 +139,8 @@ module _ (s : List ℕ) (h : Hand) (y : ReadAs s h) where
   unfolding heldIn
   fields-are = ap (λ (x : Hand). headList (headFor x)) is-at ∙ head-list (bitsOf s)
 
-  melds-are : h .held .melds ≡ fill 4 (meldsOf 25 (h .held .m) (bitsOf s))
-  unfolding heldIn
-  melds-are = ap (λ (x : Hand). x .held .melds) is-at ∙ ap (λ (m : ℕ). fill 4 (meldsOf 25 m (bitsOf s))) (sym count-is)
-
-  tiles-are : h .held .concealed ≡ fill 13 (tilesOf 25 (h .held .m) (bitsOf s))
-  unfolding heldIn
-  tiles-are = ap (λ (x : Hand). x .held .concealed) is-at ∙ ap (λ (m : ℕ). fill 13 (tilesOf 25 m (bitsOf s))) (sym count-is)
+  held-are : h .held ≡ heldIn 25 (h .held .m) (bitsOf s)
+  held-are = ap (λ (x : Hand). x .held) is-at ∙ ap (λ (m : ℕ). heldIn 25 m (bitsOf s)) (sym count-is)
 
   pub length-is : RightLength (length s) (h .held .m)
   length-is = rw count-is (y .right-length)
@@ -121,12 +157,8 @@ module _ (s : List ℕ) (h : Hand) (y : ReadAs s h) where
   values-are =
       let m : ℕ = h .held .m in
       let b : List ℕ = bitsOf s in
-      let em : take m (h .held .melds) ≡ meldsOf 25 m b = ap (take m) melds-are ∙ take-fill 4 m (meldsOf 25 m b) (melds-length 25 m b) in
-      let et : take (13 - 3 * m) (h .held .concealed) ≡ tilesOf 25 m b =
-      ap (take (13 - 3 * m)) tiles-are ∙ take-fill 13 (13 - 3 * m) (tilesOf 25 m b) (tiles-length 25 m b) in
-      ap (λ (l : List ℕ). l ++ (take m (h .held .melds) ++ (take (13 - 3 * m) (h .held .concealed) ++ (0 ∷ [])))) fields-are
-      ∙ ap (λ (l : List ℕ). unpack head b ++ (l ++ (take (13 - 3 * m) (h .held .concealed) ++ (0 ∷ [])))) em
-      ∙ ap (λ (l : List ℕ). unpack head b ++ (meldsOf 25 m b ++ (l ++ (0 ∷ [])))) et
+      ap (λ (l : List ℕ). l ++ heldValues (h .held)) fields-are
+      ∙ ap (λ (l : List ℕ). unpack head b ++ l) (held-values (h .held) 25 b held-are)
       ∙ ap (λ (k : ℕ). unpack head b ++ (meldsOf 25 m b ++ (tilesOf 25 m b ++ (k ∷ [])))) (sym no-padding)
       ∙ sym (unpack-widths m b)
 
@@ -161,9 +193,7 @@ module _ (s : List ℕ) (h : Hand) (y : ReadAs s h) where
           )
 
       not-unused : unusedNotZero (h .held) ≡ false
-      not-unused = unused-of (h .held)
-          (λ i g. rw melds-are (fill-past 4 (meldsOf 25 (h .held .m) (bitsOf s)) i (omega (arith, melds-length 25 (h .held .m) (bitsOf s)))))
-          (λ i g. rw tiles-are (fill-past 13 (tilesOf 25 (h .held .m) (bitsOf s)) i (omega (arith, tiles-length 25 (h .held .m) (bitsOf s)))))
+      not-unused = held-unused (h .held) 25 (bitsOf s) held-are
 
 -- ---- the other way: what is written fits its bits
 
@@ -174,6 +204,20 @@ tiles-below k l h i = go (ltb i k) refl
     go : (b : Bool) → ltb i k ≡ b → getD (take k l) i 0 < 64
     go true e = rw (getD-take k l i 0 (ltb-true i k e)) (omega (arith, h i (ltb-true i k e)))
     go false e = rw (List·getD-eq-default (take k l) 0 {n = i} (omega (arith, ltb-false i k e, length-take k l))) (omega arith)
+
+-- the values of tiles held fit their widths
+pub held-fit : (x : Held) (n : ℕ) → x .m ≤ 4 → length (x .melds) ≡ 4 → length (x .concealed) ≡ 13 → EachBelow 256 (x .melds)
+    → ((i : ℕ) → i < 13 - 3 * x .m → getD (x .concealed) i 0 ≤ 33) → FitIn (heldWidths (x .m) n) (heldValues x)
+held-fit x n few lm lc bm t =
+    let m : ℕ = x .m in
+    let k : ℕ = 13 - 3 * m in
+    let em : length (take m (x .melds)) ≡ m = length-take-le m (x .melds) (omega arith) in
+    let et : length (take k (x .concealed)) ≡ k = length-take-le k (x .concealed) (omega arith) in
+    fit-append (eights m) (take m (x .melds)) (sixes k ++ (n ∷ [])) (take k (x .concealed) ++ (0 ∷ [])) (length-replicate m 8 ∙ sym em)
+    (fit-run m 8 (take m (x .melds)) (omega arith) (below-take 256 m (x .melds) bm))
+    (fit-append (sixes k) (take k (x .concealed)) (n ∷ []) (0 ∷ []) (length-replicate k 6 ∙ sym et)
+    (fit-run k 6 (take k (x .concealed)) (omega arith) (tiles-below k (x .concealed) t))
+    (fit-cons n 0 [] [] (pow-pos n) fit-nil))
 
 fit-head : (h : Hand) → Accepted h → FitIn head (headList (headFor h))
 fit-head h y =
@@ -212,19 +256,8 @@ module _ (h : Hand) (e : unwritable h ≡ 0) (lm : length (h .held .melds) ≡ 4
   values-fit : FitIn (widths (h .held .m)) (valuesOf h)
   unfolding widths valuesOf
   values-fit =
-      let m : ℕ = h .held .m in
-      let k : ℕ = 13 - 3 * m in
-      let em : length (take m (h .held .melds)) ≡ m = length-take-le m (h .held .melds) (omega (arith, few)) in
-      let et : length (take k (h .held .concealed)) ≡ k = length-take-le k (h .held .concealed) (omega arith) in
-      let t = tiles-below k (h .held .concealed) (kinds-of h 0 (y .clean .fields) .tiles) in
-      let w3 : List ℕ = sixes k ++ (padOf m ∷ []) in
-      let v3 : List ℕ = take k (h .held .concealed) ++ (0 ∷ []) in
-      fit-append head (headList (headFor h)) (eights m ++ w3) (take m (h .held .melds) ++ v3) refl (fit-head h y)
-      (fit-append (eights m) (take m (h .held .melds)) w3 v3 (length-replicate m 8 ∙ sym em)
-      (fit-run m 8 (take m (h .held .melds)) (omega arith) (below-take 256 m (h .held .melds) bm))
-      (fit-append (sixes k) (take k (h .held .concealed)) (padOf m ∷ []) (0 ∷ []) (length-replicate k 6 ∙ sym et)
-      (fit-run k 6 (take k (h .held .concealed)) (omega arith) t)
-      (fit-cons (padOf m) 0 [] [] (pow-pos (padOf m)) fit-nil)))
+      fit-append head (headList (headFor h)) (heldWidths (h .held .m) (padOf (h .held .m))) (heldValues (h .held)) refl (fit-head h y)
+      (held-fit (h .held) (padOf (h .held .m)) few lm lc bm (kinds-of h 0 (y .clean .fields) .tiles))
 
   same-fields : fieldsOf (widths (h .held .m)) (recordOf h) ≡ valuesOf h
   unfolding recordOf
@@ -238,35 +271,22 @@ module _ (h : Hand) (e : unwritable h ≡ 0) (lm : length (h .held .melds) ≡ 4
 
   -- the parts of what is written
   parts-back : (b : List ℕ) → b ≡ bitsOf (recordOf h)
-      → (unpack head b ≡ headList (headFor h)) × (meldsOf 25 (h .held .m) b ≡ take (h .held .m) (h .held .melds))
-      × (tilesOf 25 (h .held .m) b ≡ take (13 - 3 * h .held .m) (h .held .concealed)) × (paddingOf (h .held .m) b ≡ 0)
+      → (unpack head b ≡ headList (headFor h)) × (heldIn 25 (h .held .m) b ≡ h .held) × (paddingOf (h .held .m) b ≡ 0)
   unfolding valuesOf
   parts-back b eb =
       let m : ℕ = h .held .m in
-      let k : ℕ = 13 - 3 * m in
-      let q : unpack head b ++ (meldsOf 25 m b ++ (tilesOf 25 m b ++ (paddingOf m b ∷ [])))
-      ≡ headList (headFor h) ++ (take m (h .held .melds) ++ (take k (h .held .concealed) ++ (0 ∷ []))) =
+      let q : unpack head b ++ (meldsOf 25 m b ++ (tilesOf 25 m b ++ (paddingOf m b ∷ []))) ≡ headList (headFor h) ++ heldValues (h .held) =
       sym (unpack-widths m b) ∙ ap (unpack (widths m)) eb ∙ same-fields in
       let q1 = app-inj (unpack head b) (headList (headFor h)) _ _ refl q in
-      let q2 = app-inj (meldsOf 25 m b) (take m (h .held .melds)) _ _ (melds-length 25 m b ∙ sym (length-take-le m (h .held .melds) (omega (arith, few))))
-      (q1 .1) in
-      let q3 = app-inj (tilesOf 25 m b) (take k (h .held .concealed)) _ _ (tiles-length 25 m b ∙ sym (length-take-le k (h .held .concealed) (omega arith)))
-      (q2 .1) in
-      (q1 .0, q2 .0, q3 .0, ap (λ (l : List ℕ). getD l 0 0) (q3 .1))
+      let q2 = held-again (h .held) 25 (paddingOf m b) b few lm lc (y .unused) (q1 .1) in
+      (q1 .0, q2 .0, q2 .1)
 
   hand-back : h ≡ handIn (h .held .m) (bitsOf (recordOf h))
-  unfolding heldIn
   hand-back =
       let m : ℕ = h .held .m in
       let b : List ℕ = bitsOf (recordOf h) in
       let p = parts-back b refl in
-      let z = zeros-of (h .held) (y .unused) in
-      let em : fill 4 (meldsOf 25 m b) ≡ h .held .melds = ap (fill 4) (p .1) ∙ fill-take 4 m (h .held .melds) lm few (z .0) in
-      let et : fill 13 (tilesOf 25 m b) ≡ h .held .concealed = ap (fill 13) (p .2) ∙ fill-take 13 (13 - 3 * m) (h .held .concealed) lc (omega arith) (z .1) in
-      sym (hand-eq (handAt m b) h (ap (λ (x : Head). x .fields) (head-back (headFor h) b (p .0)))
-      (ap (λ (l : List ℕ). record { m = m; melds = l; concealed = fill 13 (tilesOf 25 m b) }) em
-      ∙ ap (λ (l : List ℕ). record { m = m; melds = h .held .melds; concealed = l }) et))
-      ∙ sym (hand-at m b)
+      sym (hand-eq (handAt m b) h (ap (λ (x : Head). x .fields) (head-back (headFor h) b (p .0))) (p .1)) ∙ sym (hand-at m b)
 
   pub same-hand : readOf (recordOf h) ≡ soundAs h
   same-hand =
@@ -280,5 +300,5 @@ module _ (h : Hand) (e : unwritable h ≡ 0) (lm : length (h .held .melds) ≡ 4
       as-read (recordOf h) h (record {
         right-length = rw ec fo;
         is-hand = hand-back ∙ ap (λ (n : ℕ). handIn n b) (sym ec);
-        unrefused = ap (λ (n : ℕ). refusalOf h (paddingOf n b)) ec ∙ ap (refusalOf h) (p .3) ∙ of-clean h 0 (y .clean);
+        unrefused = ap (λ (n : ℕ). refusalOf h (paddingOf n b)) ec ∙ ap (refusalOf h) (p .2) ∙ of-clean h 0 (y .clean);
       })

@@ -12,21 +12,21 @@ use lib.Seq.{sets, sets-eq, length-take-le}
 use Rattle.tiles.specs.laws.Below.{or-both}
 use Rattle.bits.specs.Bits.{digits, pack, unpack, widthOf, eights, fill}
 use Rattle.bits.specs.laws.Pack.{length-pack, sum-replicate, sets-append, sets-fill, take-replicate, part-fill, length-unpack, pack-append, sum-append}
+use Rattle.hand.specs.declared.Held.{Held}
 use Rattle.hand.specs.declared.Hand.{Hand}
 use Rattle.hand.specs.Held.{unusedNotZero}
 use Rattle.hand.specs.Refusals.{tooLarge, refusalOf, unwritable}
-use Rattle.hand_record.specs.Record.{head, headList, headFor, sixes, lengthOf, padOf, widths, valuesOf, recordOf, writeRefusal, writtenOf, bufferOf}
+use Rattle.hand_record.specs.Record.{head, headList, headFor, sixes, lengthOf, padOf, heldWidths, widths, heldValues, valuesOf, recordOf, writeRefusal}
+use Rattle.hand_record.specs.Record.{writtenOf, bufferOf}
 use Rattle.hand_record.specs.declared.Written.{Written}
 use Rattle.hand_record.specs.laws.Read.{whole}
 
--- four runs of stores, one after the other
-chain : (z a b c d : List ℕ) (i j k : ℕ) → length a ≡ i → i + length b ≡ j → j + length c ≡ k
-    → sets (sets (sets (sets z 0 a) i b) j c) k d ≡ sets z 0 (a ++ (b ++ (c ++ d)))
-chain z a b c d i j k ei ej ek =
-    let s1 : sets z 0 (a ++ (b ++ (c ++ d))) ≡ sets (sets z 0 a) i (b ++ (c ++ d)) = rw (zero-add, ei) at (sets-append z 0 a (b ++ (c ++ d))) in
-    let s2 : sets (sets z 0 a) i (b ++ (c ++ d)) ≡ sets (sets (sets z 0 a) i b) j (c ++ d) = rw ej at (sets-append (sets z 0 a) i b (c ++ d)) in
-    let s3 : sets (sets (sets z 0 a) i b) j (c ++ d) ≡ sets (sets (sets (sets z 0 a) i b) j c) k d = rw ek at (sets-append (sets (sets z 0 a) i b) j c d) in
-    sym (s1 ∙ s2 ∙ s3)
+-- three runs of stores, one after the other
+chain : (z a b c : List ℕ) (i j k : ℕ) → i + length a ≡ j → j + length b ≡ k → sets (sets (sets z i a) j b) k c ≡ sets z i (a ++ (b ++ c))
+chain z a b c i j k ej ek =
+    let s1 : sets z i (a ++ (b ++ c)) ≡ sets (sets z i a) j (b ++ c) = rw ej at (sets-append z i a (b ++ c)) in
+    let s2 : sets (sets z i a) j (b ++ c) ≡ sets (sets (sets z i a) j b) k c = rw ek at (sets-append (sets z i a) j b c) in
+    sym (s1 ∙ s2)
 
 pub sum-widths : (m : ℕ) → m ≤ 4 → widthOf (widths m) ≡ 8 * lengthOf m
 unfolding widths
@@ -34,59 +34,75 @@ sum-widths m h =
     let w = whole m h in
     simp sum-append (omega (arith, sum-replicate m 8, sum-replicate (13 - 3 * m) 6))
 
+-- ---- the tiles held, with n zero bits after them
+
+module _ (x : Held) (h : x .m ≤ 4) (hm : 4 ≤ length (x .melds)) (hc : 13 ≤ length (x .concealed)) where
+  length-melds : length (eights (x .m)) ≡ length (take (x .m) (x .melds))
+  length-melds = length-replicate (x .m) 8 ∙ sym (length-take-le (x .m) (x .melds) (omega arith))
+
+  length-tiles : length (sixes (13 - 3 * x .m)) ≡ length (take (13 - 3 * x .m) (x .concealed))
+  length-tiles = length-replicate (13 - 3 * x .m) 6 ∙ sym (length-take-le (13 - 3 * x .m) (x .concealed) (omega arith))
+
+  pub held-lengths : (n : ℕ) → length (heldWidths (x .m) n) ≡ length (heldValues x)
+  held-lengths n = simp length-append (omega (arith, length-melds, length-tiles))
+
+  parts : (n : ℕ) → pack (heldWidths (x .m) n) (heldValues x)
+      ≡ pack (eights (x .m)) (take (x .m) (x .melds)) ++ (pack (sixes (13 - 3 * x .m)) (take (13 - 3 * x .m) (x .concealed)) ++ digits n 0)
+  parts n =
+      let k : ℕ = 13 - 3 * x .m in
+      let p1 = pack-append (eights (x .m)) (sixes k ++ (n ∷ [])) (take (x .m) (x .melds)) (take k (x .concealed) ++ (0 ∷ [])) length-melds in
+      let p2 : pack (sixes k ++ (n ∷ [])) (take k (x .concealed) ++ (0 ∷ [])) ≡ pack (sixes k) (take k (x .concealed)) ++ digits n 0 =
+      pack-append (sixes k) (n ∷ []) (take k (x .concealed)) (0 ∷ []) length-tiles
+      ∙ ap (λ (l : List ℕ). pack (sixes k) (take k (x .concealed)) ++ l) (append-nil (digits n 0)) in
+      p1 ∙ ap (λ (l : List ℕ). pack (eights (x .m)) (take (x .m) (x .melds)) ++ l) p2
+
+  -- what the calls of a writer store from `at` on
+  pub held-packed : (at n : ℕ) (b0 b1 b2 b3 : List ℕ)
+      → b1 ≡ sets b0 at (pack (take (x .m) (eights 4)) (take (x .m) (x .melds)))
+      → b2 ≡ sets b1 (at + 8 * x .m) (pack (take (13 - 3 * x .m) (sixes 13)) (take (13 - 3 * x .m) (x .concealed)))
+      → b3 ≡ sets b2 (at + 8 * x .m + 6 * (13 - 3 * x .m)) (digits n 0)
+      → b3 ≡ sets b0 at (pack (heldWidths (x .m) n) (heldValues x))
+  held-packed at n b0 b1 b2 b3 e1 e2 e3 =
+      let k : ℕ = 13 - 3 * x .m in
+      let a : List ℕ = pack (eights (x .m)) (take (x .m) (x .melds)) in
+      let b : List ℕ = pack (sixes k) (take k (x .concealed)) in
+      let f1 : b1 ≡ sets b0 at a = rw (take-replicate (x .m) 4 8 h) at e1 in
+      let f2 : b2 ≡ sets b1 (at + 8 * x .m) b = rw (take-replicate k 13 6 (omega arith)) at e2 in
+      let la : length a ≡ 8 * x .m = length-pack (eights (x .m)) (take (x .m) (x .melds)) length-melds ∙ sum-replicate (x .m) 8 in
+      let lb : length b ≡ 6 * k = length-pack (sixes k) (take k (x .concealed)) length-tiles ∙ sum-replicate k 6 in
+      e3
+      ∙ ap (λ (y : List ℕ). sets y (at + 8 * x .m + 6 * k) (digits n 0)) (f2 ∙ ap (λ (y : List ℕ). sets y (at + 8 * x .m) b) f1)
+      ∙ chain b0 a b (digits n 0) at (at + 8 * x .m) (at + 8 * x .m + 6 * k) (omega arith) (omega arith)
+      ∙ ap (λ (y : List ℕ). sets b0 at y) (sym (parts n))
+
+-- ---- a hand
+
+split-pack : (x : Hand) → pack (widths (x .held .m)) (valuesOf x)
+    ≡ pack head (headList (headFor x)) ++ pack (heldWidths (x .held .m) (padOf (x .held .m))) (heldValues (x .held))
+unfolding widths valuesOf
+split-pack x = pack-append head (heldWidths (x .held .m) (padOf (x .held .m))) (headList (headFor x)) (heldValues (x .held)) refl
+
 module _ (x : Hand) (h : x .held .m ≤ 4) (hm : 4 ≤ length (x .held .melds)) (hc : 13 ≤ length (x .held .concealed)) where
-  length-melds : length (eights (x .held .m)) ≡ length (take (x .held .m) (x .held .melds))
-  length-melds = length-replicate (x .held .m) 8 ∙ sym (length-take-le (x .held .m) (x .held .melds) (omega arith))
-
-  length-tiles : length (sixes (13 - 3 * (x .held .m))) ≡ length (take (13 - 3 * (x .held .m)) (x .held .concealed))
-  length-tiles = length-replicate (13 - 3 * (x .held .m)) 6 ∙ sym (length-take-le (13 - 3 * (x .held .m)) (x .held .concealed) (omega arith))
-
-  parts : pack (widths (x .held .m)) (valuesOf x)
-      ≡ pack head (headList (headFor x)) ++ (pack (eights (x .held .m)) (take (x .held .m) (x .held .melds))
-      ++ (pack (sixes (13 - 3 * (x .held .m))) (take (13 - 3 * (x .held .m)) (x .held .concealed)) ++ digits (padOf (x .held .m)) 0))
-  unfolding widths valuesOf
-  parts =
-      let k : ℕ = 13 - 3 * (x .held .m) in
-      let w3 : List ℕ = sixes k ++ (padOf (x .held .m) ∷ []) in
-      let v3 : List ℕ = take k (x .held .concealed) ++ (0 ∷ []) in
-      let p1 = pack-append head (eights (x .held .m) ++ w3) (headList (headFor x)) (take (x .held .m) (x .held .melds) ++ v3) refl in
-      let p2 = pack-append (eights (x .held .m)) w3 (take (x .held .m) (x .held .melds)) v3 length-melds in
-      let p3 : pack w3 v3 ≡ pack (sixes k) (take k (x .held .concealed)) ++ digits (padOf (x .held .m)) 0 =
-      pack-append (sixes k) (padOf (x .held .m) ∷ []) (take k (x .held .concealed)) (0 ∷ []) length-tiles
-      ∙ ap (λ (l : List ℕ). pack (sixes k) (take k (x .held .concealed)) ++ l) (append-nil (digits (padOf (x .held .m)) 0)) in
-      (p1 ∙ ap (λ (l : List ℕ). pack head (headList (headFor x)) ++ l)
-      (p2 ∙ ap (λ (l : List ℕ). pack (eights (x .held .m)) (take (x .held .m) (x .held .melds)) ++ l) p3))
-
   pub length-widths : length (widths (x .held .m)) ≡ length (valuesOf x)
   unfolding widths valuesOf
-  length-widths = simp length-append (omega (arith, length-melds, length-tiles))
+  length-widths = omega (arith, held-lengths (x .held) h hm hc (padOf (x .held .m)))
 
   pub length-packed : length (pack (widths (x .held .m)) (valuesOf x)) ≡ 8 * lengthOf (x .held .m)
   length-packed = length-pack (widths (x .held .m)) (valuesOf x) length-widths ∙ sum-widths (x .held .m) h
 
   -- what the calls of a writer leave is the record's bits
-  pub packed : (b1 b2 b3 b4 : List ℕ) → b1 ≡ sets (replicate 104 0) 0 (pack head (headList (headFor x)))
-      → b2 ≡ sets b1 25 (pack (take (x .held .m) (eights 4)) (take (x .held .m) (x .held .melds)))
-      → b3 ≡ sets b2 (25 + 8 * (x .held .m)) (pack (take (13 - 3 * (x .held .m)) (sixes 13)) (take (13 - 3 * (x .held .m)) (x .held .concealed)))
-      → b4 ≡ sets b3 (25 + 8 * (x .held .m) + 6 * (13 - 3 * (x .held .m))) (digits (padOf (x .held .m)) 0)
-      → b4 ≡ fill 104 (pack (widths (x .held .m)) (valuesOf x))
-  packed b1 b2 b3 b4 e1 e2 e3 e4 =
-      let k : ℕ = 13 - 3 * (x .held .m) in
+  pub packed : (b1 b2 : List ℕ) → b1 ≡ sets (replicate 104 0) 0 (pack head (headList (headFor x)))
+      → b2 ≡ sets b1 25 (pack (heldWidths (x .held .m) (padOf (x .held .m))) (heldValues (x .held)))
+      → b2 ≡ fill 104 (pack (widths (x .held .m)) (valuesOf x))
+  packed b1 b2 e1 e2 =
+      let w : List ℕ = heldWidths (x .held .m) (padOf (x .held .m)) in
       let z : List ℕ = replicate 104 0 in
       let a : List ℕ = pack head (headList (headFor x)) in
-      let b : List ℕ = pack (eights (x .held .m)) (take (x .held .m) (x .held .melds)) in
-      let c : List ℕ = pack (sixes k) (take k (x .held .concealed)) in
-      let d : List ℕ = digits (padOf (x .held .m)) 0 in
-      let f2 : b2 ≡ sets b1 25 b = rw (take-replicate (x .held .m) 4 8 h) at e2 in
-      let f3 : b3 ≡ sets b2 (25 + 8 * (x .held .m)) c = rw (take-replicate k 13 6 (omega arith)) at e3 in
-      let lb : length b ≡ 8 * (x .held .m) = length-pack (eights (x .held .m)) (take (x .held .m) (x .held .melds)) length-melds
-      ∙ sum-replicate (x .held .m) 8 in
-      let lc : length c ≡ 6 * k = length-pack (sixes k) (take k (x .held .concealed)) length-tiles ∙ sum-replicate k 6 in
-      e4
-      ∙ ap (λ (y : List ℕ). sets y (25 + 8 * (x .held .m) + 6 * k) d)
-      (f3 ∙ ap (λ (y : List ℕ). sets y (25 + 8 * (x .held .m)) c) (f2 ∙ ap (λ (y : List ℕ). sets y 25 b) e1))
-      ∙ chain z a b c d 25 (25 + 8 * (x .held .m)) (25 + 8 * (x .held .m) + 6 * k) refl (omega arith) (omega arith)
-      ∙ ap (λ (y : List ℕ). sets z 0 y) (sym parts)
+      let b : List ℕ = pack w (heldValues (x .held)) in
+      e2
+      ∙ ap (λ (y : List ℕ). sets y 25 b) e1
+      ∙ sym (sets-append z 0 a b)
+      ∙ ap (λ (y : List ℕ). sets z 0 y) (sym (split-pack x))
       ∙ sets-fill 104 (pack (widths (x .held .m)) (valuesOf x)) (omega (arith, length-packed, whole (x .held .m) h))
 
 -- what is not refused has at most four melds

@@ -9,4 +9,6 @@ chi-without-run-spec =
     (tie.spec
     (λ c. search needs) (λ c κs. search needs) (λ c. search needs) (λ c κs. search needs) (λ c. search needs)
     (λ c κs. search needs) (λ c. search needs) (λ c κs. search needs)
-    (λ c. rw (c .bad-chi4 .ensures, c .before .bad-chi3 .ensures, c .before .before .bad-chi2 .ensures, c .before .before .before .bad-chi .ensures)))
+    (λ c.
+    let bad-chi2 = c .before .before in
+    rw (c .bad-chi4 .ensures, c .before .bad-chi3 .ensures, bad-chi2 .bad-chi2 .ensures, bad-chi2 .before .bad-chi .ensures)))

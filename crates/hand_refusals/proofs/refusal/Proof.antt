@@ -70,7 +70,7 @@ not-two : (c : tie.Else1) → wrongFields (start c .args .h) (start c .args .pad
 not-two c = sym (c .before .wrong-fields .ensures) ∙ c .if1 .left
 
 abbrev first : tie.Else2 → tie.Else1
-first c = c .before .before .before .before
+first c = let after-x = c .before .before in after-x .before .before
 
 not-three : (c : tie.Else2) → descends (start (first c) .args .h .held) ≡ false
 not-three c = sym (c .before .descends .ensures) ∙ c .if2 .left
@@ -79,15 +79,16 @@ is-four : (c : tie.After-over-four) → c .over-four .result ≡ overFour (inRec
 is-four c = four _ (c .before .record-tally .result) (c .over-four .result) (c .before .record-tally .ensures) (c .over-four .ensures)
 
 abbrev second : tie.Else3 → tie.Else2
-second c = c .before .before .before
+second c = let record-tally = c .before .before in record-tally .before
 
 not-four : (c : tie.Else3) → overFour (inRecord (start (first (second c)) .args .h)) ≡ false
 not-four c = sym (is-four (c .before)) ∙ c .if3 .left
 
 is-situated : (c : tie.After-wrong-situation) → c .wrong-situation .result ≡ wrongSituation (start (first (second (c .before .before))) .args .h)
 is-situated c =
-    let r = c .before .before .before .before .record-tally in
-    situated _ (r .result) (c .wrong-situation .result) (r .ensures) (winning-kind _ _ (not-two (first (second (c .before .before)))))
+    let else3 = c .before .before in
+    let r = else3 .before .before .record-tally in
+    situated _ (r .result) (c .wrong-situation .result) (r .ensures) (winning-kind _ _ (not-two (first (second else3))))
     (c .wrong-situation .ensures)
 
 pub refusal-spec : {M : Type 1} → statement M
@@ -96,17 +97,22 @@ refusal-spec =
     (tie.spec (λ c κs. search needs)
     (λ c. two _ _ (sym (c .before .wrong-fields .ensures) ∙ c .if1 .taken))
     (λ c κs. search needs)
-    (λ c. three _ _ (not-two (c .before .before .before .before)) (sym (c .before .descends .ensures) ∙ c .if2 .taken))
+    (λ c.
+    let after-x = c .before .before in
+    three _ _ (not-two (after-x .before .before)) (sym (c .before .descends .ensures) ∙ c .if2 .taken))
     (λ c κs. search needs) (λ c κs. search needs)
     (λ c.
-    let e = c .before .before .before in
-    four-is _ _ (not-two (first e)) (not-three e) (sym (is-four (c .before)) ∙ c .if3 .taken))
+    let over-four = c .before in
+    let e = over-four .before .before in
+    four-is _ _ (not-two (first e)) (not-three e) (sym (is-four over-four) ∙ c .if3 .taken))
     (λ c. search needs)
     (λ c. winning-kind _ _ (not-two (first (second (c .before)))))
     (λ c κs. search needs)
     (λ c.
-    let e = c .before .before .before in
-    five _ _ (not-two (first (second e))) (not-three (second e)) (not-four e) (sym (is-situated (c .before)) ∙ c .if4 .taken))
+    let wrong-situation = c .before in
+    let e = wrong-situation .before .before in
+    five _ _ (not-two (first (second e))) (not-three (second e)) (not-four e) (sym (is-situated wrong-situation) ∙ c .if4 .taken))
     (λ c.
-    let e = c .before .before .before in
-    none _ _ (not-two (first (second e))) (not-three (second e)) (not-four e) (sym (is-situated (c .before)) ∙ c .if4 .left)))
+    let wrong-situation = c .before in
+    let e = wrong-situation .before .before in
+    none _ _ (not-two (first (second e))) (not-three (second e)) (not-four e) (sym (is-situated wrong-situation) ∙ c .if4 .left)))

@@ -10,4 +10,6 @@ unwritable-spec =
     tie.close
     (tie.spec (λ c κs. search needs) (λ c κs. search needs) (λ c κs. search needs)
     (λ c. rw (← c .before .unused-not-zero .ensures, ← c .before .before .too-large .ensures, c .if1 .taken))
-    (λ c. rw (← c .before .before .unused-not-zero .ensures, ← c .before .before .before .too-large .ensures, c .before .if1 .left) (c .refusal .ensures)))
+    (λ c.
+    let unused-not-zero = c .before .before in
+    rw (← unused-not-zero .unused-not-zero .ensures, ← unused-not-zero .before .too-large .ensures, c .before .if1 .left) (c .refusal .ensures)))

@@ -8,5 +8,7 @@ pub wrong-fields-spec : {M : Type 1} → statement M
 unfolding wrongFields
 wrong-fields-spec = tie.close (tie.spec (λ c κs. search needs) (λ c κs. search needs)
     (λ c.
-    let held = c .before .before .before .before .before in
+    let struct-known3 = c .before .before in
+    let struct-known = struct-known3 .before .before in
+    let held = struct-known .before in
     rw (c .wrong-discarder .ensures, held .wrong-held .ensures)))

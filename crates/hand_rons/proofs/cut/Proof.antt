@@ -11,4 +11,7 @@ cut-spec =
     (tie.spec
     (λ c. let a = c .before .before .args in sym (cut-last (a .number) (a .s .now) (c .if1 .taken)))
     (λ c κs. search needs)
-    (λ c. let a = c .before .before .before .args in c .record-length .ensures ∙ sym (cut-more (a .number) (a .s .now) (c .before .if1 .left))))
+    (λ c.
+    let else1 = c .before in
+    let start = else1 .before .before in
+    let a = start .args in c .record-length .ensures ∙ sym (cut-more (a .number) (a .s .now) (else1 .if1 .left))))

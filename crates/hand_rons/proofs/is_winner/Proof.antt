@@ -20,6 +20,8 @@ is-winner-spec =
     (tie.spec
     (λ c. search needs) (λ c. search needs) (λ c. search needs)
     (λ c rs e.
-    let start = c .before .before .before .before .before .before in
+    let struct-known = c .before .before in
+    let after-b = struct-known .before .before in
+    let start = after-b .before .before in
     let a = start .args in
     wins-is (a .number) (a .t2) (start .pre .0) (start .pre .1) (room start) rs e (a .seat)))

@@ -19,7 +19,10 @@ returns c rs e =
     let third = c .before in
     let second = third .before .before in
     let first = second .before in
-    let start = first .before .before .before .before .before .before .before .before in
+    let after-h = first .before .before in
+    let after-f = after-h .before .before in
+    let after-b = after-f .before .before in
+    let start = after-b .before .before in
     let a = start .args in
     rw (first .conflict .ensures, second .conflict2 .ensures, third .conflict3 .ensures)
     (not-on-one-tile-is (a .number) (a .t2) (start .pre .0) (start .pre .1) (room start) rs e)

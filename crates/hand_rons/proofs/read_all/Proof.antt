@@ -13,11 +13,26 @@ Inv-loop number s hands₀ left₀ i₀ at₀ hands left i at = Filled number s 
 abbrev μ-loop : tie.MeasureT-loop
 μ-loop number s hands₀ left₀ i₀ at₀ hands left i at = left
 
+-- the start, from the head of `loop`
+abbrev start-of : tie.At-loop Inv-loop μ-loop → tie.Start Inv-loop μ-loop
+start-of c = let no-hand = c .before in no-hand .before .before
+
+-- a turn of `loop`, from where test 1 fails
+abbrev turn-of : tie.Else1 Inv-loop μ-loop → tie.In-loop Inv-loop μ-loop
+turn-of c = let read-first = c .before .before in read-first .before .before
+
+-- the head of `loop`, from where test 1 fails
+abbrev loop-of : tie.Else1 Inv-loop μ-loop → tie.At-loop Inv-loop μ-loop
+loop-of c = let turn = turn-of c in turn .before
+
 -- the place of the next hand is one of three
-place : (c : tie.After-h Inv-loop μ-loop) → c .before .before .before .before .before .before .loop .i < 3
+place : (c : tie.After-h Inv-loop μ-loop)
+    → let else1 = c .before in
+    loop-of else1 .loop .i < 3
 place c =
-    let on = c .before .before .before .before .before .before in
-    omega (arith, on .loop .inv .number, c .before .before .before .before .before .loop-test .taken, on .before .before .before .pre)
+    let else1 = c .before in
+    let on = loop-of else1 in
+    omega (arith, on .loop .inv .number, turn-of else1 .loop-test .taken, start-of on .pre)
 
 pub read-all-spec : {M : Type 1} → statement M
 read-all-spec =
@@ -33,9 +48,10 @@ read-all-spec =
     (λ c κs. omega (arith, c .before .loop-test .taken))
     (λ c.
     let next = c .before .before in
-    let on = next .before .before .before in
+    let turn = next .before .before in
+    let on = turn .before in
     let w = on .loop in
-    let a = on .before .before .before .args in (
+    let a = start-of on .args in (
       filled-unreadable (a .number) (a .s .now) (w .hands) (w .left) (w .i) (w .at) (w .inv) (next .read-first .result)
           (next .read-first .ensures) (omega (arith, c .if1 .taken)),
       λ z. absurd (omega (arith, z, c .if1 .taken)),
@@ -44,23 +60,26 @@ read-all-spec =
     (λ c. place c)
     (λ c. record { fits = omega (arith, place c) })
     (λ c.
-    let next = c .before .before .before .before in
-    let on = next .before .before .before in
+    let else1 = c .before .before in
+    let next = else1 .before .before in
+    let on = loop-of else1 in
     let w = on .loop in
-    let a = on .before .before .before .args in
+    let a = start-of on .args in
     let m = filled-inside (a .number) (a .s .now) (w .hands) (w .left) (w .i) (w .at) (w .inv) (next .read-first .result) (next .read-first .ensures) in
     search needs)
-    (λ c. omega (arith, c .before .before .before .before .before .before .loop-test .taken))
-    (λ c. omega (arith, c .before .before .before .before .before .before .loop-test .taken))
+    (λ c. let else1 = c .before .before in omega (arith, turn-of else1 .loop-test .taken))
+    (λ c. let else1 = c .before .before in omega (arith, turn-of else1 .loop-test .taken))
     (λ c.
-    let next = c .before .before .before .before in
-    let on = next .before .before .before in
+    let else1 = c .before .before in
+    let next = else1 .before .before in
+    let on = loop-of else1 in
     let w = on .loop in
-    let a = on .before .before .before .args in
+    let a = start-of on .args in
     filled-more (a .number) (a .s .now) (w .hands) (w .left) (w .i) (w .at) (w .inv) (next .read-first .result) (next .read-first .ensures)
-    (omega (arith, c .before .before .if1 .left)) (next .before .before .loop-test .taken) (place (c .before)))
+    (omega (arith, else1 .if1 .left)) (next .before .before .loop-test .taken) (place (c .before)))
     (λ c.
-    let a = c .before .before .before .before .args in
-    let w = c .before .loop in
+    let loop = c .before in
+    let a = start-of loop .args in
+    let w = loop .loop in
     let f = filled-all (a .number) (a .s .now) (w .hands) (w .left) (w .i) (w .at) (w .inv) (c .loop-test .left) in
     (f .0, λ z. f .1)))

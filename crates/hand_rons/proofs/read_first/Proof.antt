@@ -30,18 +30,20 @@ read-first-spec =
     (λ c κs. search needs)
     (λ c κs. search needs)
     (λ c.
-    let r = c .before .before .before .before in
+    let enum-told = c .before .before in
+    let r = enum-told .before .before in
     let end = r .before .before in
     let a = start end .args in
     let bytes = take (end .cut .result) (a .s .now) in
     let why = c .before in
     first-unreadable (a .number) (a .s .now) (start end .pre) (end .cut .result) (end .cut .ensures) (why .refusal .result) (c .no-hand .result)
-    (refused-read bytes (r .read .result) (r .read .ensures) _ (why .refusal .result) (why .before .enum-told .given .1) (why .refusal .ensures)))
+    (refused-read bytes (r .read .result) (r .read .ensures) _ (why .refusal .result) (enum-told .enum-told .given .1) (why .refusal .ensures)))
     (λ c.
-    let r = c .before .before .before .before in
+    let after-a = c .before .before in
+    let r = after-a .before .before in
     let end = r .before .before in
     let a = start end .args in
     let bytes = take (end .cut .result) (a .s .now) in
-    let sound = c .before .before .a .given .1 in
+    let sound = after-a .a .given .1 in
     first-read (a .number) (a .s .now) (start end .pre) (end .cut .result) (end .cut .ensures) _
     (ap refusalIn (answer-is bytes (r .read .result) (r .read .ensures) sound)) (hand-is bytes (r .read .result) (r .read .ensures) _ sound)))

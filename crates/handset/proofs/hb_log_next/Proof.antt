@@ -46,7 +46,7 @@ returns-2 c =
     let n = k .before .before .before in
     let a = n .before .before .args in
     some (a .s .now) (a .at) _ _ _ _ (n .next-entry .ensures) (k .before .before .if1 .left) (k .kind .ensures) (c .before .argument .ensures)
-    (c .letter .ensures)
+    (c .letter .ensures .0)
 
 pub hb-log-next-spec : {M : Type 1} → statement M
 hb-log-next-spec =

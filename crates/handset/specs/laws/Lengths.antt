@@ -11,6 +11,9 @@ use Rattle.hand.specs.declared.Hand.{Hand}
 use Rattle.hand.specs.Refusals.{unwritable}
 use Rattle.hand_record.specs.declared.Written.{Written}
 use Rattle.hand_record.specs.Record.{lengthOf, writeRefusal, writtenOf}
+use Rattle.claim_writer.specs.declared.Claim.{Claim}
+use Rattle.claim_writer.specs.Writes.{Writes, unnamed, short, written}
+use Rattle.claim_writer.specs.Write as claims
 use Rattle.text.specs.Text.{lengthIn}
 use Rattle.log.specs.Next.{Next, end, entry, bad}
 use Rattle.log.specs.Log.{nextOf, partIn, partAt}
@@ -43,6 +46,14 @@ written-within h buf = go (ltb 0 (writeRefusal h buf)) refl
         → (cond {A = Written} a (record { refusal = writeRefusal h buf; len = 0 }) (record { refusal = 0; len = lengthOf (h .held .m) })) .len ≤ length buf
     go true e = omega arith
     go false e = fits h buf e
+
+claim-fits : (c : Claim) (buf : List ℕ) {w : Written} {out : List ℕ} → Writes c buf w out → w .len ≤ length buf
+claim-fits c buf (unnamed n) = omega arith
+claim-fits c buf (short s i h) = omega arith
+claim-fits c buf (written s i h) = h
+
+pub claim-within : (c : Claim) (buf : List ℕ) → claims.writtenOf c buf .len ≤ length buf
+claim-within c buf = claim-fits c buf (claims.is-written c buf)
 
 entry-length : (n : Next) → nextEntryBy n .length ≡ length (partIn n)
 entry-length end = refl

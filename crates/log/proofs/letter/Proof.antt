@@ -1,6 +1,7 @@
 -- `log::letter` meets its contract, kind by kind.
-use borrow.Author.Tests.{eq-eqb, ne-eqb}
-use Rattle.log.specs.laws.Letters.{letter-of}
+use native.Mathlib.Omega.{arith}
+use mathlib.Core.Path.{refl}
+use Rattle.log.specs.laws.Letters.{over, letter-named, letter-none}
 use Rattle.log.proofs.letter.Statement.{statement}
 use Rattle.log.proofs.letter.Tie as tie
 
@@ -8,47 +9,18 @@ pub letter-spec : {M : Type 1} → statement M
 letter-spec =
     tie.close
     (tie.spec
-    (λ c. letter-of _ _ (rw (eq-eqb _ 0 (c .if1 .taken))))
-    (λ c. letter-of _ _ (rw (ne-eqb _ 0 (c .before .if1 .left), eq-eqb _ 1 (c .if2 .taken))))
-    (λ c. letter-of _ _ (rw (ne-eqb _ 0 (c .before .before .if1 .left), ne-eqb _ 1 (c .before .if2 .left), eq-eqb _ 2 (c .if3 .taken))))
+    (λ c. letter-named 82 _ 0 (c .if1 .taken) (omega arith) refl)
+    (λ c. letter-named 87 _ 1 (c .if2 .taken) (omega arith) refl)
+    (λ c. letter-named 68 _ 2 (c .if3 .taken) (omega arith) refl)
+    (λ c. letter-named 67 _ 3 (c .if4 .taken) (omega arith) refl)
+    (λ c. letter-named 77 _ 4 (c .if5 .taken) (omega arith) refl)
+    (λ c. letter-named 80 _ 5 (c .if6 .taken) (omega arith) refl)
+    (λ c. letter-named 88 _ 6 (c .if7 .taken) (omega arith) refl)
     (λ c.
-    let d = c .before in
-    let b = d .before in
-    letter-of _ _ (rw (ne-eqb _ 0 (b .before .if1 .left), ne-eqb _ 1 (b .if2 .left), ne-eqb _ 2 (d .if3 .left), eq-eqb _ 4 (c .if4 .taken))))
-    (λ c.
-    let d = c .before in
-    let b = d .before .before in
-    letter-of _ _
-    (rw (
-      ne-eqb _ 0 (b .before .if1 .left),
-      ne-eqb _ 1 (b .if2 .left),
-      ne-eqb _ 2 (d .before .if3 .left),
-      ne-eqb _ 4 (d .if4 .left),
-      eq-eqb _ 5 (c .if5 .taken),
-    )))
-    (λ c.
-    let e = c .before in
-    let d = e .before in
-    let b = d .before .before in
-    letter-of _ _
-    (rw (
-      ne-eqb _ 0 (b .before .if1 .left),
-      ne-eqb _ 1 (b .if2 .left),
-      ne-eqb _ 2 (d .before .if3 .left),
-      ne-eqb _ 4 (d .if4 .left),
-      ne-eqb _ 5 (e .if5 .left),
-      eq-eqb _ 6 (c .if6 .taken),
-    )))
-    (λ c.
-    let e = c .before in
-    let d = e .before in
-    let b = d .before .before in
-    letter-of _ _
-    (rw (
-      ne-eqb _ 0 (b .before .if1 .left),
-      ne-eqb _ 1 (b .if2 .left),
-      ne-eqb _ 2 (d .before .if3 .left),
-      ne-eqb _ 4 (d .if4 .left),
-      ne-eqb _ 5 (e .if5 .left),
-      ne-eqb _ 6 (c .if6 .left),
-    ))))
+    let pao = c .before in
+    let rons = pao .before in
+    let chombo = rons .before in
+    let draw = chombo .before in
+    let win = draw .before in
+    let three = over _ 2 (draw .if3 .left) (over _ 1 (win .if2 .left) (over _ 0 (win .before .if1 .left) (omega arith))) in
+    letter-none _ (over _ 6 (c .if7 .left) (over _ 5 (pao .if6 .left) (over _ 4 (rons .if5 .left) (over _ 3 (chombo .if4 .left) three))))))

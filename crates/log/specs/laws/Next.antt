@@ -6,7 +6,8 @@ use native.Mathlib.Omega.{arith}
 use lib.ListN.{length, take, drop, length-drop}
 use Rattle.log.specs.Entry.{IsEntry}
 use Rattle.log.specs.Next.{LogEntry, end, entry, bad}
-use Rattle.log.specs.Log.{nextOf, one-next, partIn, refusalIn, partAt, refusalAt}
+use Rattle.log.specs.Log.{nextOf, partIn, refusalIn, partAt, refusalAt}
+use Rattle.log.specs.laws.One.{one-next}
 use Rattle.log.specs.search.Lengths.{entryLength}
 use Rattle.log.specs.search.Found.{entryOf}
 use Rattle.log.specs.laws.Parts.{firstPart, none-empty, length-inside, part-length}

@@ -1,4 +1,5 @@
--- How the code finds what Next entry gives: the part by its length, and which entry it is by its header. A kind that no entry has counts as a chombo's.
+-- How the code finds what Next entry gives: the part by its length, and which entry it is by its header. A kind that no entry has is
+-- booked as a chombo's and has no letter.
 use mathlib.Core.Bool.{cond}
 use mathlib.Core.List.{List}
 use Prim.Native.Nat.{ℕ, zero, suc}
@@ -7,7 +8,7 @@ use lib.ListN.{length, take, drop}
 use Rattle.position.specs.Booking.{Result, Booking, result, riichi, win, draw, chombo, pao, multiRon}
 use Rattle.game.specs.Game.{Entry, booking, correction}
 use Rattle.log.specs.Next.{Next, end, entry, bad}
-use Rattle.log.specs.search.Lengths.{riichiKind, winKind, drawKind, multiRonKind, paoKind, correctionKind}
+use Rattle.log.specs.search.Lengths.{riichiKind, winKind, drawKind, chomboKind, multiRonKind, paoKind, correctionKind}
 use Rattle.log.specs.search.Lengths.{kindIn, argumentIn, holderIn, feederIn, yakuIn, entryLength}
 
 -- the result of a kind, its argument and the bytes after the header
@@ -35,11 +36,11 @@ bookingOf part = bookingBy (kindIn part) (argumentIn part) (drop 1 part)
 unfoldable pub entryOf : List ℕ → Entry
 entryOf part = cond (eqb (kindIn part) correctionKind) (correction (resultOf (drop 1 part))) (booking (bookingOf part))
 
--- the letter of a kind
+-- the letter of a kind; 0 where no entry has it
 abbrev pub letterBy : ℕ → ℕ
 letterBy kind =
-    cond (eqb kind riichiKind) 82 (cond (eqb kind winKind) 87 (cond (eqb kind drawKind) 68
-    (cond (eqb kind multiRonKind) 77 (cond (eqb kind paoKind) 80 (cond (eqb kind correctionKind) 88 67)))))
+    cond (eqb kind riichiKind) 82 (cond (eqb kind winKind) 87 (cond (eqb kind drawKind) 68 (cond (eqb kind chomboKind) 67
+    (cond (eqb kind multiRonKind) 77 (cond (eqb kind paoKind) 80 (cond (eqb kind correctionKind) 88 0))))))
 
 -- the part of the first n bytes; none where n is 0
 abbrev pub foundBy : ℕ → List ℕ → Next

@@ -37,7 +37,8 @@ returns-2 c =
     let e = b .before .before in
     let n = e .before in
     let a = n .before .before .args in
-    step-entry (a .g) (a .s .now) (a .at) _ (n .next-entry .ensures) (e .if1 .left) _ (rw (← k .kind .ensures) (c .letter .ensures)) _ _ (b .book-part .ensures)
+    step-entry (a .g) (a .s .now) (a .at) _ (n .next-entry .ensures) (e .if1 .left) _ (rw (← k .kind .ensures) (c .letter .ensures .0)) _ _
+    (b .book-part .ensures)
 
 pub book-at-spec : {M : Type 1} → statement M
 book-at-spec =

@@ -2,10 +2,10 @@
 use mathlib.Core.Path.{_≡_, refl, sym, ap, _∙_}
 use mathlib.Core.Bool.{Bool, true, false, _&&_, not, cond}
 use mathlib.Core.List.{List, [], _∷_}
-use Prim.Native.Nat.{ℕ, zero, suc, _+_, _-_, _*_, _/_, _<_, _≤_}
+use Prim.Native.Nat.{ℕ, zero, suc, _+_, _-_, _*_, _/_, _%_, _<_, _≤_}
 use native.Mathlib.Nat.{add-zero}
 use native.Mathlib.Omega.{arith}
-use borrow.Author.Tests.{eqb-true}
+use borrow.Author.Tests.{eqb-true, eqb-false, eq-eqb, ne-eqb}
 use lib.Dec.{eqb, ltb}
 use lib.ListN.{getD, set, length}
 use Rattle.tiles.specs.Below.{sum}
@@ -32,6 +32,18 @@ unfolding rounded
 rounded-up closed n =
     let t = (n + 9) / 10 * 10 in
     at-least (not closed && eqb t 20) n t (omega arith) (λ e. eqb-true t 20 (and-true (not closed) (eqb t 20) e .1))
+
+-- from 20 on it adds what is left to the next ten, and an open 20 ten
+by-tens : (closed : Bool) (n : ℕ) → 20 ≤ n → rounded closed n ≡ cond (not closed && eqb n 20) 30 (n + (10 - n % 10) % 10)
+unfolding rounded
+by-tens closed n h = rw (same (eqb n 20) refl, tens) refl
+  where
+    tens : (n + 9) / 10 * 10 ≡ n + (10 - n % 10) % 10
+    tens = omega arith
+
+    same : (b : Bool) → eqb n 20 ≡ b → eqb ((n + 9) / 10 * 10) 20 ≡ eqb n 20
+    same true e = rw e (eq-eqb ((n + 9) / 10 * 10) 20 (omega (arith, eqb-true n 20 e)))
+    same false e = rw e (ne-eqb ((n + 9) / 10 * 10) 20 (λ q. eqb-false n 20 e (omega (arith, q, h))))
 
 -- what rounding adds is added last
 added-rounding : (w : Won) (p : FullReading) (r : ℕ) → added (earned w p r) ≡ added (earned w p 0) + r
@@ -84,16 +96,25 @@ module _ (w : Won) (p : FullReading) where
       less-more : (a b r : ℕ) → a ≡ b + r → a - r ≡ b
       less-more a b r e = omega (arith, e)
 
-  again : (y seven : Bool) →
-      let i = cond y (baseAlone 0) (cond seven (baseAlone 25) (regularItems w p)) in
-      added i ≡ cond y 0 (cond seven 25 (rounded (w .closed) (added i - i .rounding .0)))
-  again true seven = added-alone 0
-  again false true = added-alone 25
-  again false false = regular ∙ ap (rounded (w .closed)) (sym unrounded)
+  -- the nine items come to 20 or more
+  base-in : 20 ≤ whole
+  unfolding whole earned added
+  base-in = omega arith
 
-  pub fu-rounded : fuOf w p ≡ cond (yakuman w p) 0 (cond (eqb (p .shape) 1) 25 (rounded (w .closed) (fuOf w p - itemsOf w p .rounding .0)))
+  by-rest : (y seven : Bool) →
+      let i = cond y (baseAlone 0) (cond seven (baseAlone 25) (regularItems w p)) in
+      let n = added i - i .rounding .0 in
+      added i ≡ cond y 0 (cond seven 25 (cond (not (w .closed) && eqb n 20) 30 (n + (10 - n % 10) % 10)))
+  by-rest true seven = added-alone 0
+  by-rest false true = added-alone 25
+  by-rest false false =
+      regular ∙ by-tens (w .closed) whole base-in ∙ ap (λ n. cond (not (w .closed) && eqb n 20) 30 (n + (10 - n % 10) % 10)) (sym unrounded)
+
+  pub fu-rounded :
+      let n = fuOf w p - itemsOf w p .rounding .0 in
+      fuOf w p ≡ cond (yakuman w p) 0 (cond (eqb (p .shape) 1) 25 (cond (not (w .closed) && eqb n 20) 30 (n + (10 - n % 10) % 10)))
   unfolding itemsOf fuOf
-  fu-rounded = again (yakuman w p) (eqb (p .shape) 1)
+  fu-rounded = by-rest (yakuman w p) (eqb (p .shape) 1)
 
 -- no group earns over 32
 triplet-few : (way : ℕ) → tripletFu way ≤ 16

@@ -1,31 +1,31 @@
 -- The effect of each booking but a multiple ron is fair: what it gives comes from the seats or the sticks, and no seat loses more than a hand may cost.
 use mathlib.Core.Path.{_≡_, refl, ap, _∙_}
-use mathlib.Core.Bool.{Bool, true, false, not, _||_, cond}
+use mathlib.Core.Bool.{Bool, true, false, not, _&&_, _||_, cond}
 use mathlib.Core.List.{List}
 use Prim.Native.Nat.{ℕ, zero, suc, _+_, _-_, _*_, _/_, _≤_, _<_}
 use native.Mathlib.Nat.{div-le-self}
 use native.Mathlib.Omega.{arith}
 use borrow.Author.Tests.{eqb-true}
 use lib.Dec.{eqb}
-use lib.IntN.{ℤ, pos, negℤ, _+ℤ_}
+use lib.IntN.{ℤ, pos, negℤ, natAbs, _+ℤ_}
 use lib.ListN.{getD}
 use Rattle.tiles.specs.Below.{any, count}
 use Rattle.tiles.specs.laws.Below.{or-both}
 use Rattle.hand.specs.Hand.{isRon}
 use Rattle.hand_record.specs.laws.Bounds.{read-bounds}
-use Rattle.score.specs.laws.Z.{up, dn, add-law, parts-eq}
-use Rattle.score.specs.laws.Changes.{score-within, score-child, zero-sum}
+use Rattle.score.specs.laws.Z.{up, dn, add-law, neg-law, parts-eq}
+use Rattle.score.specs.laws.Changes.{score-within, score-child}
 use Rattle.position.specs.declared.Position.{Position}
 use Rattle.position.specs.Booking.{Booking, result, riichi, win, draw, chombo, pao}
 use Rattle.position.specs.Ledger.{lastHand, mark, isDeclared, declarations, notOpen, isReady, handFor, scoredFor, readySeats, shareOf, refusalFor}
-use Rattle.position.specs.Ledger.{wrongPao, riichiGives, paidByOthers, wholeOf, paoPays, isSet, isDealersWin, gainGives, counterGives}
-use Rattle.position.specs.Ledger.{paoFor, winGives, drawGives, fineOf, backTo, chomboGives, chomboOf, drawOf, isAtFault, effectOf}
+use Rattle.position.specs.Ledger.{wrongPao, riichiGives, paidByOthers, owes, liableIn, wholeOf, isDealersWin, payments, holdsFourWinds}
+use Rattle.position.specs.Ledger.{winGives, drawGives, fineOf, chomboGives, chomboOf, drawOf, isAtFault, effectOf}
 use Rattle.position.specs.laws.Bounds.{costs, worst}
 use Rattle.position.specs.laws.Form.{open-of}
 use Rattle.position.specs.laws.Accepted.{riichi-accepted, chombo-accepted, draw-accepted, win-accepted, pao-accepted}
-use Rattle.position.specs.laws.PaidByOthers.{Even}
-use Rattle.position.specs.laws.Repeat.{added-even, added-dn}
-use Rattle.position.specs.laws.Pao.{pao-even, pao-dn, multi-ron-right, right-pao}
+use Rattle.position.specs.laws.PaidByOthers.{sticksTo, paid-by-others-even, paid-by-others-dn}
+use Rattle.position.specs.laws.Owed.{owes-le, score-paid}
+use Rattle.position.specs.laws.Pao.{multi-ron-right, right-pao}
 use Rattle.position.specs.laws.Fines.{fines-even, fine-dn}
 use Rattle.position.specs.laws.Effect.{mark-le, Bounded, Fair, finishing-fair}
 
@@ -135,17 +135,21 @@ back-is true = (refl, refl)
 back-is false = (refl, refl)
 
 module _ (g : Position) where
-  backs : declarations g ≤ g .sticks → Turns (backTo g) (g .sticks) (g .sticks - declarations g)
+  -- "each declared seat gets 1,000 back"
+  abbrev backTo : ℕ → ℤ
+  backTo i = cond (isDeclared g i) (pos 1000) (pos 0)
+
+  backs : declarations g ≤ g .sticks → Turns backTo (g .sticks) (g .sticks - declarations g)
   backs h = omega (arith, back-is (isDeclared g 0), back-is (isDeclared g 1), back-is (isDeclared g 2), back-is (isDeclared g 3))
 
   module _ (at : ℕ → Bool) where
     pub chombo-balanced : declarations g ≤ g .sticks → Turns (chomboGives g at) (g .sticks) (g .sticks - declarations g)
     unfolding chomboGives
-    chombo-balanced d = both-turn (fineOf at) (backTo g) (g .sticks) (g .sticks - declarations g) (omega (arith, fines-even at)) (backs d)
+    chombo-balanced d = both-turn (fineOf at) backTo (g .sticks) (g .sticks - declarations g) (omega (arith, fines-even at)) (backs d)
 
     pub chombo-bounded : (i : ℕ) → i < 4 → dn (chomboGives g at i) ≤ 9000 + up (chomboGives g at i)
     unfolding chomboGives
-    chombo-bounded i l = omega (arith, fine-dn at i l, back-is (isDeclared g i), add-law (fineOf at i) (backTo g i))
+    chombo-bounded i l = omega (arith, fine-dn at i l, back-is (isDeclared g i), add-law (fineOf at i) (backTo i))
 
     pub chombo-fair : notOpen g ≡ false → Fair g (chomboOf g at)
     chombo-fair e =
@@ -167,100 +171,68 @@ pots (suc (suc zero)) k h = omega arith
 pots (suc (suc (suc zero))) k h = omega arith
 pots (suc (suc (suc (suc n)))) k h = absurd (omega arith)
 
-sum-parts : (f : ℕ → ℤ) → f 0 +ℤ f 1 +ℤ f 2 +ℤ f 3 ≡ pos 0 → Turns f 0 0
-sum-parts f e =
-    omega (arith, parts-eq (f 0 +ℤ f 1 +ℤ f 2 +ℤ f 3) (pos 0) e, add-law (f 0) (f 1), add-law (f 0 +ℤ f 1) (f 2), add-law (f 0 +ℤ f 1 +ℤ f 2) (f 3))
-
 -- the winner takes n counters and k sticks
 module _ (g : Position) (s : List ℕ) (n k : ℕ) where
-  unfoldable scored : ℕ → ℤ
-  scored i = getD (scoredFor g s .changes) i (pos 0)
+  abbrev w : ℕ
+  w = handFor s .fields .winner
 
-  unfoldable won : ℕ → ℤ
-  won i = gainGives g s (paoFor g s) scored i
+  abbrev change : ℕ → ℤ
+  change i = getD (scoredFor g s .changes) i (pos 0)
 
-  unfoldable added : ℕ → ℤ
-  added i = counterGives g s (paoFor g s) n i
+  -- what each seat owes
+  abbrev owed : ℕ → ℕ
+  owed =
+      let f = handFor s .fields in
+      let yaku = scoredFor g s .yaku in
+      owes (λ i. natAbs (change i)) (f .discarder) (wholeOf (isDealersWin g s)) n
+      (liableIn g w (getD yaku 28 false) (getD yaku 29 false && holdsFourWinds (handFor s))) (isRon f)
 
-  unfoldable pot : ℕ → ℤ
-  pot i = cond (eqb i (handFor s .fields .winner)) (pos (1000 * k)) (pos 0)
-
-  scored-even : Even scored
-  unfolding scored
-  scored-even = let e = sum-parts (λ i. getD (scoredFor g s .changes) i (pos 0)) (zero-sum s (g .dealer) (g .wind)) in omega (arith, e)
-
-  -- what a seat pays at most: a yakuman, dealt to the dealer or to a child
+  -- a yakuman, dealt to the dealer or to a child
   abbrev most : ℕ
   most = 32000 + 16000 * mark (isDealersWin g s)
 
-  scored-dn : (i : ℕ) → dn (scored i) ≤ most
-  unfolding scored
-  scored-dn i = go (isDealersWin g s) refl
+  change-dn : (i : ℕ) → dn (change i) ≤ most
+  change-dn i = go (isDealersWin g s) refl
     where
-      go : (t : Bool) → isDealersWin g s ≡ t → dn (getD (scoredFor g s .changes) i (pos 0)) ≤ 32000 + 16000 * mark t
+      go : (t : Bool) → isDealersWin g s ≡ t → dn (change i) ≤ 32000 + 16000 * mark t
       go true e = omega (arith, score-within s (g .dealer) (g .wind) i .1)
       go false e = omega (arith, score-child s (g .dealer) (g .wind) e i)
 
-  -- by article 67, where m - 1 is the feeder
-  abbrev liable : ℕ → ℕ → ℤ
-  liable m = let f = handFor s .fields in paidByOthers (f .winner) (paoPays (f .winner) (f .discarder) (m - 1) (isRon f) (wholeOf (isDealersWin g s)))
-
-  won-turns : handFor s .fields .winner ≤ 3 → Turns won 0 0
-  unfolding won
-  won-turns h = let e = go (paoFor g s) (isSet (paoFor g s)) in omega (arith, e)
-    where
-      go : (m : ℕ) (t : Bool) → Even (λ i. cond t (liable m i) (scored i))
-      go m true = let f = handFor s .fields in pao-even (f .discarder) (m - 1) (isRon f) (wholeOf (isDealersWin g s)) (f .winner) (omega arith)
-      go m false = scored-even
+  -- what the reported reading takes of another seat than the winner
+  taken-most : (i : ℕ) → eqb i w ≡ false → natAbs (change i) ≤ most
+  unfolding paidByOthers
+  taken-most i e =
+      let paid : negℤ (pos (natAbs (change i))) ≡ change i = rw e at (score-paid s (g .dealer) (g .wind) i) in
+      omega (arith, change-dn i, parts-eq _ _ paid, neg-law (pos (natAbs (change i))))
 
   whole-is : (t : Bool) → wholeOf t ≡ 32000 + 16000 * mark t
   whole-is true = refl
   whole-is false = refl
 
-  won-dn : (i : ℕ) → dn (won i) ≤ most
-  unfolding won
-  won-dn i = go (paoFor g s) (isSet (paoFor g s))
-    where
-      go : (m : ℕ) (t : Bool) → dn (cond t (liable m i) (scored i)) ≤ most
-      go m true =
-          let f = handFor s .fields in omega (
-            arith,
-            pao-dn (f .discarder) (m - 1) (isRon f) (wholeOf (isDealersWin g s)) (f .winner) i,
-            whole-is
-                (isDealersWin g s),
-          )
-      go m false = scored-dn i
+  owed-most : (i : ℕ) → eqb i w ≡ false → owed i ≤ most + 300 * n
+  owed-most i e =
+      let f = handFor s .fields in
+      let yaku = scoredFor g s .yaku in
+      let whole : wholeOf (isDealersWin g s) ≤ most = omega (arith, whole-is (isDealersWin g s)) in
+      owes-le (λ j. natAbs (change j)) (f .discarder) (wholeOf (isDealersWin g s)) n i most (taken-most i e) whole
+      (liableIn g w (getD yaku 28 false) (getD yaku 29 false && holdsFourWinds (handFor s))) (isRon f)
 
-  -- who pays the counters alone, and whether
-  abbrev payer : ℕ
-  payer = cond (isRon (handFor s .fields)) (handFor s .fields .discarder) (paoFor g s - 1)
-
-  abbrev alone : Bool
-  alone = isRon (handFor s .fields) || isSet (paoFor g s)
-
-  added-turns : handFor s .fields .winner ≤ 3 → Turns added 0 0
-  unfolding added
-  added-turns h = let e = added-even payer alone n (handFor s .fields .winner) (omega arith) in omega (arith, e)
-
-  added-most : (i : ℕ) → dn (added i) ≤ 300 * n
-  unfolding added
-  added-most i = added-dn payer alone n (handFor s .fields .winner) i
-
-  pot-turns : handFor s .fields .winner ≤ 3 → Turns pot k 0
-  unfolding pot
-  pot-turns h = pots (handFor s .fields .winner) k h
-
-  pot-none : (i : ℕ) → dn (pot i) ≡ 0
-  unfolding pot
-  pot-none i = pot-dn (eqb i (handFor s .fields .winner)) (1000 * k)
-
-  pub win-turns : handFor s .fields .winner ≤ 3 → Turns (winGives g s n k) k 0
-  unfolding winGives scored won added pot
-  win-turns h = both-turn (λ i. won i +ℤ added i) pot k 0 (both-turn won added 0 0 (won-turns h) (added-turns h)) (pot-turns h)
+  pub win-turns : w ≤ 3 → Turns (winGives g s n k) k 0
+  unfolding winGives payments
+  win-turns h =
+      let e = paid-by-others-even owed w (omega arith) in
+      both-turn (paidByOthers w owed) (sticksTo s k) k 0 (omega (arith, e)) (pots w k h)
 
   pub win-dn : (i : ℕ) → dn (winGives g s n k i) ≤ most + 300 * n + up (winGives g s n k i)
-  unfolding winGives scored won added pot
-  win-dn i = omega (arith, won-dn i, added-most i, pot-none i, add-law (won i) (added i), add-law (won i +ℤ added i) (pot i))
+  unfolding winGives payments
+  win-dn i =
+      omega (
+        arith,
+        paid-by-others-dn owed w i (most + 300 * n) (owed-most i),
+        pot-dn (eqb i w) (1000 * k),
+        add-law (paidByOthers w owed i)
+            (sticksTo s k i),
+      )
 
 pub won-counter : (deals : Bool) (n h : ℕ) → n ≤ h → cond deals (n + 1) 0 ≤ h + 1
 won-counter true n h l = omega arith

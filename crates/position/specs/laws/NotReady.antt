@@ -15,7 +15,8 @@ use Rattle.hand_record.specs.Record.{refusedWith, soundAs, refusalIn, wrongLeng
 use Rattle.score.specs.declared.Scored.{Scored}
 use Rattle.score.specs.Named.{Named, reported, six, seven}
 use Rattle.score.specs.IsScore.{IsScore, eight, unreadable, read}
-use Rattle.score.specs.Score.{scoreOf, is-score}
+use Rattle.score.specs.Score.{scoreOf}
+use Rattle.score.specs.laws.One.{is-score}
 use Rattle.position.specs.declared.Position.{Position}
 use Rattle.position.specs.Booking.{Booking, result, riichi, win, draw, chombo, pao, multiRon}
 use Rattle.hand_rons.specs.Records.{recordsOf, firstUnreadable, notOnOneTile}

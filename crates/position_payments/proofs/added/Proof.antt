@@ -1,6 +1,6 @@
 -- `position_payments::added` meets its contract: who pays alone is another seat than the winner.
 use borrow.Author.Needs.{needs}
-use Rattle.position.specs.laws.Pao.{payer-small, payer-other}
+use Rattle.position_payments.specs.laws.Parts.{payer-small, payer-other}
 use Rattle.position_payments.proofs.added.Statement.{statement}
 use Rattle.position_payments.proofs.added.Tie as tie
 

@@ -2,10 +2,11 @@
 use mathlib.Core.Path.{_∙_}
 use native.Mathlib.Omega.{arith}
 use borrow.Author.Needs.{needs}
-use Rattle.position.specs.Ledger.{repeatGives}
+use Rattle.position.specs.Ledger.{paidByOthers}
 use Rattle.position.specs.laws.Bounds.{mostChange}
 use Rattle.position.specs.laws.Sums.{four-within}
-use Rattle.position.specs.laws.Repeat.{added-at}
+use Rattle.position_payments.specs.search.Parts.{repeatPays}
+use Rattle.position_payments.specs.laws.Parts.{added-at}
 use Rattle.position_payments.proofs.additions.Statement.{statement}
 use Rattle.position_payments.proofs.additions.Tie as tie
 
@@ -22,6 +23,6 @@ additions-spec =
     let p = start .pre in
     let seat = added-at (a .winner) (a .payer) (a .alone) (a .n) (p .0) (p .1) (p .2) in
     four-within mostChange (omega arith) (first .addition .result) (second .addition2 .result) (third .addition3 .result) (c .addition4 .result)
-    (repeatGives (a .winner) (a .payer) (a .alone) (a .n))
+    (paidByOthers (a .winner) (repeatPays (a .payer) (a .alone) (a .n)))
     (first .addition .ensures .0 ∙ seat 0, first .addition .ensures .1) (second .addition2 .ensures .0 ∙ seat 1, second .addition2 .ensures .1)
     (third .addition3 .ensures .0 ∙ seat 2, third .addition3 .ensures .1) (c .addition4 .ensures .0 ∙ seat 3, c .addition4 .ensures .1)))

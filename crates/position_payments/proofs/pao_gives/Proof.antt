@@ -6,10 +6,12 @@ use native.Mathlib.Omega.{arith}
 use borrow.Author.Needs.{needs}
 use lib.Dec.{eqb}
 use lib.IntN.{ℤ, pos, negℤ}
-use Rattle.position.specs.Ledger.{paidByOthers, wholeOf, paoPays}
+use Rattle.position.specs.Ledger.{paidByOthers, wholeOf}
 use Rattle.position.specs.laws.Bounds.{mostChange}
 use Rattle.position.specs.laws.Sums.{four-within}
-use Rattle.position.specs.laws.Pao.{whole-even, pao-at}
+use Rattle.position.specs.laws.Owed.{whole-even}
+use Rattle.position_payments.specs.search.Parts.{paoPays}
+use Rattle.position_payments.specs.laws.Parts.{pao-at}
 use Rattle.position_payments.proofs.pao_gives.Statement.{statement}
 use Rattle.position_payments.proofs.pao_gives.Tie as tie
 
@@ -17,12 +19,12 @@ use Rattle.position_payments.proofs.pao_gives.Tie as tie
 module _ (w d f : ℕ) (ron dealers : Bool) (other : w ≡ f → ⊥) (own : ron ≡ true → w ≡ d → ⊥) (g : f ≤ 3) (l : d ≤ 3) where
   part : (i : ℕ) → cond (eqb i w) (pos (wholeOf dealers))
       (negℤ (pos (cond ron (cond (eqb i f) (wholeOf dealers / 2) 0 + cond (eqb i d) (wholeOf dealers / 2) 0) (cond (eqb i f) (wholeOf dealers) 0))))
-      ≡ paidByOthers w (paoPays w d f ron (wholeOf dealers)) i
+      ≡ paidByOthers w (paoPays d f ron (wholeOf dealers)) i
   part i = rw (whole-even dealers) (pao-at w d f (cond dealers 24000 16000) ron (omega arith) other (λ r. omega arith) own i)
 
   given : (whole : ℕ) → whole ≡ wholeOf dealers → (i owes : ℕ)
       → owes ≡ cond ron (cond (eqb i f) (whole / 2) 0 + cond (eqb i d) (whole / 2) 0) (cond (eqb i f) whole 0)
-      → (y : ℤ) → y ≡ cond (eqb i w) (pos whole) (negℤ (pos owes)) → y ≡ paidByOthers w (paoPays w d f ron (wholeOf dealers)) i
+      → (y : ℤ) → y ≡ cond (eqb i w) (pos whole) (negℤ (pos owes)) → y ≡ paidByOthers w (paoPays d f ron (wholeOf dealers)) i
   given whole e i owes o y q = q ∙ rw (o, e) (part i)
 
 pub pao-gives-spec : {M : Type 1} → statement M
@@ -44,7 +46,7 @@ pao-gives-spec =
     let seat = given (s .winner) (s .discarder) (start .args .feeder) ron dealers (p .4) (p .2) (p .3) (p .1)
     (whole .whole-of .result .0) (whole .whole-of .ensures .0) in
     four-within mostChange (omega arith) (first .pao-given .result) (second .pao-given2 .result) (third .pao-given3 .result) (c .pao-given4 .result)
-    (paidByOthers (s .winner) (paoPays (s .winner) (s .discarder) (start .args .feeder) ron (wholeOf dealers))) (
+    (paidByOthers (s .winner) (paoPays (s .discarder) (start .args .feeder) ron (wholeOf dealers))) (
       seat 0 (first .before .owed .result .0) (first .before .owed .ensures .0) (first .pao-given .result)
           (first .pao-given .ensures .0),
       first .pao-given .ensures .1,

@@ -1,5 +1,5 @@
 -- `position_win::settle_hand` meets its contract: of each record that reads as the hand, what the hand scores is what the record does.
-use mathlib.Core.Path.{_≡_, sym, ap, _∙_}
+use mathlib.Core.Path.{_≡_, sym, ap, subst, _∙_}
 use mathlib.Core.Bool.{false, _&&_}
 use mathlib.Core.List.{List}
 use Prim.Native.Nat.{ℕ}
@@ -12,9 +12,10 @@ use Rattle.score.specs.declared.Scored.{Scored}
 use Rattle.score.specs.search.HandScore.{handScoreOf}
 use Rattle.score.specs.laws.Changes.{changes-within}
 use Rattle.score.specs.laws.HandScore.{score-read}
-use Rattle.position.specs.Ledger.{handFor, scoredFor, paoIn, holdsFourWinds, paoFor}
-use Rattle.position.specs.laws.Pao.{pao-feeder-seat}
-use Rattle.position_win.specs.laws.Settling.{settled-read}
+use Rattle.position.specs.Ledger.{handFor, scoredFor, liableBy, liableIn, holdsFourWinds}
+use Rattle.position.specs.laws.Owed.{IsOther, other-liable}
+use Rattle.position.specs.laws.Pao.{feeder-seat}
+use Rattle.position_win.specs.laws.Settling.{liableOf, settled-read}
 use Rattle.position_win.proofs.settle_hand.Statement.{statement}
 use Rattle.position_win.proofs.settle_hand.Tie as tie
 
@@ -30,16 +31,16 @@ scores c s z e =
     c .score-hand .ensures .1 ∙ ap (λ (h : Hand). handScoreOf h (a .p .dealer) (a .p .wind)) e
     ∙ sym (score-read s (a .p .dealer) (a .p .wind) (f .dealer) (f .wind) z)
 
--- pao is what the ledger finds
+-- who is liable is whom the ledger finds
 liable : (c : tie.After-pao-of) (s : List ℕ) → refusalIn (readOf s .answer) ≡ 0 → start (c .before .before) .args .h ≡ handFor s
-    → c .pao-of .result ≡ paoFor (start (c .before .before) .args .p) s
+    → liableBy (c .pao-of .result) ≡ liableOf (start (c .before .before) .args .p) s
 liable c s z e =
     let v = c .before .before in
     let g = start v .args .p in
     c .pao-of .ensures
-    ∙ ap (λ (h : Hand). paoIn g (h .fields .winner) (getD (v .score-hand .result .yaku) 28 false)
+    ∙ ap (λ (h : Hand). liableIn g (h .fields .winner) (getD (v .score-hand .result .yaku) 28 false)
     (getD (v .score-hand .result .yaku) 29 false && holdsFourWinds h)) e
-    ∙ ap (λ (x : Scored). paoIn g (handFor s .fields .winner) (getD (x .yaku) 28 false) (getD (x .yaku) 29 false && holdsFourWinds (handFor s)))
+    ∙ ap (λ (x : Scored). liableIn g (handFor s .fields .winner) (getD (x .yaku) 28 false) (getD (x .yaku) 29 false && holdsFourWinds (handFor s)))
     (scores v s z e)
 
 pub settle-hand-spec : {M : Type 1} → statement M
@@ -55,14 +56,16 @@ settle-hand-spec =
     let p = start v .pre in
     let b = p .1 in
     let y = v .score-hand .result .yaku in
-    let f = pao-feeder-seat (a .p) (p .0 .form) (a .h .fields .winner) (b .winner) (getD y 28 false) (getD y 29 false && holdsFourWinds (a .h)) in (
+    let winner = a .h .fields .winner in
+    let seat = feeder-seat (a .p) (p .0 .form) winner (b .winner) (getD y 28 false) (getD y 29 false && holdsFourWinds (a .h)) in
+    let f = other-liable winner (found .pao-of .result) (subst (IsOther winner) (sym (found .pao-of .ensures)) seat) in (
       p .0,
       b .winner,
       b .discarder,
       b .other,
       λ i. let w = changes-within (a .h) (a .p .dealer) (a .p .wind) i in rw (v .score-hand .ensures .1) (omega arith, omega arith),
-      rw (found .pao-of .ensures) (f .0),
-      rw (found .pao-of .ensures) (f .1),
+      f .0,
+      f .1,
       p .2,
       p .3,
     ))

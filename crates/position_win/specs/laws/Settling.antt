@@ -1,12 +1,12 @@
 -- What the win of a record that scores v comes to, and that this is the ledger's.
 use mathlib.Core.Path.{_≡_, refl, sym, ap, _∙_}
-use mathlib.Core.Bool.{Bool, true, false, not, _||_, cond}
+use mathlib.Core.Bool.{Bool, true, false, not, _&&_, _||_, cond}
 use mathlib.Core.List.{List, [], _∷_}
 use Prim.Native.Nat.{ℕ, _+_, _-_, _*_, _≤_, _<_}
 use native.Mathlib.Omega.{arith}
 use borrow.Author.Tests.{lt-ltb, le-ltb}
 use lib.Dec.{ltb, eqb}
-use lib.IntN.{ℤ, pos, _+ℤ_}
+use lib.IntN.{ℤ, pos, natAbs, _+ℤ_}
 use lib.ListN.{getD}
 use Rattle.tiles.specs.Below.{tabulate}
 use Rattle.hand.specs.declared.Fields.{Fields}
@@ -17,12 +17,16 @@ use Rattle.score.specs.declared.Scored.{Scored}
 use Rattle.score.specs.laws.HandScore.{score-unreadable}
 use Rattle.position.specs.declared.Position.{Position}
 use Rattle.position.specs.Booking.{result, win}
-use Rattle.position.specs.Ledger.{isSet, isDeclared, notOpen, handFor, scoredFor, paidByOthers, repeatGives, wholeOf, paoPays, paoFor, winGives}
+use Rattle.position.specs.Ledger.{isSet, isDeclared, notOpen, handFor, scoredFor, paidByOthers, Liable, owes, liableBy, liableIn, wholeOf, isDealersWin}
+use Rattle.position.specs.Ledger.{payments, holdsFourWinds, winGives, effectOf, applied}
+use Rattle.position.specs.laws.PaidByOthers.{sticksTo}
 use Rattle.position.specs.laws.First.{winRefusal}
-use Rattle.position.specs.Ledger.{effectOf, applied}
 use Rattle.position.specs.laws.Form.{Open}
+use Rattle.position.specs.laws.Owed.{score-paid}
 use Rattle.position.specs.laws.Sums.{Gifts, zeros-gifts}
 use Rattle.position_moves.specs.laws.Steps.{finished}
+use Rattle.position_payments.specs.search.Parts.{paoPays, repeatPays}
+use Rattle.position_payments.specs.laws.Parts.{gainPays, in-parts}
 use Rattle.position_win.specs.declared.Settled.{Settled}
 
 -- what a win with changes c and additions a gives each seat, the winner taking k sticks
@@ -40,6 +44,12 @@ seat-by-seat by c a winner k false = refl
 abbrev pub nothing : ℕ → Settled
 nothing n = record { refusal = n; winner = 0; gives = pos 0 ∷ pos 0 ∷ pos 0 ∷ pos 0 ∷ [] }
 
+-- who is liable for the yaku that is reported of record s
+abbrev pub liableOf : Position → List ℕ → Liable
+liableOf g s =
+    let yaku = scoredFor g s .yaku in
+    liableIn g (handFor s .fields .winner) (getD yaku 28 false) (getD yaku 29 false && holdsFourWinds (handFor s))
+
 -- ---- a record that read
 
 -- a win with the fields f that scores v; liable is 0, or 1 + the feeder of the yaku that is reported; the winner takes n counters and k sticks
@@ -53,7 +63,7 @@ module _ (g : Position) (f : Fields) (v : Scored) (liable n k : ℕ) where
 
   -- what article 67 gives
   abbrev pao-gives : ℕ → ℤ
-  pao-gives = paidByOthers (f .winner) (paoPays (f .winner) (f .discarder) (liable - 1) (isRon f) (wholeOf (eqb (f .winner) (g .dealer))))
+  pao-gives = paidByOthers (f .winner) (paoPays (f .discarder) (liable - 1) (isRon f) (wholeOf (eqb (f .winner) (g .dealer))))
 
   -- the changes, or what article 67 gives
   abbrev pub changesOf : List ℤ
@@ -61,7 +71,7 @@ module _ (g : Position) (f : Fields) (v : Scored) (liable n k : ℕ) where
 
   -- what the counters add
   abbrev pub additionsOf : List ℤ
-  additionsOf = tabulate 4 0 (repeatGives (f .winner) (cond (isRon f) (f .discarder) (liable - 1)) (isRon f || isSet liable) n)
+  additionsOf = tabulate 4 0 (paidByOthers (f .winner) (repeatPays (cond (isRon f) (f .discarder) (liable - 1)) (isRon f || isSet liable) n))
 
   -- what it comes to
   abbrev pub SettledAs : Settled → Type 0
@@ -90,19 +100,51 @@ module _ (g : Position) (s : List ℕ) (n k : ℕ) where
       (r .refusal ≡ winRefusal g s) × (r .refusal ≡ 0 → (r .winner ≡ handFor s .fields .winner) × (r .gives ≡ tabulate 4 0 (winGives g s n k)))
       × Gifts (r .gives)
 
-  winnings-are : let f = handFor s .fields in let v = scoredFor g s in
-      winningsOf (changesOf g f v (paoFor g s) n k) (additionsOf g f v (paoFor g s) n k) (f .winner) k ≡ tabulate 4 0 (winGives g s n k)
-  unfolding winGives
-  winnings-are =
-      let f = handFor s .fields in
-      let v = scoredFor g s in
-      seat-by-seat (pao-gives g f v (paoFor g s) n k) (v .changes) (additionsOf g f v (paoFor g s) n k) (f .winner) k (isSet (paoFor g s))
+  -- the code's parts are what the table says, liable being 0 or 1 + the feeder
+  module _ (liable : ℕ) (e : liableBy liable ≡ liableOf g s) where
+    abbrev f : Fields
+    f = handFor s .fields
 
-  pub settled-read : (h : Hand) (v : Scored) (liable : ℕ) (r : Settled) → h ≡ handFor s → v ≡ scoredFor g s → liable ≡ paoFor g s
+    abbrev v : Scored
+    v = scoredFor g s
+
+    abbrev taken : ℕ → ℕ
+    taken i = natAbs (getD (v .changes) i (pos 0))
+
+    abbrev whole : ℕ
+    whole = wholeOf (isDealersWin g s)
+
+    abbrev change : ℕ → ℤ
+    change i = cond (isSet liable) (pao-gives g f v liable n k i) (getD (v .changes) i (pos 0))
+
+    gain-part : (i : ℕ) → change i ≡ paidByOthers (f .winner) (gainPays taken (f .discarder) whole n liable (isRon f)) i
+    gain-part i = go (isSet liable)
+      where
+        go : (t : Bool) → cond t (pao-gives g f v liable n k i) (getD (v .changes) i (pos 0))
+            ≡ paidByOthers (f .winner) (λ j. cond t (paoPays (f .discarder) (liable - 1) (isRon f) whole j) (taken j)) i
+        go true = refl
+        go false = sym (score-paid s (g .dealer) (g .wind) i)
+
+    both-parts : (i : ℕ) → let payer = cond (isRon f) (f .discarder) (liable - 1) in
+        change i +ℤ paidByOthers (f .winner) (repeatPays payer (isRon f || isSet liable) n) i +ℤ sticksTo s k i ≡ winGives g s n k i
+    unfolding winGives payments
+    both-parts i =
+        let payer : ℕ = cond (isRon f) (f .discarder) (liable - 1) in
+        let added : ℤ = paidByOthers (f .winner) (repeatPays payer (isRon f || isSet liable) n) i in
+        ap (λ (z : ℤ). z +ℤ added +ℤ sticksTo s k i) (gain-part i)
+        ∙ ap (λ (z : ℤ). z +ℤ sticksTo s k i) (sym (in-parts taken (f .discarder) whole n (f .winner) liable (isRon f) i))
+        ∙ ap (λ (who : Liable). paidByOthers (f .winner) (owes taken (f .discarder) whole n who (isRon f)) i +ℤ sticksTo s k i) e
+
+    winnings-are : winningsOf (changesOf g f v liable n k) (additionsOf g f v liable n k) (f .winner) k ≡ tabulate 4 0 (winGives g s n k)
+    winnings-are =
+        seat-by-seat (pao-gives g f v liable n k) (v .changes) (additionsOf g f v liable n k) (f .winner) k (isSet liable)
+        ∙ rw (both-parts 0, both-parts 1, both-parts 2, both-parts 3)
+
+  pub settled-read : (h : Hand) (v : Scored) (liable : ℕ) (r : Settled) → h ≡ handFor s → v ≡ scoredFor g s → liableBy liable ≡ liableOf g s
       → SettledAs g (h .fields) v liable n k r → IsSettled r
   settled-read h v liable r p q e w =
       let a = w .1 in
-      (rw (p, q) at (w .0), (λ z. let y = rw (e, p, q) at (a z) in (y .0, y .1 ∙ winnings-are)), w .2)
+      (rw (p, q) at (w .0), (λ z. let y = rw (p, q) at (a z) in (y .0, y .1 ∙ winnings-are liable e)), w .2)
 
   pub settled-unreadable : Open g → (r : Settled) (m : ℕ) → r ≡ nothing m → refusalIn (readOf s .answer) ≡ m → 0 < m → IsSettled r
   settled-unreadable o r m e q l =

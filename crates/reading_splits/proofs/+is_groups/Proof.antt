@@ -48,7 +48,7 @@ long t c = search needs
 -- past the tests there is a lowest kind
 module _ (t : ℕ) (c : is-groups-lts.Else2 (claims t) (is-groups-at t) is-groups.Post) where
   abbrev start : is-groups-lts.Start (claims t) (is-groups-at t) is-groups.Post
-  start = c .before .before .before .before
+  start = let after-t = c .before .before in after-t .before .before
 
   abbrev k : ℕ
   k = c .before .lowest .result
@@ -67,13 +67,17 @@ pub +is-groups-spec : {M : Type 1} → statement M
     (λ c. c .is-empty .ensures ∙ splits-into-none _ _ _ (c .before .if1 .taken))
     (λ c κs. let s = c .before .before in (s .pre .1 .0, long t s))
     (λ c.
-    let s = c .before .before .before .before in
-    splits-into-over _ _ _ (c .before .before .before .if1 .left) (omega (arith, c .before .lowest .ensures .0, c .if2 .taken, s .pre .1 .1)))
+    let after-lowest = c .before in
+    let else1 = after-lowest .before .before in
+    let s = else1 .before in
+    splits-into-over _ _ _ (else1 .if1 .left) (omega (arith, after-lowest .lowest .ensures .0, c .if2 .taken, s .pre .1 .1)))
     (λ c. omega (arith, low t c))
     (λ c. low t c)
     (λ c. omega (arith, low t (c .before)))
     (λ c κs. fits-three _ _ (low t (c .before)) (c .if3 .taken))
-    (λ c. let e = c .before .before in omega (arith, e .before .before .before .if1 .left))
+    (λ c. let e = c .before .before in
+    let after-lowest = e .before in
+    omega (arith, after-lowest .before .before .if1 .left))
     (λ c κs.
     let e = c .before .before in (
       omega arith,
@@ -84,12 +88,16 @@ pub +is-groups-spec : {M : Type 1} → statement M
       ),
     ))
     (λ c.
-    let e = c .before .before .before in
-    groups-three _ _ (k t e) (e .before .before .before .if1 .left) (long t (start t e)) (is-lowest t e) (low t e) _ (c .before .before .if3 .taken) (rw
-    (← c .before .without .ensures) (c .is-groups .ensures)))
+    let without = c .before in
+    let e = without .before .before in
+    let after-lowest = e .before in
+    groups-three _ _ (k t e) (after-lowest .before .before .if1 .left) (long t (start t e)) (is-lowest t e) (low t e) _ (without .before .if3 .taken) (rw
+    (← without .without .ensures) (c .is-groups .ensures)))
     (λ c κs. tt)
     (λ c κs. sym (c .before .fits2 .ensures) ∙ c .if4 .taken)
-    (λ c. let e = c .before .before .before .before in omega (arith, e .before .before .before .if1 .left))
+    (λ c. let fits2 = c .before .before in let e = fits2 .before .before in
+    let after-lowest = e .before in
+    omega (arith, after-lowest .before .before .if1 .left))
     (λ c κs.
     let f = c .before .before in
     let e = f .before .before in (
@@ -101,12 +109,15 @@ pub +is-groups-spec : {M : Type 1} → statement M
       ),
     ))
     (λ c.
-    let f = c .before .before .before in
+    let without2 = c .before in
+    let f = without2 .before .before in
     let e = f .before .before in
-    groups-run _ _ (k t e) (e .before .before .before .if1 .left) (long t (start t e)) (is-lowest t e) (low t e) _ (f .before .if3 .left) (sym
-    (f .fits2 .ensures) ∙ c .before .before .if4 .taken) (rw (← c .before .without2 .ensures) (c .is-groups2 .ensures)))
+    let after-lowest = e .before in
+    groups-run _ _ (k t e) (after-lowest .before .before .if1 .left) (long t (start t e)) (is-lowest t e) (low t e) _ (f .before .if3 .left) (sym
+    (f .fits2 .ensures) ∙ without2 .before .if4 .taken) (rw (← without2 .without2 .ensures) (c .is-groups2 .ensures)))
     (λ c.
     let f = c .before in
     let e = f .before .before in
-    groups-none _ _ (k t e) (e .before .before .before .if1 .left) (long t (start t e)) (is-lowest t e) (low t e) (f .before .if3 .left) (sym
+    let after-lowest = e .before in
+    groups-none _ _ (k t e) (after-lowest .before .before .if1 .left) (long t (start t e)) (is-lowest t e) (low t e) (f .before .if3 .left) (sym
     (f .fits2 .ensures) ∙ c .if4 .left))

@@ -25,6 +25,10 @@ abbrev μ-loop : tie.MeasureT-loop
 long : (c : tie.Start Inv-loop μ-loop) → length (c .args .t1) ≡ 34
 long c = search needs
 
+-- the start, from the head of `loop`
+abbrev start-of : tie.At-loop Inv-loop μ-loop → tie.Start Inv-loop μ-loop
+start-of c = let pairs-in = c .before in pairs-in .before .before
+
 pub splits-spec : {M : Type 1} → statement M
 splits-spec =
     tie.close
@@ -40,16 +44,19 @@ splits-spec =
     let g = c .before in
     let w = g .before in
     let i = w .before in
-    let s = i .before .before .before .before .before .before in
-    let e : splitsInto (s .args .n) false (less (s .args .t1) (i .before .before .before .loop .k) 2) ≡ true = rw (← w .without-pair .ensures) (sym
+    let then1 = i .before in
+    let loop = then1 .before .before in
+    let s = start-of loop in
+    let e : splitsInto (s .args .n) false (less (s .args .t1) (loop .loop .k) 2) ≡ true = rw (← w .without-pair .ensures) (sym
     (g .is-groups .ensures) ∙ c .if3 .taken) in
-    splits-test _ _ _ _ (long s) refl (sym (pair-found _ (i .before .before .before .loop .k) _ (long s) (i .if2 .taken) e)))
+    splits-test _ _ _ _ (long s) refl (sym (pair-found _ (loop .loop .k) _ (long s) (i .if2 .taken) e)))
     (λ c. omega arith)
     (λ c. omega arith)
     (λ c.
-    let l = c .before .before .before in
+    let then1 = c .before in
+    let l = then1 .before .before in
     let v = l .loop .inv in
-    let s = l .before .before .before in (
+    let s = start-of l in (
       v .0,
       omega (arith, v .1),
       omega (arith, v .2),
@@ -62,6 +69,6 @@ splits-spec =
     (λ c.
     let l = c .before .before in
     let v = l .loop .inv in
-    let s = l .before .before .before in
+    let s = start-of l in
     splits-test _ _ _ _ (long s) refl
     (sym (pair-none _ _ _ _ (long s) (l .before .pairs-in .ensures .1) (λ k a g. v .3 k a (omega arith) g)))))

@@ -30,12 +30,14 @@ in-suit-spec =
     (tie.spec Inv-loop μ-loop
     (λ c. (search needs, search needs, search needs, refl, refl))
     (λ c. search needs) (λ c. search needs) (λ c. search needs) (λ c κs. search needs)
-    (λ c. omega (arith, c .before .before .before .loop .inv .1, c .wide .ensures .1))
-    (λ c. omega (arith, c .before .before .before .loop .inv, c .wide .ensures .1))
+    (λ c. let turn = c .before .before in omega (arith, turn .before .loop .inv .1, c .wide .ensures .1))
+    (λ c. let turn = c .before .before in omega (arith, turn .before .loop .inv, c .wide .ensures .1))
     (λ c. search needs) (λ c. search needs)
     (λ c.
-    let l = c .before .before .before .loop in
-    let a = c .before .before .before .before .args in
+    let turn = c .before .before in
+    let l = turn .before .loop in
+    let start = turn .before .before in
+    let a = start .args in
     let f : ℕ → ℕ = λ j. getD (a .t .now) (9 * a .s + j) 0 in
     let w = c .wide .ensures in (
       search needs,

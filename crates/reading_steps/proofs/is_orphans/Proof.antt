@@ -39,23 +39,32 @@ is-orphans-spec =
     (λ c κs. search needs)
     (λ c. omega arith)
     (λ c.
-    counted-stop (fine (c .before .before .before .before .before .before .args .t1)) _ 34 _ _ (c .before .before .before .before .loop-test .taken)
-    (rw (sym (c .before .before .before .is-yaochu .ensures) ∙ c .before .before .if1 .taken, ne-eqb _ _ (c .if3 .taken), ne-eqb _ _ (c .before .if2 .left))))
+    let then1 = c .before .before in
+    let turn = then1 .before .before in
+    let start = turn .before .before in
+    counted-stop (fine (start .args .t1)) _ 34 _ _ (turn .loop-test .taken)
+    (rw (sym (then1 .before .is-yaochu .ensures) ∙ then1 .if1 .taken, ne-eqb _ _ (c .if3 .taken), ne-eqb _ _ (c .before .if2 .left))))
     (λ c.
-    counted-stop (fine (c .before .before .before .before .before .args .t1)) _ 34 _ _ (c .before .before .before .loop-test .taken)
-    (rw (sym (c .before .before .is-yaochu .ensures) ∙ c .before .if1 .left, ne-eqb _ _ (c .if4 .taken))))
+    let is-yaochu = c .before .before in
+    let turn = is-yaochu .before in
+    let start = turn .before .before in
+    counted-stop (fine (start .args .t1)) _ 34 _ _ (turn .loop-test .taken)
+    (rw (sym (is-yaochu .is-yaochu .ensures) ∙ c .before .if1 .left, ne-eqb _ _ (c .if4 .taken))))
     (λ c. search needs)
     (λ c. search needs)
-    (λ c. (
+    (λ c.
+    let is-yaochu = c .before in
+    let loop = is-yaochu .before .before in
+    let start = loop .before in (
       search needs,
       ⊎-elim
-          (λ w. rw (w .2) (counted-one (fine (c .before .before .before .before .args .t1)) _ _ _ (c .before .before .before .loop .inv .1)
-          (rw (sym (c .before .is-yaochu .ensures) ∙ w .0 .taken, w .1 .taken)) (rw (w .1 .taken))))
+          (λ w. rw (w .2) (counted-one (fine (start .args .t1)) _ _ _ (loop .loop .inv .1)
+          (rw (sym (is-yaochu .is-yaochu .ensures) ∙ w .0 .taken, w .1 .taken)) (rw (w .1 .taken))))
           (⊎-elim
-          (λ w. rw (w .3) (counted-skip (fine (c .before .before .before .before .args .t1)) _ _ _ (c .before .before .before .loop .inv .1)
-          (rw (sym (c .before .is-yaochu .ensures) ∙ w .0 .taken, w .2 .left)) (rw (w .2 .left))))
-          (λ w. rw (w .2) (counted-skip (fine (c .before .before .before .before .args .t1)) _ _ _ (c .before .before .before .loop .inv .1)
-          (rw (sym (c .before .is-yaochu .ensures) ∙ w .0 .left, w .1 .left)) (rw (w .1 .left)))))
+          (λ w. rw (w .3) (counted-skip (fine (start .args .t1)) _ _ _ (loop .loop .inv .1)
+          (rw (sym (is-yaochu .is-yaochu .ensures) ∙ w .0 .taken, w .2 .left)) (rw (w .2 .left))))
+          (λ w. rw (w .2) (counted-skip (fine (start .args .t1)) _ _ _ (loop .loop .inv .1)
+          (rw (sym (is-yaochu .is-yaochu .ensures) ∙ w .0 .left, w .1 .left)) (rw (w .1 .left)))))
           (c .if1 .came),
     ))
     (λ c. counted-done _ _ 34 _ _ _ (c .before .loop .inv .0) (c .loop-test .left) (c .before .loop .inv .1)))

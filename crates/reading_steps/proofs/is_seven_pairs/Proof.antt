@@ -33,17 +33,22 @@ is-seven-pairs-spec =
     (λ c. (search needs, counted-none _ _))
     (λ c. search needs)
     (λ c. search needs)
-    (λ c. counted-stop (paired (c .before .before .before .before .args .t1)) _ 34 _ _ (c .before .before .loop-test .taken)
+    (λ c.
+    let turn = c .before .before in
+    let start = turn .before .before in
+    counted-stop (paired (start .args .t1)) _ 34 _ _ (turn .loop-test .taken)
     (rw (ne-eqb _ _ (c .before .if1 .taken), ne-eqb _ _ (c .if2 .taken))))
     (λ c. omega arith)
     (λ c. search needs)
     (λ c. search needs)
-    (λ c. (
+    (λ c.
+    let loop = c .before .before in
+    let start = loop .before in (
       search needs,
       ⊎-elim
-          (λ w. rw (w .2) (counted-one (paired (c .before .before .before .args .t1)) _ _ _ (c .before .before .loop .inv .1) (rw (w .1 .left))
+          (λ w. rw (w .2) (counted-one (paired (start .args .t1)) _ _ _ (loop .loop .inv .1) (rw (w .1 .left))
           (rw (w .1 .left))))
-          (λ w. rw (w .1) (counted-skip (paired (c .before .before .before .args .t1)) _ _ _ (c .before .before .loop .inv .1) (rw (w .0 .left))
+          (λ w. rw (w .1) (counted-skip (paired (start .args .t1)) _ _ _ (loop .loop .inv .1) (rw (w .0 .left))
           (rw (w .0 .left))))
           (c .if1 .came),
     ))

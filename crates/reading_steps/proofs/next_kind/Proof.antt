@@ -36,14 +36,14 @@ next-kind-spec =
     (tie.spec Inv-loop μ-loop
     (λ c. (search needs, search needs, λ j p q. absurd (omega arith)))
     (λ c. search needs)
-    (λ c. c .before .before .before .loop .inv)
+    (λ c. let turn = c .before .before in turn .before .loop .inv)
     (λ c. search needs)
     (λ c. search needs)
     (λ c.
-    let l = c .before .before .before .loop in (
+    let turn = c .before .before in
+    let l = turn .before .loop in let start = turn .before .before in (
       search needs,
       search needs,
-      more (c .before .before .before .before .args .t .now) (c .before .before .before .before .args .k) (l .i) (l .inv .2)
-          (c .if1 .left),
+      more (start .args .t .now) (start .args .k) (l .i) (l .inv .2) (c .if1 .left),
     ))
     (λ c. c .before .loop .inv))

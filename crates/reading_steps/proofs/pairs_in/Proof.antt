@@ -89,7 +89,8 @@ pairs-in-spec =
     (λ c κs. search needs) (λ c. search needs) (λ c. search needs) (λ c. search needs) (λ c. search needs) (λ c. search needs)
     (λ c κs. search needs) (λ c. search needs) (λ c. search needs)
     (λ c.
-    let s = c .before .before .before in
+    let struct-known = c .before .before in
+    let s = struct-known .before in
     let l = s .before .before .loop in
     let j = c .joined .ensures in
     let n = s .in-suit .ensures in
@@ -101,10 +102,13 @@ pairs-in-spec =
     (λ c. search needs) (λ c. search needs) (λ c. search needs) (λ c κs. search needs) (λ c κs. search needs) (λ c. search needs) (λ c. search needs)
     (λ c.
     let w = c .before in
-    let l = w .before .before .before .loop2 in
+    let turn2 = w .before .before in
+    let l = turn2 .before .loop2 in
     let j = c .joined2 .ensures in
     (omega arith, omega arith, j .2 (l .inv .2) (omega arith), upto-honour _ _ _ (l .k) _ (l .inv .0) (w .wide .ensures .0) (j .0) (j .1) (l .inv .3)))
     (λ c.
     let l = c .before .loop2 in
     let e : l .k ≡ 34 = omega arith in
-    (l .inv .2, upto-all _ _ (c .before .before .before .before .pre) (rw e at (l .inv .3)))))
+    let after-loop = c .before .before in
+    let start = after-loop .before .before in
+    (l .inv .2, upto-all _ _ (start .pre) (rw e at (l .inv .3)))))

@@ -11,6 +11,9 @@ better-spec =
     (tie.spec
     (λ c. worth-no-more _ _ _ _ _ (c .if1 .taken))
     (λ c. search needs) (λ c. search needs) (λ c. search needs)
-    (λ c κs. let s = c .before .before .before .before .before in (s .pre .3 _, s .pre .2))
+    (λ c κs.
+    let else1 = c .before .before in
+    let struct-known = else1 .before .before in
+    let s = struct-known .before in (s .pre .3 _, s .pre .2))
     (λ c. omega (arith, c .before .value .ensures))
     (λ c. omega (arith, c .before .value .ensures)))

@@ -10,7 +10,10 @@ pub most-kept-spec : {M : Type 1} → statement M
 most-kept-spec =
     tie.close
     (tie.spec (λ c κs. search needs) (λ c κs. search needs)
-    (λ c. none-dead _ _ (c .before .before .before .args .table .now) _ _ (sym (c .before .live .ensures) ∙ not-true _ (c .if1 .taken)))
+    (λ c.
+    let live = c .before in
+    let start = live .before .before in
+    none-dead _ _ (start .args .table .now) _ _ (sym (live .live .ensures) ∙ not-true _ (c .if1 .taken)))
     (λ c κs.
     let e = c .before in
     let p = e .before .before in

@@ -41,7 +41,8 @@ nearest-spec =
     (λ c. omega arith)
     (λ c.
     let l = c .before .loop2 in
-    let k = c .before .before .before .loop .k - 1 in
+    let turn = c .before .before in
+    let k = turn .before .loop .k - 1 in
     let on : 80 * k + l .s ≡ 80 * k = omega arith in
     (omega (arith, l .inv .0), rw on at (l .inv .4)))
     (λ c. omega arith)
@@ -49,16 +50,20 @@ nearest-spec =
     (λ c. omega (arith, c .before .loop2 .inv .1))
     (λ c κs.
     let l = c .before .before .loop2 in
-    let s = c .before .before .before .before .before in
+    let loop2 = c .before .before in
+    let loop = loop2 .before .before in
+    let s = loop .before in
     (l .inv .0, omega (arith, l .inv .1), fours-hand _ _ _ (s .pre .0) (long s) _, l .inv .4 .small))
     (λ c. omega arith)
     (λ c. omega arith)
     (λ c. omega arith)
     (λ c. omega arith)
     (λ c.
-    let l = c .before .before .before .loop2 in
-    let s = c .before .before .before .before .before .before in
-    let k = c .before .before .before .before .before .loop .k - 1 in
+    let turn2 = c .before .before in
+    let l = turn2 .before .loop2 in
+    let turn = turn2 .before .before in
+    let s = turn .before .before in
+    let k = turn .before .loop .k - 1 in
     let on : 80 * k + (l .s - 1) + 1 ≡ 80 * k + l .s = omega arith in
     let so : Filling (s .args .t1) (s .args .t2) (80 * k + (l .s - 1) + 1) (l .table) = rw on (l .inv .4) in (
       l .inv .0,
@@ -67,11 +72,11 @@ nearest-spec =
       refl,
       filling-more _ _ _ k (l .s - 1) _ (fours-hand _ _ _ (s .pre .0) (long s)) (l .inv .0) (omega (arith, l .inv .1)) so (c .most-kept .ensures),
     ))
-    (λ c κs. let l = c .before .before .before .before in (
-      l .before .pre .0,
-      l .before .pre .1,
+    (λ c κs. let after-t = c .before .before in let l = after-t .before .before in let start = l .before in (
+      start .pre .0,
+      start .pre .1,
       filling-done _ _ _ _ (omega arith)
           (l .loop .inv .1),
-      long (l .before),
+      long start,
     ))
     (λ c. c .found .ensures))

@@ -24,7 +24,7 @@ short-spec =
     (λ c. omega (arith, c .before .before .pre .0))
     (λ c. omega arith)
     (λ c. omega arith)
-    (λ c. rw (c .before .before .before .loop .inv .1) (omega arith))
+    (λ c. let turn = c .before .before in rw (turn .before .loop .inv .1) (omega arith))
     (λ c. omega arith)
     (λ c. let i = c .before .before in record {
       kind = i .before .loop .k;
@@ -35,7 +35,9 @@ short-spec =
     })
     (λ c. omega arith)
     (λ c. omega arith)
-    (λ c. let l = c .before .before .before .loop in (omega arith, l .inv .1, below-more _ _ (l .inv .2) (c .if1 .left)))
+    (λ c.
+    let turn = c .before .before in
+    let l = turn .before .loop in (omega arith, l .inv .1, below-more _ _ (l .inv .2) (c .if1 .left)))
     (λ c.
     let t = c .before .before .args .t .now in
     let w = c .before .before .args .t2 in

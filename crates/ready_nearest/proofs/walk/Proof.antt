@@ -19,13 +19,19 @@ walk-spec =
     (λ c. walking-begin _ _ _ _ refl (c .pre .1 .0) (c .pre .1 .1))
     (λ c. omega arith)
     (λ c. omega (arith, c .before .before .pre .0 .0))
-    (λ c. omega (arith, c .before .before .before .pre .0 .1))
-    (λ c. c .before .before .before .before .pre .0 .3 _)
+    (λ c.
+    let turn = c .before in
+    let start = turn .before .before in
+    omega (arith, start .pre .0 .1))
+    (λ c.
+    let turn = c .before .before in
+    let start = turn .before .before in
+    start .pre .0 .3 _)
     (λ c κs. let i = c .before .before in let s = i .before .before in
     (i .loop-test .taken, i .before .loop .inv .state-low, s .pre .0 .2 _, s .pre .0 .4 .small))
     (λ c. omega arith)
     (λ c. omega arith)
     (λ c. omega arith)
-    (λ c. let i = c .before .before .before in let s = i .before .before in
+    (λ c. let choose-arg = c .before .before in let i = choose-arg .before in let s = i .before .before in
     walking-more _ _ (s .args .table .now) _ _ _ _ _ (i .loop-test .taken) (s .pre .0 .4) (i .before .loop .inv) (c .choose .ensures))
     (λ c. walking-done _ _ _ _ _ _ (omega (arith, c .before .loop .inv .low)) (c .before .loop .inv)))

@@ -27,10 +27,15 @@ with-pair-spec =
     pair-not _ _ t _ _ (s .pre .1) (s .pre .2) _ (s .pre .3) (e + 1) _ (c .if1 .taken) (h .pair .1)
     (takes-more _ _ t _ _ (s .pre .1) (s .pre .2) _ (s .pre .3) e _ _ _ _ _ (h .runs .0) (h .triplets .0) (h .pair .0) (omega (arith, s .pre .4))
     (omega arith) (s .pre .5) p _ (b .before .taking .ensures) (b .better .ensures)))
-    (λ c κs. let s = c .before .before .before .before in (s .pre .3 .sum, omega (arith, s .pre .4), omega arith, omega (arith, c .if1 .left), s .pre .3 .one))
-    (λ c κs. let s = c .before .before .before .before .before in (
+    (λ c κs.
+    let better = c .before .before in
+    let s = better .before .before in (s .pre .3 .sum, omega (arith, s .pre .4), omega arith, omega (arith, c .if1 .left), s .pre .3 .one))
+    (λ c κs.
+    let else1 = c .before in
+    let better = else1 .before .before in
+    let s = better .before .before in (
       rw (c .taking2 .ensures) (takes-low _ _ _ _ (s .pre .3 .sum) (s .pre .3 .one) (omega
-          (arith, s .pre .4)) (omega (arith, c .before .if1 .left))),
+          (arith, s .pre .4)) (omega (arith, else1 .if1 .left))),
       omega (arith, s .pre .0),
       s .pre .6,
       s .pre .7,

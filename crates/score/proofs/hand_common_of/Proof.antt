@@ -49,11 +49,16 @@ hand-common-of-spec =
     tie.close
     (tie.spec (λ c κs. search needs) (λ c κs. search needs) (λ c κs. search needs) (λ c κs. search needs) (λ c κs. search needs)
     (λ c.
-    let a = c .before .before .before .before .before .before .args in
-    let w = c .before .before .before .before .before .won-of in
-    let v = winds (a .h) (a .dealer) (a .wind) (w .result) (w .ensures) (c .before .before .before .before .before .before .pre .3) in (
+    let ways = c .before in
+    let codes = ways .before in
+    let tests = codes .before in
+    let won = tests .before .before in
+    let start = won .before in
+    let a = start .args in
+    let w = won .won-of in
+    let v = winds (a .h) (a .dealer) (a .wind) (w .result) (w .ensures) (start .pre .3) in (
       made (a .h) (a .dealer) (a .wind) (w .result) (w .ensures)
-          (c .before .before .before .tile-tests .result) (c .before .before .meld-codes .result) (c .before .meld-ways .result) (c .dora .result)
-          (c .before .before .before .tile-tests .ensures) (c .before .before .meld-codes .ensures) (c .before .meld-ways .ensures) (c .dora .ensures .0),
-      record { tests = c .before .before .before .tile-tests .ensures; round = v .0; own = v .1; dora = c .dora .ensures .1 },
+          (tests .tile-tests .result) (codes .meld-codes .result) (ways .meld-ways .result) (c .dora .result)
+          (tests .tile-tests .ensures) (codes .meld-codes .ensures) (ways .meld-ways .ensures) (c .dora .ensures .0),
+      record { tests = tests .tile-tests .ensures; round = v .0; own = v .1; dora = c .dora .ensures .1 },
     )))

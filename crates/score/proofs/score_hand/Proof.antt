@@ -14,14 +14,23 @@ use Rattle.score.proofs.score_hand.Tie as tie
 four : (c : tie.Start) → length (c .args .h .held .melds) ≡ 4
 four c = search needs
 
+-- the tally and the start, from what the search kept
+abbrev tallied : tie.After-search-for → tie.After-concealed-tally
+tallied c = c .before .before
+
+abbrev from-searched : tie.After-search-for → tie.Start
+from-searched c = tallied c .before
+
 -- what the search kept
-kept : (c : tie.After-search-for) → let a = c .before .before .before .args in c .search-for .result ≡ keptOf (a .h) (a .dealer) (a .wind)
+kept : (c : tie.After-search-for) → let a = from-searched c .args in c .search-for .result ≡ keptOf (a .h) (a .dealer) (a .wind)
 kept c =
-    let start = c .before .before .before in
+    let common = c .before in
+    let tally = tallied c in
+    let start = tally .before in
     let a = start .args in
     kept-in (a .h) (start .pre .0) (four start) (a .dealer) (a .wind)
-    (c .before .before .hand-common-of .result) (c .before .concealed-tally .result) (c .search-for .result)
-    (c .before .before .hand-common-of .ensures .0) (c .before .concealed-tally .ensures) (c .search-for .ensures)
+    (common .hand-common-of .result) (tally .concealed-tally .result) (c .search-for .result)
+    (common .hand-common-of .ensures .0) (tally .concealed-tally .ensures) (c .search-for .ensures)
 
 -- a yakuman is paid
 paid : (c : tie.Start) → Paid (c .args .h) (c .args .dealer)
@@ -35,29 +44,35 @@ pub score-hand-spec : {M : Type 1} → statement M
 score-hand-spec =
     tie.close
     (tie.spec (λ c κs. search needs) (λ c κs. search needs)
-    (λ c κs. (c .before .hand-common-of .ensures .1, c .before .before .pre .0))
+    (λ c κs. (c .hand-common-of .ensures .1, c .before .before .pre .0))
     (λ c κs.
-    let b = searched (c .before .before .before) in
-    let a = b .before .before .before .args in
+    let two = c .before .before in
+    let b = searched (two .before) in
+    let a = from-searched b .args in
     basic-kept (a .h) (a .dealer) (a .wind) (b .search-for .result) (kept b))
     (λ c.
-    let two = c .before .before .before in
+    let seats = c .before .before in
+    let two = seats .before in
     let b = searched (two .before) in
-    let common = b .before .before in
-    let a = common .before .args in
-    hand-score-named (a .h) (a .dealer) (a .wind) (paid (common .before)) _
+    let common = b .before in
+    let start = from-searched b in
+    let a = start .args in
+    hand-score-named (a .h) (a .dealer) (a .wind) (paid start) _
     (c .accepted .ensures ∙ hand-score-accepted (a .h) (a .dealer) (a .wind) (b .search-for .result) (kept b) (common .hand-common-of .result)
     (common .hand-common-of .ensures .0) (two .before .if1 .taken) (two .if2 .taken)))
     (λ c κs. search needs)
     (λ c.
     let one = c .before .before in
     let b = searched one in
-    let a = b .before .before .before .args in
-    hand-score-named (a .h) (a .dealer) (a .wind) (paid (b .before .before .before)) _
+    let start = from-searched b in
+    let a = start .args in
+    hand-score-named (a .h) (a .dealer) (a .wind) (paid start) _
     (c .refused .ensures ∙ hand-score-seven (a .h) (a .dealer) (a .wind) (b .search-for .result) (kept b) (one .if1 .taken) (c .before .if2 .left)))
     (λ c κs. search needs)
     (λ c.
-    let b = c .before .before .before in
-    let a = b .before .before .before .args in
-    hand-score-named (a .h) (a .dealer) (a .wind) (paid (b .before .before .before)) _
-    (c .refused2 .ensures ∙ hand-score-six (a .h) (a .dealer) (a .wind) (b .search-for .result) (kept b) (c .before .if1 .left))))
+    let none = c .before in
+    let b = none .before .before in
+    let start = from-searched b in
+    let a = start .args in
+    hand-score-named (a .h) (a .dealer) (a .wind) (paid start) _
+    (c .refused2 .ensures ∙ hand-score-six (a .h) (a .dealer) (a .wind) (b .search-for .result) (kept b) (none .if1 .left))))

@@ -9,4 +9,7 @@ unfolding wonOf
 won-of-spec =
     tie.close
     (tie.spec (λ c κs. search needs) (λ c. search needs) (λ c. search needs) (λ c. search needs) (λ c. search needs) (λ c κs. search needs)
-    (λ c. rw (c .before .is-closed .ensures, c .before .before .before .before .hand-tally .ensures)))
+    (λ c.
+    let closed = c .before in
+    let own = closed .before .before in
+    rw (closed .is-closed .ensures, own .before .with-melds .ensures)))

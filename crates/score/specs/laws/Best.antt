@@ -17,7 +17,8 @@ use Rattle.score_best.specs.Best.{withYakuman, upTo}
 use Rattle.score_best.specs.search.Best.{noneOf, keepBetterBy, bestOf}
 use Rattle.score_best.specs.laws.First.{Kept, MayEnd, kept-all, kept-same}
 use Rattle.score_best.specs.laws.Tried.{tried-all}
-use Rattle.score.specs.Readings.{all-kinds, readingsOf, only-readings}
+use Rattle.score.specs.Readings.{all-kinds, readingsOf}
+use Rattle.score.specs.laws.Readings.{only-readings}
 use Rattle.score.specs.Named.{worth, seatsOf, IsReadingOf, refusedWith, acceptedAs, triedIn}
 use Rattle.score.specs.search.HandScore.{handScoreBy, keptOf, handScoreOf}
 

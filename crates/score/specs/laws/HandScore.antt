@@ -7,7 +7,8 @@ use Rattle.hand_record.specs.Claims.{sound}
 use Rattle.score.specs.declared.Scored.{Scored}
 use Rattle.score.specs.Named.{refusedWith, Named}
 use Rattle.score.specs.IsScore.{IsScore}
-use Rattle.score.specs.Score.{scoreOf, one-score}
+use Rattle.score.specs.Score.{scoreOf}
+use Rattle.score.specs.laws.One.{one-score}
 use Rattle.score.specs.search.HandScore.{handScoreOf, foundOf}
 use Rattle.score.specs.laws.Found.{found-read, found-unreadable}
 use Rattle.score.specs.laws.Paid.{read-paid}

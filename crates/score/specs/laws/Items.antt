@@ -9,7 +9,7 @@ use Rattle.tiles.specs.laws.Tabulate.{getD-tabulate}
 use Rattle.hand.specs.declared.Hand.{Hand}
 use Rattle.reading.specs.declared.Reading.{Reading}
 use Rattle.yaku.specs.Yaku.{yakuman}
-use Rattle.points_fu.specs.Fu.{fu, groupFu, added, baseAlone, regularItems, itemsOf}
+use Rattle.points_fu.specs.Fu.{fu, groupFu, added, regularItems, itemsOf}
 use Rattle.points_value.specs.Value.{valueOf}
 use Rattle.points_value.specs.Claims.{items-add-up}
 use Rattle.points_fu.specs.laws.Items.{added-alone}
@@ -27,11 +27,6 @@ module _ (h : Hand) (dealer wind : ℕ) where
   named-total (six n) = added-alone 0
   named-total (seven q i n) = added-alone 0
 
-  named-none : {a : Scored} → Named h dealer wind a → (a .refusal ≡ 0 → ⊥) → a .items ≡ baseAlone 0
-  named-none (reported r i) e = absurd (e refl)
-  named-none (six n) e = refl
-  named-none (seven q i n) e = refl
-
   pub group-item : (r : Reading) → r .shape ≡ 0 → yakuman (wonOf h dealer wind) (fullReadingOf h r) ≡ false →
       (i : ℕ) → i < 4 → getD (worth h dealer wind r .items .group) i (fu 0) ≡ fu (groupFu (getD (groupsOf h r) i 0) (getD (waysOf h r) i 0))
   unfolding worth valueOf itemsOf regularItems fullReadingOf groupsOf waysOf
@@ -42,8 +37,3 @@ module _ {s : List ℕ} {dealer wind : ℕ} where
   total (eight o) = added-alone 0
   total (unreadable d w n e) = added-alone 0
   total (read d w f e n) = named-total _ dealer wind n
-
-  pub none : {a : Scored} → IsScore s dealer wind a → (a .refusal ≡ 0 → ⊥) → a .items ≡ baseAlone 0
-  none (eight o) e = refl
-  none (unreadable d w n q) e = refl
-  none (read d w f q n) e = named-none _ dealer wind n e

@@ -117,10 +117,10 @@ module _ (h : Hand) (dealer wind : ℕ) where
   tried (six n) e = absurd (omega arith)
   tried (seven q i n) e = absurd (omega arith)
 
-  pub none-tried : {x : Scored} → Named h dealer wind x → (x .refusal ≡ 0 → ⊥) → x .tried ≡ 0
-  none-tried (reported r a) e = absurd (e refl)
-  none-tried (six n) e = refl
-  none-tried (seven q i n) e = refl
+  pub named-zero : {x : Scored} → Named h dealer wind x → (x .refusal ≡ 0 → ⊥) → x ≡ refusedWith (x .refusal)
+  named-zero (reported r a) e = absurd (e refl)
+  named-zero (six n) e = refl
+  named-zero (seven q i n) e = refl
 
   -- what the code finds is what is named
   pub hand-score-named : Paid h dealer → (x : Scored) → x ≡ handScoreOf h dealer wind → Named h dealer wind x × (x ≡ handScoreOf h dealer wind)

@@ -32,7 +32,8 @@ use Rattle.points_value.specs.laws.Han.{fixedHan, hanBy, values-apart, han-at}
 use Rattle.score.specs.declared.Scored.{Scored}
 use Rattle.score.specs.Named.{wonOf, seatsOf, fullReadingOf, worth, Named, reported, six, seven}
 use Rattle.score.specs.IsScore.{IsScore, eight, unreadable, read}
-use Rattle.score.specs.Score.{scoreOf, is-score}
+use Rattle.score.specs.Score.{scoreOf}
+use Rattle.score.specs.laws.One.{is-score}
 
 -- ---- h
 

@@ -11,10 +11,12 @@ use Rattle.reading.specs.declared.Reading.{Reading}
 use Rattle.reading.specs.Order.{Before}
 use Rattle.score_best.specs.Best.{withYakuman, upTo}
 use Rattle.score.specs.declared.Scored.{Scored}
-use Rattle.score.specs.Readings.{AreReadingsOf, only-readings}
-use Rattle.score.specs.Named.{worth, IsReadingOf, IsReported}
+use Rattle.score.specs.Readings.{AreReadingsOf}
+use Rattle.score.specs.laws.Readings.{only-readings}
+use Rattle.score.specs.Named.{worth, IsReadingOf, IsReported, refusedWith}
 use Rattle.score.specs.IsScore.{IsScore, eight, unreadable, read}
-use Rattle.score.specs.Score.{scoreOf, is-score}
+use Rattle.score.specs.Score.{scoreOf}
+use Rattle.score.specs.laws.One.{is-score}
 use Rattle.score.specs.laws.Paid as paid
 use Rattle.score.specs.laws.Named as named
 use Rattle.score.specs.laws.HandScore.{scored}
@@ -28,13 +30,13 @@ module _ (s : List ℕ) (dealer wind : ℕ) where
       named.tried h dealer wind (scored s dealer wind d w i) e
       ∙ ap (λ (l : List Reading). length (upTo (withYakuman (worth h dealer wind)) l)) (sym (only-readings h rs a))
 
-  of-answer : {x : Scored} → IsScore s dealer wind x → (x .refusal ≡ 0 → ⊥) → x .tried ≡ 0
+  of-answer : {x : Scored} → IsScore s dealer wind x → (x .refusal ≡ 0 → ⊥) → x ≡ refusedWith (x .refusal)
   of-answer (eight o) n = refl
   of-answer (unreadable d w k e) n = refl
-  of-answer (read d w f e m) n = named.none-tried (handOf (readOf s)) dealer wind m n
+  of-answer (read d w f e m) n = named.named-zero (handOf (readOf s)) dealer wind m n
 
-  pub none-tried : (scoreOf s dealer wind .refusal ≡ 0 → ⊥) → scoreOf s dealer wind .tried ≡ 0
-  none-tried n = of-answer (is-score s dealer wind) n
+  pub refused-zero : (scoreOf s dealer wind .refusal ≡ 0 → ⊥) → scoreOf s dealer wind ≡ refusedWith (scoreOf s dealer wind .refusal)
+  refused-zero n = of-answer (is-score s dealer wind) n
 
   pub first-yakuman : dealer ≤ 3 → IsSound s →
       let h = handOf (readOf s) in

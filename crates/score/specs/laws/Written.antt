@@ -11,7 +11,8 @@ use Rattle.hand_record.specs.laws.Round.{same-hand}
 use Rattle.score.specs.declared.Scored.{Scored}
 use Rattle.score.specs.Named.{refusedWith, Named}
 use Rattle.score.specs.IsScore.{eight, read}
-use Rattle.score.specs.Score.{scoreOf, one-score}
+use Rattle.score.specs.Score.{scoreOf}
+use Rattle.score.specs.laws.One.{one-score}
 use Rattle.hand_record.specs.laws.Sound.{written-back}
 
 pub score-eight : (s : List ℕ) (dealer wind : ℕ) → (3 < dealer) ⊎ (1 < wind) → scoreOf s dealer wind ≡ refusedWith 8

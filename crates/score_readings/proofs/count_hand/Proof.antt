@@ -16,12 +16,12 @@ pub count-hand-spec : {M : Type 1} → statement M
 count-hand-spec =
     tie.close
     (tie.spec (λ c κs. search needs) (λ c κs. search needs)
-    (λ c κs. (c .before .hand-common-of .ensures .1, c .before .before .pre .0))
+    (λ c κs. (c .hand-common-of .ensures .1, c .before .before .pre .0))
     (λ c.
-    let t = c .before .before in
-    let start = t .before in
+    let t = c .before in
+    let y = t .before in
+    let start = y .before in
     let a = start .args in
     counts-all (a .h) (a .dealer) (a .wind) 1 (omega arith) (c .search-for .result)
-    (search-in (a .h) (start .pre .0) (four start) (a .dealer) (a .wind) (t .hand-common-of .result) (c .before .concealed-tally .result)
-    (c .search-for .result)
-    (t .hand-common-of .ensures .0) (c .before .concealed-tally .ensures) 1 (c .search-for .ensures))))
+    (search-in (a .h) (start .pre .0) (four start) (a .dealer) (a .wind) (t .hand-common-of .result) (y .concealed-tally .result) (c .search-for .result)
+    (t .hand-common-of .ensures .0) (y .concealed-tally .ensures) 1 (c .search-for .ensures))))

@@ -20,9 +20,15 @@ four c = search needs
 some : (c : tie.Else1) → 0 < c .before .args .n
 some c = omega (arith, c .if1 .left)
 
--- the start, from what the first search found
+-- the tally, where n is known not to be 0, and the start, from what the first search found
+abbrev tallied : tie.After-search-for → tie.After-concealed-tally
+tallied c = c .before .before
+
+abbrev not-zero : tie.After-search-for → tie.Else1
+not-zero c = tallied c .before
+
 abbrev from-found : tie.After-search-for → tie.Start
-from-found c = c .before .before .before .before
+from-found c = not-zero c .before
 
 -- what the first search kept
 found : (c : tie.After-search-for)
@@ -31,9 +37,10 @@ found : (c : tie.After-search-for)
 found c =
     let start = from-found c in
     let a = start .args in
-    let t = c .before .before in
-    search-in (a .h) (start .pre .0) (four start) (a .dealer) (a .wind) (t .hand-common-of .result) (c .before .concealed-tally .result) (c .search-for .result)
-    (t .hand-common-of .ensures .0) (c .before .concealed-tally .ensures) (a .n) (c .search-for .ensures)
+    let t = c .before in
+    let y = tallied c in
+    search-in (a .h) (start .pre .0) (four start) (a .dealer) (a .wind) (t .hand-common-of .result) (y .concealed-tally .result) (c .search-for .result)
+    (t .hand-common-of .ensures .0) (y .concealed-tally .ensures) (a .n) (c .search-for .ensures)
 
 -- and the second
 best : (c : tie.After-search-for2) → let a = from-found (c .before .before) .args in c .search-for2 .result ≡ keptOf (a .h) (a .dealer) (a .wind)
@@ -41,9 +48,10 @@ best c =
     let b = c .before .before in
     let start = from-found b in
     let a = start .args in
-    let t = b .before .before in
-    kept-in (a .h) (start .pre .0) (four start) (a .dealer) (a .wind) (t .hand-common-of .result) (b .before .concealed-tally .result) (c .search-for2 .result)
-    (t .hand-common-of .ensures .0) (b .before .concealed-tally .ensures) (c .search-for2 .ensures)
+    let t = b .before in
+    let y = tallied b in
+    kept-in (a .h) (start .pre .0) (four start) (a .dealer) (a .wind) (t .hand-common-of .result) (y .concealed-tally .result) (c .search-for2 .result)
+    (t .hand-common-of .ensures .0) (y .concealed-tally .ensures) (c .search-for2 .ensures)
 
 pub nth-hand-spec : {M : Type 1} → statement M
 nth-hand-spec =
@@ -52,25 +60,29 @@ nth-hand-spec =
     (λ c. let a = c .before .before .args in c .refused .ensures ∙ nth-zero (a .h) (a .dealer) (a .wind) (a .n) (c .before .if1 .taken))
     (λ c κs. search needs)
     (λ c κs. search needs)
-    (λ c κs. (c .before .hand-common-of .ensures .1, c .before .before .before .pre .0))
-    (λ c κs. let b = c .before in (b .before .before .hand-common-of .ensures .1, from-found b .pre .0))
+    (λ c κs. let some = c .before .before in (c .hand-common-of .ensures .1, some .before .pre .0))
+    (λ c κs. let b = c .before in (b .before .hand-common-of .ensures .1, from-found b .pre .0))
     (λ c κs. search needs)
     (λ c κs.
-    let two = c .before .before .before .before .before in
+    let same = c .before in
+    let read = same .before .before in
+    let x = read .before in
+    let two = x .before in
     let b = two .before in
     let a = from-found b .args in (
-      b .before .before .hand-common-of .ensures .1,
-      found-le (a .h) (a .dealer) (a .wind) (a .n) (some (b .before .before .before)) (b .search-for .result) (found b) (two .if2 .taken),
+      b .before .hand-common-of .ensures .1,
+      found-le (a .h) (a .dealer) (a .wind) (a .n) (some (not-zero b)) (b .search-for .result) (found b) (two .if2 .taken),
     ))
     (λ c.
     let same = c .before .before in
-    let x = same .before .before .before in
+    let read = same .before .before in
+    let x = read .before in
     let two = x .before in
     let b = two .before in
     let start = from-found b in
     let a = start .args in
-    let t = b .before .before in
-    nth-shown (a .h) (a .dealer) (a .wind) (a .n) (some (t .before)) (b .search-for .result) (found b) (start .pre .0) (four start)
+    let t = b .before in
+    nth-shown (a .h) (a .dealer) (a .wind) (a .n) (some (not-zero b)) (b .search-for .result) (found b) (start .pre .0) (four start)
     (t .hand-common-of .result) (t .hand-common-of .ensures .0) (two .if2 .taken) (x .search-for2 .result) (best x) (same .same .result) (same .same .ensures)
     (c .shown .result) (c .shown .ensures))
     (λ c κs. search needs)
@@ -78,4 +90,4 @@ nth-hand-spec =
     let b = c .before .before in
     let a = from-found b .args in
     c .refused2 .ensures
-    ∙ nth-none (a .h) (a .dealer) (a .wind) (a .n) (some (b .before .before .before)) (b .search-for .result) (found b) (c .before .if2 .left)))
+    ∙ nth-none (a .h) (a .dealer) (a .wind) (a .n) (some (not-zero b)) (b .search-for .result) (found b) (c .before .if2 .left)))

@@ -26,7 +26,8 @@ use Rattle.points_value.specs.Han.{han, hanEach, yakuHan, hanOf}
 use Rattle.points_value.specs.Value.{valueOf}
 use Rattle.score_best.specs.Best.{withYaku, withYakuman, upTo}
 use Rattle.score.specs.declared.Scored.{Scored}
-use Rattle.score.specs.Readings.{AreReadingsOf, readingsOf, are-readings, only-readings}
+use Rattle.score.specs.Readings.{AreReadingsOf, readingsOf}
+use Rattle.score.specs.laws.Readings.{are-readings, only-readings}
 use Rattle.score.specs.Named.{wonOf, seatsOf, fullReadingOf, worth, IsReadingOf, IsReported, scoredAs}
 use Rattle.score.specs.Score.{scoreOf}
 use Rattle.score.specs.Claims as score
@@ -36,7 +37,8 @@ use Rattle.score_readings.specs.declared.ReadingCount.{ReadingCount}
 use Rattle.score_readings.specs.Shown.{nthIn, paidOf, shownAs, readingIn, HasFigures}
 use Rattle.score_readings.specs.IsNth.{IsNth, eight, unreadable, no-such, shown}
 use Rattle.score_readings.specs.Count.{countBy, countOf}
-use Rattle.score_readings.specs.NthOf.{nthOf, is-nth, one-nth}
+use Rattle.score_readings.specs.NthOf.{nthOf}
+use Rattle.score_readings.specs.laws.One.{is-nth, one-nth}
 use Rattle.score_readings.specs.search.Found.{isKept, foundOf}
 use Rattle.score_readings.specs.laws.Same.{kept-iff, one-reported}
 use Rattle.score_readings.specs.laws.Found.{nth-reads}

@@ -26,7 +26,8 @@ use Rattle.score_best.specs.declared.HandCommon.{HandCommon}
 use Rattle.score_best.specs.declared.Best.{Best}
 use Rattle.score_best.specs.search.Best.{searchFor}
 use Rattle.score_best.specs.laws.Nth.{over, reached}
-use Rattle.score.specs.Readings.{all-kinds, readingsOf, are-readings, only-readings}
+use Rattle.score.specs.Readings.{all-kinds, readingsOf}
+use Rattle.score.specs.laws.Readings.{are-readings, only-readings}
 use Rattle.score.specs.Named.{wonOf, seatsOf, fullReadingOf, worth, IsReadingOf}
 use Rattle.score.specs.search.HandCommon.{handCommonOf}
 use Rattle.score.specs.search.HandScore.{keptOf}

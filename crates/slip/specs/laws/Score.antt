@@ -22,7 +22,8 @@ use Rattle.points_fu.specs.laws.Items.{rounded-up}
 use Rattle.score.specs.declared.Scored.{Scored}
 use Rattle.score.specs.Named.{wonOf, seatsOf, fullReadingOf, worth, Named, reported, six, seven}
 use Rattle.score.specs.IsScore.{IsScore, eight, unreadable, read}
-use Rattle.score.specs.Score.{scoreOf, is-score}
+use Rattle.score.specs.Score.{scoreOf}
+use Rattle.score.specs.laws.One.{is-score}
 
 -- ---- with a yakuman "h and fu are 0"
 

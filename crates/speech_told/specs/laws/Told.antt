@@ -20,7 +20,8 @@ use Rattle.points_value.specs.Claims.{yakuman-pays-as-one}
 use Rattle.score.specs.declared.Scored.{Scored}
 use Rattle.score.specs.Named.{wonOf, seatsOf, fullReadingOf, worth, Named, reported, six, seven}
 use Rattle.score.specs.IsScore.{IsScore, eight, unreadable, read}
-use Rattle.score.specs.Score.{scoreOf, is-score}
+use Rattle.score.specs.Score.{scoreOf}
+use Rattle.score.specs.laws.One.{is-score}
 use Rattle.speech_told.specs.Phrases.{player, worthClips, amountClips, paymentsClips}
 use Rattle.speech_told.specs.Messages.{scoreMessage, scoreSaid}
 use Rattle.speech_told.specs.Told.{Agree}

@@ -31,7 +31,8 @@ use Rattle.score_best.specs.Best.{Over, withYakuman, upTo}
 use Rattle.score.specs.declared.Scored.{Scored}
 use Rattle.score.specs.Named.{wonOf, seatsOf, groupsOf, waysOf, fullReadingOf, worth, IsReadingOf, ReadsWithYaku, IsReported, triedIn, scoredAs, Named}
 use Rattle.score.specs.Named.{reported, six, seven, acceptedAs}
-use Rattle.score.specs.Readings.{AreReadingsOf, readingsOf, are-readings, only-readings}
+use Rattle.score.specs.Readings.{AreReadingsOf, readingsOf}
+use Rattle.score.specs.laws.Readings.{are-readings, only-readings}
 use Rattle.score.specs.Score.{scoreOf}
 use Rattle.score.specs.Claims.{scored}
 use Rattle.symmetry.specs.Rotated.{on, rotatedHand, rotatedRecord, RotatedScore}

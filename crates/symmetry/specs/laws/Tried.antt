@@ -12,7 +12,8 @@ use Rattle.reading.specs.All.{Each, none, also, Pairwise, ended, first}
 use Rattle.yaku_tiles.specs.OfTiles.{only, isGreen}
 use Rattle.yaku.specs.Yaku.{isYakuman}
 use Rattle.score_best.specs.Best.{withYakuman, upTo}
-use Rattle.score.specs.Readings.{AreReadingsOf, readingsOf, are-readings, only-readings}
+use Rattle.score.specs.Readings.{AreReadingsOf, readingsOf}
+use Rattle.score.specs.laws.Readings.{are-readings, only-readings}
 use Rattle.score.specs.Named.{worth, IsReadingOf, triedIn}
 use Rattle.symmetry.specs.laws.Kinds.{Renaming}
 use Rattle.symmetry.specs.laws.Hands.{Renames}

@@ -31,7 +31,10 @@ first-returns t c =
 -- the last digit after those of a tenth
 last-returns : (t : ℕ) → digits-lts.Need-returns-2 (digits-below t, digits.Post) (digits-at t) digits.Post
 last-returns t c =
-    put-more (c .before .before .before .before .before .before .args .n) (c .before .before .before .before .if1 .left) (c .before .before .digits .ensures)
+    let after-digits = c .before .before in
+    let else1 = after-digits .before .before in
+    let start = else1 .before .before in
+    put-more (start .args .n) (else1 .if1 .left) (after-digits .digits .ensures)
 
 pub +digits-spec : {M : Type 1} → statement M
 +digits-spec =
@@ -47,16 +50,26 @@ pub +digits-spec : {M : Type 1} → statement M
     (λ c. omega (arith, length-one (c .before .before .args .n) (c .if1 .taken)))
     (λ c. length-set (c .before .before .args .buf .now) (c .before .before .args .at) (48 + c .before .before .args .n))
     (first-returns t)
-    (λ c κs. (omega arith, omega (arith, length-more (c .before .before .before .args .n) (c .before .if1 .left))))
+    (λ c κs.
+    let else1 = c .before in
+    let start = else1 .before .before in
+    (omega arith, omega (arith, length-more (start .args .n) (else1 .if1 .left))))
     (λ c. omega arith)
     (λ c. omega arith)
-    (λ c. omega (
-      arith,
-      length-more (c .before .before .before .before .before .before .args .n)
-          (c .before .before .before .before .if1 .left),
-      c .before .before .digits .kept .0,
-    ))
-    (λ c. omega (arith, length-more (c .before .before .before .before .before .before .args .n) (c .before .before .before .before .if1 .left)))
-    (λ c. length-set (c .before .before .digits .last .0) (c .before .before .digits .result)
-    (48 + c .before .before .before .before .before .before .args .n % 10) ∙ c .before .before .digits .kept .0)
+    (λ c.
+    let after-digits = c .before .before in
+    let else1 = after-digits .before .before in
+    let start = else1 .before .before in
+    omega (arith, length-more (start .args .n) (else1 .if1 .left), after-digits .digits .kept .0))
+    (λ c.
+    let after-digits = c .before .before in
+    let else1 = after-digits .before .before in
+    let start = else1 .before .before in
+    omega (arith, length-more (start .args .n) (else1 .if1 .left)))
+    (λ c.
+    let after-digits = c .before .before in
+    let else1 = after-digits .before .before in
+    let start = else1 .before .before in
+    length-set (after-digits .digits .last .0) (after-digits .digits .result)
+    (48 + start .args .n % 10) ∙ after-digits .digits .kept .0)
     (last-returns t)

@@ -9,10 +9,15 @@ use Rattle.text.specs.laws.Put.{put-after}
 use Rattle.text.proofs.score.Statement.{statement}
 use Rattle.text.proofs.score.Tie as tie
 
+-- the start, from after `signed`
+abbrev start-of : tie.After-signed → tie.Start
+start-of c = let slice-known = c .before .before in slice-known .before
+
 -- what `signed` put there
-put : (c : tie.After-signed) → Put (c .before .before .before .args .buf .now) (c .before .before .before .args .at)
-    (signedOf (c .before .before .before .args .n)) (c .signed .last .0) (c .signed .result)
-put c = rw (toZ-ofZ (c .before .before .before .fits .n)) at (c .signed .ensures)
+put : (c : tie.After-signed)
+    → let start = start-of c in
+    Put (start .args .buf .now) (start .args .at) (signedOf (start .args .n)) (c .signed .last .0) (c .signed .result)
+put c = rw (toZ-ofZ (start-of c .fits .n)) at (c .signed .ensures)
 
 signed-requires : tie.Need-signed-requires
 signed-requires c κs =
@@ -21,8 +26,9 @@ signed-requires c κs =
 
 returns : tie.Need-returns
 returns c =
-    let s = c .before .before .before .before .before in
-    let p = put (c .before .before) in
+    let signed = c .before .before in
+    let s = start-of signed in
+    let p = put signed in
     (put-after 32 p, omega (arith, length-signed-32 (s .args .n) (s .fits .n)))
 
 pub score-spec : {M : Type 1} → statement M
@@ -30,17 +36,13 @@ score-spec =
     tie.close
     (tie.spec
     signed-requires
-    (λ c. omega (
-      arith,
-      put (c .before .before) .place,
-      length-signed-32 (c .before .before .before .before .before .args .n)
-          (c .before .before .before .before .before .fits .n),
-    ))
-    (λ c. omega (
-      arith,
-      put (c .before .before) .place,
-      length-signed-32 (c .before .before .before .before .before .args .n)
-          (c .before .before .before .before .before .fits .n),
-    ))
+    (λ c.
+    let signed = c .before .before in
+    let start = start-of signed in
+    omega (arith, put signed .place, length-signed-32 (start .args .n) (start .fits .n)))
+    (λ c.
+    let signed = c .before .before in
+    let start = start-of signed in
+    omega (arith, put signed .place, length-signed-32 (start .args .n) (start .fits .n)))
     (λ c. search needs)
     returns)

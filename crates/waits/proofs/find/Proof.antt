@@ -10,7 +10,8 @@ use Rattle.hand.specs.declared.Held.{Held}
 use Rattle.unfinished.specs.laws.Sound.{refusal-is, held-is, sound-held}
 use Rattle.waits.specs.declared.Waits.{Waits}
 use Rattle.waits.specs.Waits.{IsWaits}
-use Rattle.waits.specs.Answer.{waitsOf, one-answer}
+use Rattle.waits.specs.Answer.{waitsOf}
+use Rattle.waits.specs.laws.One.{one-answer}
 use Rattle.waits.specs.search.Found.{someIn, foundOf}
 use Rattle.waits.specs.laws.Exact.{found, found-unreadable, found-fifteen, found-waits}
 use Rattle.waits.proofs.find.Statement.{statement}

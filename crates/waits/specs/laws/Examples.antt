@@ -13,7 +13,8 @@ use Rattle.reading.specs.search.Readings.{isEmpty, less, fits, without}
 use Rattle.reading_splits.specs.search.SplitsInto.{lowest, pieceAt, splitsInto}
 use Rattle.unfinished.specs.Unfinished.{countIn, heldRefusal, refusalOf, widths, paddingOf}
 use Rattle.waits.specs.Waits.{withOne}
-use Rattle.waits.specs.Answer.{waitsOf, one-answer}
+use Rattle.waits.specs.Answer.{waitsOf}
+use Rattle.waits.specs.laws.One.{one-answer}
 use Rattle.waits.specs.search.Found.{reads, isWait, waitSet, foundOf}
 use Rattle.waits.specs.laws.Exact.{found}
 

@@ -1,0 +1,4 @@
+pub mod Store
+pub mod Round
+pub mod Claims
+pub mod Examples
