@@ -1,6 +1,6 @@
 #!/usr/bin/env bash
 # Tests the archive that firmware links, and the tester's tool: run.sh [COUNT [SEED]]
-# Checks pages and header against the tree (tools/check.sh), the header's structs and calls field by field; runs test.c, the example of firmware and
+# Checks pages and header against the tree (tools/check.sh), the header's structs and calls field by field; runs the C tests, the example of firmware and
 # the tool's tests; then compares COUNT random hands, and logs, with the other scorer.
 # The archive is HANDSET_LIB/libhandset.a; without it, build.sh sees to it. Ends with `interface: all agree` or exits 1.
 set -euo pipefail
@@ -23,7 +23,7 @@ echo "archive: $archive"
 
 made=$(mktemp -d)
 trap 'rm -rf -- "$made"' EXIT
-gcc -std=c99 -Wall -Wextra -Werror -I "$root/include" "$here/test.c" "$archive" -o "$made/test"
+gcc -std=c99 -Wall -Wextra -Werror -I "$root/include" "$here"/tests/*.c "$archive" -o "$made/test"
 "$made/test"
 gcc -std=c99 -Wall -Wextra -Werror -I "$root/include" "$root/examples/firmware.c" "$archive" -o "$made/firmware"
 "$made/firmware" | diff - "$root/examples/firmware.txt"

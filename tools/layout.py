@@ -124,18 +124,28 @@ class Layout:
         return f"{back} {name}({', '.join(types) or 'void'});"
 
 
+def declared(text):
+    """The names, C types and array lengths (or None) of the fields or parameters in a declaration such as `const uint8_t *a, b[4]`."""
+    found, kind = [], ""
+    for part in text.split(","):
+        m = re.fullmatch(r"((?:const )?\w+ )?(\**)(\w+)(?:\[(\w+)\])?", " ".join(part.split()).replace("* ", "*"))
+        if not m:
+            raise Fault(f"include/herbassolh.h: {part.strip()}: no declaration")
+        kind = m.group(1) or kind
+        found.append((m.group(3), kind + m.group(2) if m.group(2) else kind.strip(), m.group(4)))
+    return found
+
+
 def header():
-    """The header's structs, each with the names of its fields, and its calls."""
+    """The header's structs, each with its fields, and its calls, each with what it gives and its parameters."""
     text = re.sub(r"/\*.*?\*/", " ", tree.read(HEADER), flags=re.S)
     text = re.sub(r"^#.*$", "", text, flags=re.M)
     structs = {}
     for body, name in re.findall(r"typedef struct (?:\w+ )?\{([^}]*)\} (\w+);", text):
-        names = []
-        for declared in body.split(";"):
-            if declared.strip():
-                names += [re.sub(r"\[\w+\]|\*", "", d).split()[-1] for d in declared.split(",")]
-        structs[name] = names
-    calls = set(re.findall(r"^[\w *]+?\b(hb_\w+)\(", text, flags=re.M))
+        structs[name] = [field for line in body.split(";") if line.strip() for field in declared(line)]
+    calls = {}
+    for back, name, given in re.findall(r"^(\w+) (hb_\w+)\(([^)]*)\);", text, flags=re.M):
+        calls[name] = back, [] if given == "void" else [p for part in given.split(",") for p in declared(part)]
     return structs, calls
 
 
@@ -153,11 +163,11 @@ def faults_of(layouts):
         here, there = [f[0] for f in fields], structs.get(partner(name))
         if there is None:
             said.append(f"include/herbassolh.h: no struct {partner(name)} ({', '.join(here)})")
-        elif here != there:
-            said.append(f"include/herbassolh.h: {partner(name)} has {', '.join(there)}; {name} has {', '.join(here)}")
+        elif here != [field for field, _, _ in there]:
+            said.append(f"include/herbassolh.h: {partner(name)} has {', '.join(field for field, _, _ in there)}; {name} has {', '.join(here)}")
     said += [f"include/herbassolh.h: {n}: no such struct is given to C" for n in structs if n not in set(map(partner, layout.structs))]
     said += [f"include/herbassolh.h: no {declaration}" for n, declaration in layout.calls.items() if n not in calls]
-    said += [f"include/herbassolh.h: {n}: no such exported call" for n in sorted(calls - set(layout.calls))]
+    said += [f"include/herbassolh.h: {n}: no such exported call" for n in sorted(set(calls) - set(layout.calls))]
     padded = {partner(name) for one in layouts.values() for name in one.padded}
     if padded != padding():
         said.append(f"include/herbassolh.h: bytes between members are in {', '.join(sorted(padded))}; it names {', '.join(sorted(padding())) or 'none'}")
@@ -198,4 +208,5 @@ def main():
     print("\n".join(c_file(layouts)))
 
 
-main()
+if __name__ == "__main__":
+    main()

@@ -9,7 +9,7 @@ ends and line ends left out.
 Not counted: proofs under a statement, specs/laws/ and specs/search/, the kit's own names, attributes. Given apart: comment lines at what is
 counted, and import lines of the files of specs/ that hold any of it.
 
-The row `papers` counts what documents 01 and 02 ask for, without what is said and every reading; `total` counts all.
+The row `papers` counts what documents 01 and 02 ask for, without what is said, every reading and a claim written; `total` counts all.
 Then it lists names of specs/laws/ and specs/search/ through which meaning passes (they are not followed), files of specs/ that import
 specs/search/, imports that name nothing, and the definitions of specs/ that nothing exported or claimed reaches, with who cites them: they may
 go. Exit status 1 where one of the first three is found. With --each, every counted item too."""
@@ -20,7 +20,8 @@ import sys
 import tree
 
 KINDS = {"definition": "definitions", "type": "definitions", "theorem": "statements", "function": "contracts", "struct": "structs"}
-BESIDE = ("speech_", "score_readings")  # what is said, and every reading: no document of the two asks for them
+BESIDE = ("speech_", "score_readings", "claim_writer", "unfinished_writer")  # what is said, every reading, writers: no document of the two asks for them
+CALLS = ("hb_say", "hb_reading", "hb_write_claim", "hb_write_unfinished", "hb_unfinished", "claim-within", "unfinished-within", "record-within")  # their calls, and what is said of these
 COLUMNS = ("definitions", "statements", "contracts", "structs")
 
 
@@ -28,11 +29,11 @@ class Count:
     """What is reached from the contracts and theorems of a tree."""
 
     def __init__(self, t, papers=False):
-        """With `papers`, from what documents 01 and 02 ask for alone: without what is said and without every reading."""
+        """With `papers`, from what documents 01 and 02 ask for alone: without what is said, every reading and a claim written."""
         self.tree = t
         self.roots = [i for i in t.items("src") if i.exported] + [i for i in t.items("specs") if i.kind == "theorem" and i.public]
         if papers:
-            self.roots = [i for i in self.roots if not i.file.crate.startswith(BESIDE) and not i.name.startswith(("hb_say", "hb_reading"))]
+            self.roots = [i for i in self.roots if not i.file.crate.startswith(BESIDE) and not i.name.startswith(CALLS)]
         self.reached, self.through = {}, {}
         todo = list(self.roots)
         while todo:

@@ -4,9 +4,10 @@
 - the table, rows of | `word` | means | `word` | means |: no word stands in two cells; no meaning has a second one (a `;` followed by "in a", "of a"
   or "also", or " also " anywhere; quotations and names in backquotes apart);
 - the paragraph that begins with `Retired:`: its words in backquotes stand in no cell, and in no identifier of crates/ (.rt, .antt), include/,
-  interface/, other_scorer/, portable/ and tools/, as a whole part of it. Parts of an identifier lie between _ - · and where lower case becomes upper.
+  interface/, other_scorer/, portable/, tools/ and desk/, as a whole part of it. Parts of an identifier lie between _ - · and where lower case becomes upper.
   A scope after a word, `many` (position, game, log), means only crates whose names begin so, or those folders beside crates/.
 Comments and strings are not looked at, nor what a file has from the kit: names that it imports from elsewhere than this tree, and paths into it."""
+import functools
 import glob
 import os
 import re
@@ -15,7 +16,7 @@ import sys
 import tree
 
 PAGE = "docs/STYLE.md"
-FOLDERS = ("include", "interface", "other_scorer", "portable", "tools")  # beside crates/
+FOLDERS = ("desk", "include", "interface", "other_scorer", "portable", "tools")  # beside crates/
 SECOND = re.compile(r";\s+(?:in an?|of an?|also)\b|\balso\b")
 SPAN = re.compile(r"`([^`]+)`")
 PART = re.compile(r"[A-Z]?[a-zà-ÿ]+|[A-Z]+(?![a-z])|\d+")
@@ -29,6 +30,13 @@ USE = re.compile(r"^\s*(?:pub )?(?:ghost )?use ([^;{\n]+?)(?:\.\{([^}]*)\}| as (
 def parts(name):
     """The parts of an identifier, in lower case."""
     return [part.lower() for piece in re.split(r"[_\-·]", name) for part in PART.findall(piece)]
+
+
+@functools.cache
+def met(name, words):
+    """Those of some words that an identifier has as whole parts."""
+    here = parts(name)
+    return [word for word in words if any(here[k:k + len(wanted)] == wanted for wanted in [parts(word)] for k in range(len(here)))]
 
 
 def table(text):
@@ -106,13 +114,10 @@ def check_sources(gone, counted):
     for path in sources():
         first, second, *_ = path.split(os.sep)
         where = second if first == "crates" else first
-        words = {word: parts(word) for word, scope in gone.items() if not scope or where.startswith(scope)}
+        words = tuple(word for word, scope in gone.items() if not scope or where.startswith(scope))
         counted.append(path)
         for number, name in identifiers(path, crates):
-            here = parts(name)
-            for word, wanted in words.items():
-                if any(here[k:k + len(wanted)] == wanted for k in range(len(here))):
-                    yield f"{path}:{number}: {name}: `{word}` is retired"
+            yield from (f"{path}:{number}: {name}: `{word}` is retired" for word in met(name, words))
 
 
 def main():

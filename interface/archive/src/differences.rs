@@ -14,13 +14,7 @@ pub struct Differences {
 
 impl Differences {
     /// Compares two answers and gives whether they are equal; keeps a difference with its input.
-    pub fn same<T: PartialEq + Debug>(
-        &mut self,
-        what: &str,
-        archive: T,
-        other: T,
-        input: impl FnOnce() -> String,
-    ) -> bool {
+    pub fn same<T: PartialEq + Debug>(&mut self, what: &str, archive: T, other: T, input: impl FnOnce() -> String) -> bool {
         if archive == other {
             return true;
         }

@@ -66,12 +66,7 @@ impl Games {
 
     /// Books the entry that bytes begin with in all three, by `hb_book_entry`, and compares; gives the archive's refusal, and the
     /// entry unless there is none.
-    pub fn book_entry(
-        &mut self,
-        differences: &mut Differences,
-        bytes: &[u8],
-        input: &dyn Fn() -> String,
-    ) -> (u8, Option<Entry>) {
+    pub fn book_entry(&mut self, differences: &mut Differences, bytes: &[u8], input: &dyn Fn() -> String) -> (u8, Option<Entry>) {
         let before = self.archive;
         let got = archive::book_entry(&mut self.archive, bytes);
         let Next::Entry { kind, argument, part } = next(bytes, 0) else {
@@ -87,14 +82,7 @@ impl Games {
 
     /// Books in the other two what the archive has booked; compares refusals and whole games, byte by byte. The archive's game then
     /// goes on as the other's, so that each difference is found by itself.
-    fn compare(
-        &mut self,
-        differences: &mut Differences,
-        before: archive::Game,
-        entry: &Entry,
-        got: u8,
-        input: &dyn Fn() -> String,
-    ) {
+    fn compare(&mut self, differences: &mut Differences, before: archive::Game, entry: &Entry, got: u8, input: &dyn Fn() -> String) {
         let wanted = self.other.book(entry);
         let (ledger, number) = self.ledger.after(entry);
         self.ledger = ledger;

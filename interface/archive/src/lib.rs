@@ -183,6 +183,17 @@ pub struct Cards {
 
 #[repr(C)]
 #[derive(Clone, Copy, Debug, PartialEq, Eq)]
+pub struct Claim {
+    pub gain: u32,
+    pub shape: u8,
+    pub pair: u8,
+    pub groups: [u8; 4],
+    pub place: u8,
+    pub m: u8,
+}
+
+#[repr(C)]
+#[derive(Clone, Copy, Debug, PartialEq, Eq)]
 pub struct Judged {
     pub refusal: u8,
     pub verdict: u8,
@@ -246,6 +257,9 @@ pub struct Printed {
 /// A buffer of so many bytes holds every record (HB_RECORD_MAX).
 pub const RECORD_MAX: usize = 13;
 
+/// And of so many every unfinished hand (HB_UNFINISHED_MAX).
+pub const UNFINISHED_MAX: usize = 11;
+
 /// A buffer of so many bytes holds every line of tally (HB_LINE_MAX).
 pub const LINE_MAX: usize = 83;
 
@@ -254,6 +268,9 @@ pub const SLIP_LENGTH: usize = 150;
 
 /// A buffer of so many bytes holds every list of practice cards (HB_CARDS_MAX).
 pub const CARDS_MAX: usize = 7968;
+
+/// No claim has more bytes (HB_CLAIM_MAX).
+pub const CLAIM_MAX: usize = 7;
 
 /// A buffer of so many bytes holds every message (HB_MESSAGE_MAX).
 pub const MESSAGE_MAX: usize = 155;
@@ -287,8 +304,11 @@ extern "C" {
     fn hb_slip(record: *const u8, record_len: usize, dealer: u8, wind: u8, page: *mut u8, len: usize) -> u8;
     fn hb_waits(hand: *const u8, len: usize, discards: *const u8, discards_len: usize) -> Waits;
     fn hb_ready(hand: *const u8, len: usize) -> Ready;
+    fn hb_write_unfinished(held: Held, buffer: *mut u8, len: usize) -> Written;
+    fn hb_unfinished(record: *const u8, record_len: usize, buffer: *mut u8, len: usize) -> Written;
     fn hb_cards(suit: u8, size: u8, buffer: *mut u8, len: usize) -> Cards;
     fn hb_judge(record: *const u8, len: usize, claim: *const u8, claim_len: usize, dealer: u8, wind: u8) -> Judged;
+    fn hb_write_claim(claim: Claim, buffer: *mut u8, len: usize) -> Written;
     fn hb_fresh_game() -> Game;
     fn hb_riichi(game: &mut Game, seat: u8) -> u8;
     fn hb_win(game: &mut Game, record: *const u8, len: usize) -> u8;
@@ -364,6 +384,16 @@ pub fn ready(hand: &[u8]) -> Ready {
     unsafe { hb_ready(hand.as_ptr(), hand.len()) }
 }
 
+/// Write, of an unfinished hand.
+pub fn write_unfinished(held: Held, buffer: &mut [u8]) -> Written {
+    unsafe { hb_write_unfinished(held, buffer.as_mut_ptr(), buffer.len()) }
+}
+
+/// The unfinished hand that a record is without its winning tile.
+pub fn unfinished(record: &[u8], buffer: &mut [u8]) -> Written {
+    unsafe { hb_unfinished(record.as_ptr(), record.len(), buffer.as_mut_ptr(), buffer.len()) }
+}
+
 /// Practice cards.
 pub fn cards(suit: u8, size: u8, buffer: &mut [u8]) -> Cards {
     unsafe { hb_cards(suit, size, buffer.as_mut_ptr(), buffer.len()) }
@@ -372,6 +402,11 @@ pub fn cards(suit: u8, size: u8, buffer: &mut [u8]) -> Cards {
 /// Judge.
 pub fn judge(record: &[u8], claim: &[u8], dealer: u8, wind: u8) -> Judged {
     unsafe { hb_judge(record.as_ptr(), record.len(), claim.as_ptr(), claim.len(), dealer, wind) }
+}
+
+/// Write claim.
+pub fn write_claim(claim: Claim, buffer: &mut [u8]) -> Written {
+    unsafe { hb_write_claim(claim, buffer.as_mut_ptr(), buffer.len()) }
 }
 
 /// A fresh game.

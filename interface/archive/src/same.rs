@@ -2,13 +2,14 @@
 
 use std::collections::BTreeMap;
 
-use other_scorer::claim::{code, group};
+use other_scorer::claim::{code, group, Claim, Fields};
 use other_scorer::log::{entry, letter, next, Next};
 use other_scorer::reading::Reading;
 use other_scorer::record::Meld;
 use other_scorer::rotate::moved_changes;
 use other_scorer::say::calls::{put, Message};
 use other_scorer::shown::{nth, Shown};
+use other_scorer::unfinished::{self, Unfinished};
 use other_scorer::Entry;
 
 use crate as archive;
@@ -28,16 +29,7 @@ pub fn to_other(hand: &archive::Hand) -> other_scorer::Hand {
 /// A hand in the archive's form.
 pub fn hand(hand: &other_scorer::Hand) -> archive::Hand {
     let mut bytes = [0; 25];
-    bytes[..8].copy_from_slice(&[
-        hand.how,
-        hand.winner,
-        hand.discarder,
-        hand.riichi,
-        hand.situation,
-        hand.indicator,
-        hand.winning,
-        hand.m,
-    ]);
+    bytes[..8].copy_from_slice(&[hand.how, hand.winner, hand.discarder, hand.riichi, hand.situation, hand.indicator, hand.winning, hand.m]);
     bytes[8..12].copy_from_slice(&hand.melds.map(|meld| 64 * meld.kind + meld.tile));
     bytes[12..].copy_from_slice(&hand.concealed);
     archive::Hand::of(bytes)
@@ -53,10 +45,31 @@ pub fn read(record: &[u8]) -> archive::ReadHand {
 
 /// What Write should give, with the buffer then (01, Write).
 pub fn write(hand: &archive::Hand, buffer: &mut [u8]) -> archive::Written {
-    match other_scorer::write(&to_other(hand), buffer) {
+    written(other_scorer::write(&to_other(hand), buffer))
+}
+
+/// Tiles held in the archive's form.
+pub fn held(hand: &Unfinished) -> archive::Held {
+    archive::Held { m: hand.m, melds: hand.melds.map(|meld| 64 * meld.kind + meld.tile), concealed: hand.concealed }
+}
+
+/// A written length or a refusal in the archive's form.
+fn written(answer: Result<usize, u8>) -> archive::Written {
+    match answer {
         Ok(len) => archive::Written { refusal: 0, len },
         Err(refusal) => archive::Written { refusal, len: 0 },
     }
+}
+
+/// What Write should give of an unfinished hand, with the buffer then (02, S-1; 01, Write).
+pub fn write_unfinished(held: &archive::Held, buffer: &mut [u8]) -> archive::Written {
+    let melds = held.melds.map(|meld| Meld { kind: meld / 64, tile: meld % 64 });
+    written(unfinished::write(&Unfinished { m: held.m, melds, concealed: held.concealed }, buffer))
+}
+
+/// And of a record without its winning tile.
+pub fn unfinished(record: &[u8], buffer: &mut [u8]) -> archive::Written {
+    written(unfinished::from_record(record, buffer))
 }
 
 /// The items of fu in the archive's form.
@@ -175,6 +188,26 @@ pub fn reading_count(all: &Result<Vec<Shown>, u8>) -> archive::ReadingCount {
 pub fn judge(record: &[u8], claim: &[u8], dealer: u8, wind: u8) -> archive::Judged {
     let other_scorer::claim::Judged { refusal, verdict } = other_scorer::claim::judge(record, claim, dealer, wind);
     archive::Judged { refusal, verdict }
+}
+
+/// What is to be claimed, from the archive's form.
+fn claimed(claim: &archive::Claim) -> Fields {
+    let archive::Claim { gain, shape, pair, groups, place, m } = *claim;
+    Fields { gain, shape, pair, groups, place, m }
+}
+
+/// What a claim for a hand with m melds names, in the archive's form.
+pub fn claim(claim: &Claim, m: u8) -> archive::Claim {
+    let Fields { gain, shape, pair, groups, place, m } = Fields::of(claim, m);
+    archive::Claim { gain, shape, pair, groups, place, m }
+}
+
+/// What Write claim should give, with the buffer then (02, S-13).
+pub fn write_claim(claim: &archive::Claim, buffer: &mut [u8]) -> archive::Written {
+    match claimed(claim).write(buffer) {
+        Ok(len) => archive::Written { refusal: 0, len },
+        Err(refusal) => archive::Written { refusal, len: 0 },
+    }
 }
 
 /// What Score should give once the table is rotated by so many seats: the changes moved on, nothing else altered (02, S-12).

@@ -1,6 +1,6 @@
 //! Claims for a record: of its readings, with gains right and wrong, altered, damaged, or any bytes.
 
-use archive::same;
+use archive::{same, CLAIM_MAX};
 use other_scorer::claim::{pack, Claim};
 use other_scorer::notation::hex::to_hex as hex;
 use other_scorer::reading::{Group, Reading};
@@ -9,6 +9,9 @@ use other_scorer::score::{best, valued};
 use other_scorer::{read, Hand};
 
 use crate::report::Report;
+
+/// So many bytes more are looked at behind a buffer.
+const BEHIND: usize = 2;
 
 /// Claims judged for each record.
 const EACH: usize = 4;
@@ -76,7 +79,64 @@ fn of_hand(rng: &mut Rng, hand: &Hand, dealer: u8, wind: u8) -> Vec<u8> {
         reading = altered(rng, &reading);
     }
     let claim = pack(&Claim { reading, gain });
-    if rng.percent(15) { damaged(rng, claim) } else { claim }
+    if rng.percent(15) {
+        damaged(rng, claim)
+    } else {
+        claim
+    }
+}
+
+/// What is to be claimed, with one part of any value.
+fn any_part(rng: &mut Rng, claim: &archive::Claim) -> archive::Claim {
+    let mut claim = *claim;
+    let any = match rng.percent(50) {
+        true => rng.below(70) as u8,
+        false => rng.next() as u8,
+    };
+    match rng.below(8) {
+        0 => claim.gain ^= 1 << rng.below(32),
+        1 => claim.shape = any % 4,
+        2 => claim.pair = any,
+        3 => claim.place = any % 8,
+        4 => claim.m = any % 8,
+        5 => rng.shuffle(&mut claim.groups),
+        _ => claim.groups[rng.below(4)] = any,
+    }
+    claim
+}
+
+/// Compares Write claim in a buffer of any length, behind it too; gives the archive's answer and bytes.
+fn written(report: &mut Report, rng: &mut Rng, claim: &archive::Claim) -> (archive::Written, Vec<u8>) {
+    let length = rng.below(CLAIM_MAX + 2);
+    let mut core: Vec<u8> = (0..length + BEHIND).map(|_| rng.next() as u8).collect();
+    let mut other = core.clone();
+    let got = archive::write_claim(*claim, &mut core[..length]);
+    let wanted = same::write_claim(claim, &mut other[..length]);
+    report.count("Write claim by refusal", wanted.refusal);
+    report.same("Write claim", (got, &core), (wanted, &other), || format!("{claim:?}, buffer of {length}"));
+    core.truncate(got.len);
+    (got, core)
+}
+
+/// Compares Write claim on every reading that is shown of a record, passed on as it is, and with a part of any value; what is written is judged.
+pub fn compare_written(report: &mut Report, rng: &mut Rng, record: &[u8], dealer: u8, wind: u8) {
+    let Ok(hand) = read(record) else { return };
+    for n in 1..=archive::reading_count(record, dealer, wind).count {
+        let archive::Reading { gain, shape, pair, groups, place, .. } = archive::reading(record, dealer, wind, n);
+        let claim = archive::Claim { gain, shape, pair, groups, place, m: hand.m };
+        let (answer, bytes) = written(report, rng, &claim);
+        let input = || format!("{} dealer {dealer} wind {wind}, reading {n}", hex(record));
+        report.same("a reading passed on (13 or none)", answer.refusal == 0 || answer.refusal == 13, true, input);
+        if answer.refusal == 0 {
+            let judged = archive::judge(record, &bytes, dealer, wind);
+            report.same("Judge on what was written", judged, same::judge(record, &bytes, dealer, wind), input);
+            report.same("what was written is a claim", judged.refusal, 0, input);
+        }
+        for _ in 0..EACH {
+            let claim = any_part(rng, &claim);
+            written(report, rng, &claim);
+        }
+    }
 }
 
 /// Compares Judge on some claims for a record.

@@ -1,4 +1,5 @@
-//! Random records and hands through Read, Write, Score, every reading, the slip, Waits, Ready and Judge, and what is said of them.
+//! Random records and hands through Read, Write, Score, every reading, the slip, both writers of an unfinished hand, Waits, Ready and
+//! Judge, and what is said of them.
 
 use archive::same;
 use other_scorer::codec::{pack, unpack};
@@ -16,6 +17,7 @@ use crate::report::Report;
 use crate::rotations;
 use crate::said;
 use crate::slips;
+use crate::unfinished;
 use crate::waits;
 
 /// Ready is compared for one of so many inputs: the other scorer tries every whole suit.
@@ -98,13 +100,11 @@ fn compare_write(report: &mut Report, rng: &mut Rng, hand: &archive::Hand) {
         let got = archive::write(*hand, &mut archive[..length]);
         let wanted = same::write(hand, &mut other[..length]);
         report.count("Write by refusal", wanted.refusal);
-        report.same("Write", (got, archive), (wanted, other), || {
-            format!("hand {}, buffer of {length}", hex(&hand.bytes()))
-        });
+        report.same("Write", (got, archive), (wanted, other), || format!("hand {}, buffer of {length}", hex(&hand.bytes())));
     }
 }
 
-/// Compares the nine calls, and the messages of those that have one, for one input.
+/// Compares the eleven calls, and the messages of those that have one, for one input.
 fn compare(report: &mut Report, rng: &mut Rng, index: usize) {
     let (record, dealer, wind, scored) = input(rng, index);
     let read = archive::read(&record);
@@ -130,15 +130,18 @@ fn compare(report: &mut Report, rng: &mut Rng, index: usize) {
     report.same("the sum of the items, and fu", total, got.fu as u32, input);
     if let 0 | 6 | 7 = got.refusal {
         rotations::compare(report, &same::to_other(&read.hand), dealer, wind, &got);
+        unfinished::compare_waits(report, &record, read.hand.fields.winning, got.refusal);
     }
 
     readings::compare(report, &record, dealer, wind, &got);
     slips::compare(report, rng, &record, dealer, wind, &scored);
     claims::compare(report, rng, &record, dealer, wind);
+    claims::compare_written(report, rng, &record, dealer, wind);
     said::of_record(report, rng, &record, dealer, wind, &scored);
 
     let hand = hand(rng, &record);
     compare_write(report, rng, &hand);
+    unfinished::compare(report, rng, &record, &hand.held);
 
     waits::compare(report, rng);
     if index % READY == 0 {

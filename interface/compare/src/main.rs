@@ -14,20 +14,21 @@ mod report;
 mod rotations;
 mod said;
 mod slips;
+mod unfinished;
 mod waits;
 
 // The generators of random entries and positions that the other scorer's own tests use, and the cases that these have to meet.
-#[path = "../../../other_scorer/tests/chance/mod.rs"]
-mod chance;
 #[path = "../../../other_scorer/tests/chance/cases.rs"]
 mod cases;
+#[path = "../../../other_scorer/tests/chance/mod.rs"]
+mod chance;
 #[path = "../../../other_scorer/tests/chance/positions.rs"]
 mod positions;
 
 use std::{env, process::ExitCode, time::Instant};
 
-use report::Report;
 use other_scorer::rng::Rng;
+use report::Report;
 
 /// Runs the comparison; whether nothing differs and all is met.
 fn run(count: usize, seed: u64, logs: usize) -> bool {
@@ -56,5 +57,9 @@ fn main() -> ExitCode {
             return ExitCode::from(2);
         }
     };
-    if run(count, seed as u64, logs) { ExitCode::SUCCESS } else { ExitCode::from(1) }
+    if run(count, seed as u64, logs) {
+        ExitCode::SUCCESS
+    } else {
+        ExitCode::from(1)
+    }
 }

@@ -30,13 +30,7 @@ impl Report {
     }
 
     /// Compares two values and gives whether they are equal; keeps a difference with its input.
-    pub fn same<T: PartialEq + Debug>(
-        &mut self,
-        what: &str,
-        archive: T,
-        other: T,
-        input: impl FnOnce() -> String,
-    ) -> bool {
+    pub fn same<T: PartialEq + Debug>(&mut self, what: &str, archive: T, other: T, input: impl FnOnce() -> String) -> bool {
         self.differences.same(what, archive, other, input)
     }
 

@@ -31,7 +31,5 @@ pub fn compare(report: &mut Report, rng: &mut Rng, record: &[u8], dealer: u8, wi
     let got = archive::slip(record, dealer, wind, &mut archive[..length]);
     let wanted = slip::write(scored, &mut other[..length]);
     report.count("slips by refusal", wanted);
-    report.same("a slip", (got, archive), (wanted, other), || {
-        format!("{} dealer {dealer} wind {wind}, page of {length}", hex(record))
-    });
+    report.same("a slip", (got, archive), (wanted, other), || format!("{} dealer {dealer} wind {wind}, page of {length}", hex(record)));
 }

@@ -145,9 +145,7 @@ fn fields(hand: &Hand) -> String {
 /// The pair and the groups of a reading; both empty but for a regular one.
 pub fn parts(reading: &Reading) -> (String, Vec<String>) {
     match reading {
-        Reading::Regular { pair, groups, .. } => {
-            (text(&[*pair; 2]), groups.iter().map(|group| text(&group.tiles())).collect())
-        }
+        Reading::Regular { pair, groups, .. } => (text(&[*pair; 2]), groups.iter().map(|group| text(&group.tiles())).collect()),
         _ => Default::default(),
     }
 }
@@ -163,7 +161,11 @@ pub fn shape(reading: &Reading) -> &'static str {
 
 /// A text for scripts, - where there is none.
 pub fn or_none(text: String) -> String {
-    if text.is_empty() { "-".into() } else { text }
+    if text.is_empty() {
+        "-".into()
+    } else {
+        text
+    }
 }
 
 /// A reading for scripts: shape, pair, groups, place.

@@ -1,9 +1,11 @@
 //! The proved core, each answer compared with the other scorer's.
 
-use archive::{same, Cards, Differences, Judged, NextEntry, Position, ReadHand, Reading, Ready, Said, Scored, Waits, Written, RECORD_MAX};
+use archive::{same, Cards, Claim, Differences, Judged, NextEntry, Position, ReadHand, Reading, Ready, Said, Scored, Waits, Written};
+use archive::{CLAIM_MAX, RECORD_MAX, UNFINISHED_MAX};
 use other_scorer::log::tally_lines;
 use other_scorer::notation::hex::to_hex;
 use other_scorer::say::calls::{self, Message};
+use other_scorer::unfinished::Unfinished;
 use other_scorer::{score, shown, slip, Hand};
 
 use crate::answer::Answer;
@@ -81,6 +83,25 @@ impl Core {
         answer
     }
 
+    /// Write of an unfinished hand, with its bytes.
+    pub fn write_unfinished(&mut self, hand: &Unfinished) -> (Written, [u8; UNFINISHED_MAX]) {
+        let held = same::held(hand);
+        let (mut core, mut other) = ([0; UNFINISHED_MAX], [0; UNFINISHED_MAX]);
+        let answer = archive::write_unfinished(held, &mut core);
+        let wanted = same::write_unfinished(&held, &mut other);
+        self.differences.same("Write of an unfinished hand", (answer, core), (wanted, other), || format!("{held:?}"));
+        (answer, core)
+    }
+
+    /// The unfinished hand that a record is without its winning tile.
+    pub fn unfinished(&mut self, record: &[u8]) -> (Written, [u8; UNFINISHED_MAX]) {
+        let (mut core, mut other) = ([0; UNFINISHED_MAX], [0; UNFINISHED_MAX]);
+        let answer = archive::unfinished(record, &mut core);
+        let wanted = same::unfinished(record, &mut other);
+        self.differences.same("the unfinished hand of a record", (answer, core), (wanted, other), || to_hex(record));
+        (answer, core)
+    }
+
     /// Ready.
     pub fn ready(&mut self, bytes: &[u8]) -> Ready {
         let answer = archive::ready(bytes);
@@ -104,6 +125,16 @@ impl Core {
         let input = || format!("{} claim {} dealer {dealer} wind {wind}", to_hex(record), to_hex(claim));
         self.differences.same("Judge", answer, same::judge(record, claim, dealer, wind), input);
         answer
+    }
+
+    /// Write claim: its answer, and the bytes.
+    pub fn write_claim(&mut self, claim: &Claim) -> (Written, Vec<u8>) {
+        let (mut core, mut other) = (vec![0; CLAIM_MAX], vec![0; CLAIM_MAX]);
+        let answer = archive::write_claim(*claim, &mut core);
+        let wanted = same::write_claim(claim, &mut other);
+        self.differences.same("Write claim", (answer, &core), (wanted, &other), || format!("{claim:?}"));
+        core.truncate(answer.len);
+        (answer, core)
     }
 
     /// A message in a buffer of a length, and its clips, by a call of the archive, compared with the other scorer's.
@@ -172,6 +203,10 @@ impl Core {
 
     /// Whether nothing has differed so far, in words.
     pub fn verdict(&self) -> &'static str {
-        if self.differences.count == 0 { "both scorers agree" } else { "THE TWO SCORERS DIFFER" }
+        if self.differences.count == 0 {
+            "both scorers agree"
+        } else {
+            "THE TWO SCORERS DIFFER"
+        }
     }
 }

@@ -1,10 +1,12 @@
 //! A claim in words: claim=regular pair=55s groups=123m,123m,789p,789p place=pair gain=5200, claim=pairs gain=1600, claim=orphans gain=32000.
 
-use other_scorer::claim::{group, pack, Claim};
+use archive::same;
+use other_scorer::claim::{group, Claim};
 use other_scorer::notation::hex::from_hex;
 use other_scorer::notation::tiles;
 use other_scorer::reading::{Group, Reading};
 
+use crate::both::Core;
 use crate::names::count;
 use crate::words::{Bad, Words};
 
@@ -54,7 +56,11 @@ fn one_group(text: &str) -> Result<Group, String> {
 /// The groups with commas between them, as typed; a hand whose melds are four has none.
 fn groups(value: &str) -> Result<Vec<Group>, String> {
     let list: Vec<Group> = value.split(',').filter(|text| !text.is_empty()).map(one_group).collect::<Result<_, _>>()?;
-    if list.len() > 4 { Err("at most four groups, melds left out".into()) } else { Ok(list) }
+    if list.len() > 4 {
+        Err("at most four groups, melds left out".into())
+    } else {
+        Ok(list)
+    }
 }
 
 /// What the winning tile completes: the pair, or a group by its number from 1 or its tiles.
@@ -72,6 +78,11 @@ fn regular(pair: u8, typed: Vec<Group>, place: usize) -> Reading {
     Reading::Regular { pair, groups: order.into_iter().map(|at| typed[at]).collect(), place: moved }
 }
 
+/// The bytes that the core writes of a claim for a hand with m melds; none where it refuses.
+pub fn written(core: &mut Core, claim: &Claim, m: u8) -> Vec<u8> {
+    core.write_claim(&same::claim(claim, m)).1
+}
+
 /// A claim as it was typed: its bytes, or what it names.
 pub enum Given {
     Bytes(Vec<u8>),
@@ -79,20 +90,28 @@ pub enum Given {
 }
 
 impl Given {
-    /// The bytes of a claim for a hand with m melds, if it has so many groups as are left to it.
-    pub fn bytes(self, m: Option<u8>) -> Result<Vec<u8>, Bad> {
+    /// The bytes of a claim for a hand with m melds, if it has so many groups as are left to it. A hand that is not read has as many melds as groups
+    /// are missing.
+    pub fn bytes(self, core: &mut Core, m: Option<u8>) -> Result<Vec<u8>, Bad> {
         let claim = match self {
             Given::Bytes(bytes) => return Ok(bytes),
             Given::Words(claim) => claim,
         };
-        if let (Reading::Regular { groups, .. }, Some(m)) = (&claim.reading, m) {
+        let Reading::Regular { groups, place, .. } = &claim.reading else { return Ok(written(core, &claim, m.unwrap_or(0))) };
+        if let Some(m) = m {
             let (given, needed) = (groups.len(), 4 - m as usize);
             if given != needed {
-                return Err(Bad::new(format!("groups= has {}, with {} {needed} are needed", count(given, "group"), count(m.into(), "meld"))));
+                return Err(Bad::new(format!(
+                    "groups= has {}, with {} {needed} are needed",
+                    count(given, "group"),
+                    count(m.into(), "meld")
+                )));
             }
         }
-        // The core has no call that packs a claim yet: these bytes are made by the other scorer's code, by document 02's S-13.
-        Ok(pack(&claim))
+        if *place > groups.len() {
+            return Err(Bad::new(format!("place={place}: the claim has {}, melds left out", count(groups.len(), "group"))));
+        }
+        Ok(written(core, &claim, m.unwrap_or(4 - groups.len() as u8)))
     }
 }
 
@@ -111,7 +130,9 @@ pub fn take(words: &mut Words) -> Result<Option<Given>, Bad> {
     let reading = match (claim, pair, groups, place) {
         (None, ..) if beside => return Err(Bad::new(format!("claim= is missing, {REGULAR}"))),
         (None, ..) => return Ok(None),
-        (Some(Typed::Bytes(_)), ..) if beside => return Err(Bad::new("claim=HEX has the whole claim: leave pair=, groups=, place= and gain= out")),
+        (Some(Typed::Bytes(_)), ..) if beside => {
+            return Err(Bad::new("claim=HEX has the whole claim: leave pair=, groups=, place= and gain= out"))
+        }
         (Some(Typed::Bytes(bytes)), ..) => return Ok(Some(Given::Bytes(bytes))),
         (Some(Typed::Whole(reading)), None, None, None) => reading,
         (Some(Typed::Whole(_)), ..) => return Err(Bad::new("seven pairs and orphans have no pair=, groups= or place=, leave them out")),

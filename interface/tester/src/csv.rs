@@ -7,8 +7,34 @@ use crate::outcome::{hands, ready, Outcome};
 use crate::text;
 
 const HEADS: [&str; 28] = [
-    "entry", "deal", "wind", "dealer", "kind", "seats", "how", "from", "refusal", "change 0", "change 1", "change 2", "change 3", "score 0",
-    "score 1", "score 2", "score 3", "sticks before", "counter before", "sticks", "counter", "yaku", "h", "fu", "gain", "hands", "text", "remark",
+    "entry",
+    "deal",
+    "wind",
+    "dealer",
+    "kind",
+    "seats",
+    "how",
+    "from",
+    "refusal",
+    "change 0",
+    "change 1",
+    "change 2",
+    "change 3",
+    "score 0",
+    "score 1",
+    "score 2",
+    "score 3",
+    "sticks before",
+    "counter before",
+    "sticks",
+    "counter",
+    "yaku",
+    "h",
+    "fu",
+    "gain",
+    "hands",
+    "text",
+    "remark",
 ];
 
 /// A cell; one with a comma or a quotation mark stands in quotation marks.

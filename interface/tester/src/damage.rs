@@ -10,7 +10,7 @@ use crate::limit;
 use crate::log::entries;
 use crate::names::{count, points};
 use crate::page::{table, Page};
-use crate::progress::Progress;
+use crate::progress::{Kind, Progress};
 use crate::refusals::{refusal as in_words, sentence, LAST};
 use crate::text;
 use crate::walk::{walk, whole, Walk};
@@ -38,6 +38,11 @@ struct Count {
 /// Tries the changes of a hand's record or of a log.
 pub fn run(core: &mut Core, mut words: Words) -> Result<String, Bad> {
     let (plain, show) = (words.take_flag("--plain"), words.take_flag("--show"));
+    let told = match (words.take_flag("--progress"), plain) {
+        (true, _) => Kind::Lines,
+        (false, true) => Kind::Nothing,
+        (false, false) => Kind::Words,
+    };
     let number = words.take_number("random", "of changes, such as 1000,")?;
     let seed = match number {
         Some(_) => words.take_number("seed", "such as 7")?,
@@ -46,7 +51,7 @@ pub fn run(core: &mut Core, mut words: Words) -> Result<String, Bad> {
     let subject = subject(core, words, plain)?;
     let bytes = subject.bytes();
     let total = number.unwrap_or_else(|| number_of(bytes.len()));
-    if total > LOTS {
+    if total > LOTS && told != Kind::Lines {
         eprintln!("tester: up to {} changes to try; random=N tries N", points(total as i64));
     }
     let changes: Box<dyn Iterator<Item = Change>> = match number {
@@ -55,7 +60,7 @@ pub fn run(core: &mut Core, mut words: Words) -> Result<String, Bad> {
     };
     let kinds = if number.is_some() { &[RANDOM][..] } else { &EVERY };
     let mut counts: Vec<Count> = kinds.iter().map(|kind| Count { kind, tried: 0, refusals: [0; REFUSALS] }).collect();
-    let (mut progress, mut shown) = (Progress::new(total, plain), Vec::new());
+    let (mut progress, mut shown) = (Progress::new(total, told), Vec::new());
     for change in changes {
         let count = counts.iter_mut().find(|count| count.kind == change.kind).expect("a counted kind");
         count.tried += 1;

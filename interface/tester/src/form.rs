@@ -49,7 +49,11 @@ impl Form {
         if content.iter().any(is_control) {
             return Form::Bytes;
         }
-        if is_digits(content) { Form::Hex } else { Form::Text }
+        if is_digits(content) {
+            Form::Hex
+        } else {
+            Form::Text
+        }
     }
 }
 

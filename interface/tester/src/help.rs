@@ -17,6 +17,9 @@ tester COMMAND WORDS: asks the proved core, and compares every answer with the o
   log        a text of entries to the bytes of a log, or back
   tally      a log's entries one after the other, and the game after each
   damage     a record or a log damaged in every way: refusals counted, both scorers compared
+  draft      a hand as far as it was keyed in: what can be keyed in next, and every answer; for programs
+  game       a log's entries with what each came to, and the game after them; for programs
+  clips      the sheet of clips with their words
 
   tester COMMAND --help says more of each
   --plain    output for scripts
@@ -89,12 +92,14 @@ For scripts: the lines of `hand` up to why, slip with its refusal, the six lines
 pub const WAITS: &str = "\
 tester waits TILES [MELDS] [discards=TILES] [seat=N [WORDS]] [--plain]
 tester waits HEX [discards=TILES] [seat=N [WORDS]] [--plain]
+tester waits record=HEX [discards=TILES] [seat=N [WORDS]] [--plain]
 
   TILES           13 concealed tiles, three fewer for each meld, as for `tester hand`: 567m22456p67s
   chi=234m pon=555p kan=EEEE ankan=9999s     melds; ankan is a closed kan
   discards=TILES  the player's own discards, such as discards=N8s4m
   kinds=HEX       the discards as bytes instead, one kind a byte, to see one over 33 refused
   HEX             the hand's bytes instead, in one word or more
+  record=HEX      the record of a finished hand instead, its winning tile left out
   seat=N          whose hand it is, to see what each wait would score; with dealer=N wind=E|S indicator=TILE riichi double last
 
 Prints the kinds that the hand waits for, yaku or not, and whether it is in furiten, with the discards that are waits. Beside each
@@ -107,6 +112,7 @@ with seat= ; by ron; by tsumo behind it, differences.
 pub const READY: &str = "\
 tester ready TILES [MELDS] [--plain]
 tester ready HEX [--plain]
+tester ready record=HEX [--plain]
 
 The hand as for `tester waits`. Prints the fewest tiles to swap until the hand waits for a kind, and a ready hand that many swaps away:
 its tiles, those swapped out and in, and its waits. Several hands may be as near; the core gives one of them.
@@ -146,11 +152,12 @@ pub const SAY: &str = "\
 tester say HAND [dealer=N] [wind=E|S] [--fu] language=L [WORDS]
 tester say waits HAND [discards=TILES] language=L [WORDS]
 tester say ready HAND language=L [WORDS]
+tester say scores FILE|-|HEX language=L [WORDS]
 tester say refusal N language=L [WORDS]
 
 Prints the message that the core gives the handset to play: a line for each part, between which the handset pauses, with its clips and
 their words on the sheet (docs/CLIPS.md), Japanese with kana, Mandarin with pinyin. HAND as for `tester hand`, `tester waits` and
-`tester ready`; `tester tally --say` prints what is said of a game's scores.
+`tester ready`, a log as for `tester tally`: the scores after it, which `tester tally --say` prints after each entry.
 
   language=L   ja, en, ko, zh, or 1 to 4 as the label has them
   --fu         the items of the hand's fu instead of its score
@@ -160,6 +167,43 @@ their words on the sheet (docs/CLIPS.md), Japanese with kana, Mandarin with piny
 
 For scripts: the lines of `hand` up to why (of waits and ready too; of a refusal number), language, said with its refusal and the number
 of clips, clips, words of each part, differences.
+";
+
+pub const DRAFT: &str = "\
+tester draft [TILES] [WORDS] [discards=TILES] [language=L]
+tester draft HEX [dealer=N] [wind=E|S] [language=L]
+
+A hand as far as it was keyed in, for programs that draw it: TILES without +, the last of a finished hand being the winning
+one, or with it, and words as for `tester hand`; none of them is needed, and of a meld its lowest tile is enough, such as chi=2m. A
+record's bytes are taken too.
+
+For scripts: concealed, winning, meld of each, discards, indicator, dora-tile, seat, how, riichi, situation, dealer, wind, winds of
+seats 0 to 3, from (who may be the discarder), needs (how many concealed tiles there are with these melds), key with the kinds that can
+be keyed in as tile, chi, pon, kan, ankan, indicator, discard, so that no fifth of a kind is; next, what is missing: tiles N, winning, seat,
+how, over N or nothing. Of a record that notation cannot say: fixed, dealer, wind, winds, next. Then, each behind a line answer NAME, the
+lines of hand (with pair, group and wait of the reported reading), readings, slip, say, say-fu of a finished hand, or of waits (with
+score TILE HOW REFUSAL H FU GAIN), ready (with out and in), say, say-ready of an unfinished one; at the end differences.
+";
+
+pub const GAME: &str = "\
+tester game FILE|-|HEX [as=text|hex|bytes] [from=N] [language=L]
+
+The game of a log, text, hex or bytes as for `tester log`, for programs that draw it. Of the entries a hundred are shown, those from N on
+or the last ones.
+
+For scripts: read, log (hexadecimal), cut; start with four scores, result HANDS and four scores after each finished hand; entries (how
+many), last (the byte of the last one); of each that is shown a line entry with number, byte, letter, refusal, dealer, wind, counter and sticks
+before it, four changes, four scores, sticks, counter and hands after it, a line text and, where there is one, a line remark, of a refused
+entry with what its refusal is about; stopped with byte, bytes and why; now with dealer, wind, sticks, counter, hands and whether the game is over, scores, winds, declared, pao HOLDER
+FEEDER YAKU of each, correctable, place PLACE SEAT of each; with language= answer say and the lines of `tester say scores`; differences.
+";
+
+pub const CLIPS: &str = "\
+tester clips [--plain]
+
+The sheet for the studio (docs/CLIPS.md): number, name, Japanese, kana, English, Korean, Mandarin, pinyin of each clip.
+
+For scripts: the same with tabs between them.
 ";
 
 pub const LOG: &str = "\
@@ -212,10 +256,11 @@ Tries every change of one bit, every cut, and every swap of two bytes; HAND as f
 `tester tally`, up to 65,536 bytes. Counts the refusals by number, and shows what the two scorers do not answer alike.
 
   random=N   N random changes instead; seed=N for others than those of seed 1
+  --progress says on standard error, in lines progress TRIED TOTAL, how far it is
   --show     lists each accepted change: which bit (counted from 0 as in docs/RECORDS.md), cut or swap, of a random one the first
              changed bytes, and what it became; of a log those that leave it without 14 and its first changed entry accepted
 
-What takes long says on standard error how far it is, not with --plain.
+What takes long says on standard error how far it is, not with --plain alone.
 
 For scripts: kind of change, number tried, and how often each of the refusals 0 to 21 was met; with --show accepted, kind of change,
 bit, length, two bytes or number, and the bytes.

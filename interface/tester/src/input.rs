@@ -106,7 +106,9 @@ pub struct Log {
 fn named_form(words: &mut Words) -> Result<Option<Form>, Bad> {
     let raw = words.take_flag("--bytes");
     match (words.take("as", Form::named)?, raw) {
-        (Some(form), true) if form != Form::Bytes => Err(Bad::new(format!("--bytes is as=bytes, and as={} says another thing", form.name()))),
+        (Some(form), true) if form != Form::Bytes => {
+            Err(Bad::new(format!("--bytes is as=bytes, and as={} says another thing", form.name())))
+        }
         (named, raw) => Ok(named.or(raw.then_some(Form::Bytes))),
     }
 }

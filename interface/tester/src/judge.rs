@@ -1,6 +1,6 @@
 //! `judge`: another scorer's claim for a hand, as the core judges it, in words.
 
-use other_scorer::claim::{pack, parse, Claim, FAULTS, FAULTY};
+use other_scorer::claim::{parse, Claim, FAULTS, FAULTY};
 use other_scorer::notation::hex::to_hex;
 
 use crate::answer::{columns, Answer};
@@ -26,10 +26,13 @@ pub fn run(core: &mut Core, mut words: Words) -> Result<String, Bad> {
     let plain = words.take_flag("--plain");
     let typed = claim::take(&mut words)?;
     let answer = Answer::of(core, words)?;
-    let typed = typed.map(|claim| claim.bytes(answer.hand().map(|hand| hand.m))).transpose()?;
-    let own = || answer.reported().map(|reported| Claim { reading: reported.reading.clone(), gain: reported.worth.gain });
-    let Some(claim) = typed.or_else(|| own().map(|claim| pack(&claim))) else {
-        return Err(Bad::new("no reading of the hand is reported, so claim= is needed: in words, such as claim=pairs gain=1600, or claim=HEX"));
+    let m = answer.hand().map(|hand| hand.m);
+    let typed = typed.map(|claim| claim.bytes(core, m)).transpose()?;
+    let own = answer.reported().map(|reported| Claim { reading: reported.reading.clone(), gain: reported.worth.gain });
+    let Some(claim) = typed.or_else(|| own.map(|claim| claim::written(core, &claim, m.unwrap_or(0)))) else {
+        return Err(Bad::new(
+            "no reading of the hand is reported, so claim= is needed: in words, such as claim=pairs gain=1600, or claim=HEX",
+        ));
     };
     let judged = core.judge(&answer.record, &claim, answer.dealer, answer.wind);
     let named = answer.sound().map(|hand| parse(&claim, hand.m));
@@ -56,10 +59,13 @@ pub fn run(core: &mut Core, mut words: Words) -> Result<String, Bad> {
         page.row("claimed", in_words(hand, reading));
         page.row("its gain", points(*gain as i64));
     }
-    page.row("judged", match judged.refusal {
-        0 => VERDICTS.get(judged.verdict as usize).unwrap_or(&"no verdict of document 02").to_string(),
-        refusal => sentence(refusal, &fault.map(String::from).into_iter().collect::<Vec<_>>()),
-    });
+    page.row(
+        "judged",
+        match judged.refusal {
+            0 => VERDICTS.get(judged.verdict as usize).unwrap_or(&"no verdict of document 02").to_string(),
+            refusal => sentence(refusal, &fault.map(String::from).into_iter().collect::<Vec<_>>()),
+        },
+    );
     page.line("");
     page.line(core.verdict());
     Ok(page.finish())

@@ -68,7 +68,9 @@ impl Target {
         };
         let written = options.open(&self.file).and_then(|mut file| file.write_all(content));
         written.map_err(|error| match error.kind() {
-            ErrorKind::AlreadyExists => Bad::new(format!("to={}: this file exists; take another name, or write over=yes to lose what it holds", self.file)),
+            ErrorKind::AlreadyExists => {
+                Bad::new(format!("to={}: this file exists; take another name, or write over=yes to lose what it holds", self.file))
+            }
             _ => Bad::new(format!("{}: {error}", self.file)),
         })
     }

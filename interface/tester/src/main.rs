@@ -1,5 +1,5 @@
 //! `tester COMMAND WORDS`: hands, readings, tables rotated, suits renamed, slips, unfinished hands, practice cards, claims, messages,
-//! logs, games and damaged bytes, answered by the proved core and compared with the other scorer. Exit status 0: answered, refusals too;
+//! logs, games, damaged bytes and hands as far as they were keyed in, answered by the proved core and compared with the other scorer. Exit status 0: answered, refusals too;
 //! 1: the two differ; 2: bad input, told in one line.
 
 mod answer;
@@ -7,10 +7,13 @@ mod both;
 mod cards;
 mod changes;
 mod claim;
+mod clips;
 mod csv;
 mod damage;
+mod draft;
 mod form;
 mod fu;
+mod game;
 mod hand;
 mod help;
 mod input;
@@ -48,7 +51,7 @@ use words::{Bad, Words};
 type Command = fn(&mut Core, Words) -> Result<String, Bad>;
 
 /// The commands by name, with their help.
-const COMMANDS: [(&str, Command, &str); 13] = [
+const COMMANDS: [(&str, Command, &str); 16] = [
     ("hand", hand::run, help::HAND),
     ("readings", readings::run, help::READINGS),
     ("rotate", rotate::run, help::ROTATE),
@@ -62,7 +65,16 @@ const COMMANDS: [(&str, Command, &str); 13] = [
     ("log", log::run, help::LOG),
     ("tally", tally::run, help::TALLY),
     ("damage", damage::run, help::DAMAGE),
+    ("draft", draft::run, help::DRAFT),
+    ("game", game::run, help::GAME),
+    ("clips", clips::run, help::CLIPS),
 ];
+
+/// The commands one after the other, a word before the last one.
+fn names(last: &str) -> String {
+    let all: Vec<&str> = COMMANDS.iter().map(|(name, ..)| *name).collect();
+    format!("{} {last} {}", all[..all.len() - 1].join(", "), all[all.len() - 1])
+}
 
 /// Runs the command that the first word names.
 fn run(core: &mut Core, mut words: Words) -> Result<String, Bad> {
@@ -70,16 +82,13 @@ fn run(core: &mut Core, mut words: Words) -> Result<String, Bad> {
     let Some(name) = words.take_first() else {
         return match wants_help {
             true => Ok(help::TOOL.into()),
-            false => Err(Bad::new("no command: hand, readings, rotate, rename, slip, waits, ready, cards, judge, say, log, tally or damage; --help says more")),
+            false => Err(Bad::new(format!("no command: {}; --help says more", names("or")))),
         };
     };
     match COMMANDS.iter().find(|(command, ..)| *command == name) {
         Some((.., help)) if wants_help => Ok(help.to_string()),
         Some((_, command, _)) => command(core, words),
-        None => {
-            let why = "no command; there are hand, readings, rotate, rename, slip, waits, ready, cards, judge, say, log, tally and damage";
-            Err(Bad::new(format!("word 1, \"{name}\": {why}")))
-        }
+        None => Err(Bad::new(format!("word 1, \"{name}\": no command; there are {}", names("and")))),
     }
 }
 

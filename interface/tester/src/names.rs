@@ -71,12 +71,20 @@ pub fn points(number: i64) -> String {
         }
         text.push(digit);
     }
-    if number < 0 { format!("-{text}") } else { text }
+    if number < 0 {
+        format!("-{text}")
+    } else {
+        text
+    }
 }
 
 /// Points with their sign.
 pub fn change(number: i64) -> String {
-    if number > 0 { format!("+{}", points(number)) } else { points(number) }
+    if number > 0 {
+        format!("+{}", points(number))
+    } else {
+        points(number)
+    }
 }
 
 /// A number of things: "1 meld", "2 melds".

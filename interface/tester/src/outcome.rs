@@ -88,7 +88,11 @@ impl<'a> Outcome<'a> {
     pub fn changes(&self) -> [i64; 4] {
         let after = &self.step.after.archive.now.scores;
         let moved = |seat: usize| i64::from(after[seat]) - i64::from(self.position.scores[seat]);
-        if self.step.refusal == 0 { [0, 1, 2, 3].map(moved) } else { [0; 4] }
+        if self.step.refusal == 0 {
+            [0, 1, 2, 3].map(moved)
+        } else {
+            [0; 4]
+        }
     }
 
     /// A seat with its wind at that deal.
@@ -112,7 +116,11 @@ impl<'a> Outcome<'a> {
             }
             booking => {
                 let won: Vec<String> = hands(booking).iter().map(|hand| self.won(hand)).collect();
-                if won.is_empty() { "a win whose record is not read".into() } else { won.join(", ") }
+                if won.is_empty() {
+                    "a win whose record is not read".into()
+                } else {
+                    won.join(", ")
+                }
             }
         }
     }

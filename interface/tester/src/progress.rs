@@ -9,32 +9,52 @@ use crate::names::points;
 const TERMINAL: Duration = Duration::from_millis(500);
 const ELSEWHERE: Duration = Duration::from_secs(10);
 
+/// How often a line for scripts is printed.
+const SCRIPTS: Duration = Duration::from_millis(100);
+
+/// To whom it is told: a person, a script that wants a line `progress TRIED TOTAL`, or nobody.
+#[derive(Clone, Copy, PartialEq)]
+pub enum Kind {
+    Words,
+    Lines,
+    Nothing,
+}
+
 /// What is tried, how much of it has been, and when a word was last said.
 pub struct Progress {
     total: usize,
     tried: usize,
     terminal: bool,
-    quiet: bool,
+    kind: Kind,
     last: Instant,
     said: bool,
 }
 
 impl Progress {
-    /// Nothing tried yet of so many; `quiet` for scripts.
-    pub fn new(total: usize, quiet: bool) -> Progress {
-        Progress { total, tried: 0, terminal: io::stderr().is_terminal(), quiet, last: Instant::now(), said: false }
+    /// Nothing tried yet of so many.
+    pub fn new(total: usize, kind: Kind) -> Progress {
+        Progress { total, tried: 0, terminal: io::stderr().is_terminal(), kind, last: Instant::now(), said: false }
     }
 
     /// One more is tried.
     pub fn step(&mut self) {
         self.tried += 1;
-        let pause = if self.terminal { TERMINAL } else { ELSEWHERE };
-        if self.quiet || self.last.elapsed() < pause {
+        let pause = match (self.kind, self.terminal) {
+            (Kind::Nothing, _) => return,
+            (Kind::Lines, _) => SCRIPTS,
+            (Kind::Words, true) => TERMINAL,
+            (Kind::Words, false) => ELSEWHERE,
+        };
+        if self.last.elapsed() < pause {
             return;
         }
         let word = format!("tester: {} of {} changes tried", points(self.tried as i64), points(self.total as i64));
-        if self.terminal { eprint!("\r{word}") } else { eprintln!("{word}") }
-        (self.last, self.said) = (Instant::now(), true);
+        match (self.kind, self.terminal) {
+            (Kind::Lines, _) => eprintln!("progress {} {}", self.tried, self.total),
+            (_, true) => eprint!("\r{word}"),
+            _ => eprintln!("{word}"),
+        }
+        (self.last, self.said) = (Instant::now(), self.kind == Kind::Words);
     }
 
     /// All is tried: the word is taken from a terminal.

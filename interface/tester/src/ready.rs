@@ -1,5 +1,6 @@
 //! `ready`: how far an unfinished hand is from ready, with a nearest ready hand and its waits.
 
+use archive::Ready;
 use other_scorer::notation::{text, unfinished};
 use other_scorer::unfinished::{pack, unpack, Unfinished};
 
@@ -17,14 +18,36 @@ fn lacking(list: &[u8], other: &[u8]) -> Vec<u8> {
     list.iter().copied().filter(taken).collect()
 }
 
+/// The hand, and the ready hand that the core gives; none where it is refused.
+fn pair(bytes: &[u8], answer: &Ready) -> Option<(Unfinished, Unfinished)> {
+    let hand = unpack(bytes).ok().map(|(hand, _)| hand).filter(|_| answer.refusal == 0)?;
+    Some((hand, Unfinished { concealed: answer.hand, ..hand }))
+}
+
+/// The tiles to give away, and those to have for them.
+fn swapped(hand: &Unfinished, near: &Unfinished) -> (String, String) {
+    (text(&lacking(hand.concealed(), near.concealed())), text(&lacking(near.concealed(), hand.concealed())))
+}
+
+/// For scripts, the tiles swapped: out, in.
+pub fn plain_swaps(core: &mut Core, page: &mut Page, mut words: Words) -> Result<(), Bad> {
+    let bytes = bytes(core, &mut words)?;
+    if let Some((hand, near)) = pair(&bytes, &core.ready(&bytes)) {
+        let (out, new) = swapped(&hand, &near);
+        page.plain("out", [out]);
+        page.plain("in", [new]);
+    }
+    Ok(())
+}
+
 /// The swaps and a nearest ready hand, or why there is no answer.
 pub fn run(core: &mut Core, mut words: Words) -> Result<String, Bad> {
     let plain = words.take_flag("--plain");
-    let bytes = bytes(&words)?;
+    let bytes = bytes(core, &mut words)?;
     let answer = core.ready(&bytes);
     let asked = Asked { bytes: &bytes, discards: None, refusal: answer.refusal, notes: input::notes(&words) };
-    let hand = unpack(&bytes).ok().map(|(hand, _)| hand);
-    let near = hand.filter(|_| answer.refusal == 0).map(|hand| Unfinished { concealed: answer.hand, ..hand });
+    let hands = pair(&bytes, &answer);
+    let near = hands.map(|(_, near)| near);
     let waits = near.map_or(Vec::new(), |near| core.waits(&pack(&near), &[]).waits.list());
 
     let mut page = Page::default();
@@ -37,10 +60,10 @@ pub fn run(core: &mut Core, mut words: Words) -> Result<String, Bad> {
         return Ok(page.finish());
     }
     asked.head(&mut page);
-    if let (Some(hand), Some(near)) = (hand, near) {
-        let (out, new) = (lacking(hand.concealed(), near.concealed()), lacking(near.concealed(), hand.concealed()));
+    if let Some((hand, near)) = hands {
+        let (out, new) = swapped(&hand, &near);
         let swaps = count(answer.swaps as usize, "swap");
-        page.row("ready", if answer.swaps == 0 { "yes".into() } else { format!("after {swaps}: {} for {}", text(&out), text(&new)) });
+        page.row("ready", if answer.swaps == 0 { "yes".into() } else { format!("after {swaps}: {out} for {new}") });
         page.row("hand then", unfinished::print(&near).unwrap_or_else(|| fields(&near)));
         page.row("waits then", kinds(&waits));
     }

@@ -30,7 +30,7 @@ pub fn refusal(number: u8) -> &'static str {
         10 => "declared already this hand",
         11 => "the riichi field and the declaration differ",
         12 => "never given: a declared seat is not ready",
-        13 => "the buffer is shorter than the record or the message",
+        13 => "the buffer is shorter than the record, the unfinished hand, the claim or the message",
         14 => "the log's entry is bad or cut",
         15 => "a discard is no kind",
         16 => "the page is shorter than a slip",

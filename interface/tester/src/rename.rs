@@ -56,5 +56,9 @@ pub fn run(core: &mut Core, mut words: Words) -> Result<String, Bad> {
 fn title(letters: &str) -> String {
     let pairs = LETTERS.into_iter().zip(letters.chars()).filter(|(from, to)| from != to);
     let words: Vec<String> = pairs.map(|(from, to)| format!("{from} to {to}")).collect();
-    if words.is_empty() { "no suit renamed".into() } else { format!("renamed {}", words.join(", ")) }
+    if words.is_empty() {
+        "no suit renamed".into()
+    } else {
+        format!("renamed {}", words.join(", "))
+    }
 }

@@ -1,15 +1,18 @@
-//! `say`: what the handset says of a hand, its fu, an unfinished hand or a refusal, in words and as clips.
+//! `say`: what the handset says of a hand, its fu, an unfinished hand, a game's scores or a refusal, in words and as clips.
 
-use archive::{Said, MESSAGE_MAX};
+use archive::{Position, Said, MESSAGE_MAX};
 
 use crate::answer::Answer;
 use crate::both::Core;
+use crate::game::position;
 use crate::input;
+use crate::limit;
 use crate::names::count;
 use crate::page::{table, Page};
 use crate::refusals::{refusal, sentence};
 use crate::sheet::{self, parts};
 use crate::waits::{bytes, discards, Asked};
+use crate::walk::whole;
 use crate::wav;
 use crate::words::{Bad, Words};
 
@@ -41,13 +44,14 @@ fn wish(words: &mut Words) -> Result<Wish, Bad> {
 pub fn run(core: &mut Core, mut words: Words) -> Result<String, Bad> {
     let wish = wish(&mut words)?;
     let mut page = Page::default();
-    let kind = words.texts().first().filter(|word| ["waits", "ready", "refusal"].contains(word)).map(|word| word.to_string());
+    let kind = words.texts().first().filter(|word| ["waits", "ready", "refusal", "scores"].contains(word)).map(|word| word.to_string());
     if kind.is_some() {
         words.take_first();
     }
     let (said, clips) = match kind.as_deref() {
         Some("waits") => of_waits(core, &mut page, &wish, words)?,
         Some("ready") => of_ready(core, &mut page, &wish, words)?,
+        Some("scores") => of_scores(core, &wish, words)?,
         Some(_) => of_refusal(core, &mut page, &wish, words)?,
         None => of_hand(core, &mut page, &wish, words)?,
     };
@@ -55,7 +59,7 @@ pub fn run(core: &mut Core, mut words: Words) -> Result<String, Bad> {
         wav::write(file, wish.language, &clips)?;
     }
     if wish.plain {
-        plain(&mut page, &wish, said, &clips);
+        plain(&mut page, wish.language, said, &clips);
         page.plain("differences", [core.differences.count]);
         return Ok(page.finish());
     }
@@ -69,7 +73,11 @@ pub fn run(core: &mut Core, mut words: Words) -> Result<String, Bad> {
 fn of_hand(core: &mut Core, page: &mut Page, wish: &Wish, mut words: Words) -> Result<(Said, Vec<u8>), Bad> {
     let fu = words.take_flag("--fu");
     let answer = Answer::of(core, words)?;
-    if wish.plain { answer.plain_head(page) } else { answer.head(page) }
+    if wish.plain {
+        answer.plain_head(page)
+    } else {
+        answer.head(page)
+    }
     let Answer { record, dealer, wind, .. } = &answer;
     Ok(match fu {
         true => core.say_fu(wish.language, record, *dealer, *wind, wish.buffer),
@@ -80,20 +88,41 @@ fn of_hand(core: &mut Core, page: &mut Page, wish: &Wish, mut words: Words) -> R
 /// The message of what an unfinished hand waits for.
 fn of_waits(core: &mut Core, page: &mut Page, wish: &Wish, mut words: Words) -> Result<(Said, Vec<u8>), Bad> {
     let discards = discards(&mut words)?;
-    let bytes = bytes(&words)?;
+    let bytes = bytes(core, &mut words)?;
     let refusal = core.waits(&bytes, &discards).refusal;
     let asked = Asked { bytes: &bytes, discards: Some(&discards), refusal, notes: input::notes(&words) };
-    if wish.plain { asked.plain_head(page) } else { asked.head(page) }
+    if wish.plain {
+        asked.plain_head(page)
+    } else {
+        asked.head(page)
+    }
     Ok(core.say_waits(wish.language, &bytes, &discards, wish.buffer))
 }
 
 /// The message of how far an unfinished hand is from ready.
-fn of_ready(core: &mut Core, page: &mut Page, wish: &Wish, words: Words) -> Result<(Said, Vec<u8>), Bad> {
-    let bytes = bytes(&words)?;
+fn of_ready(core: &mut Core, page: &mut Page, wish: &Wish, mut words: Words) -> Result<(Said, Vec<u8>), Bad> {
+    let bytes = bytes(core, &mut words)?;
     let refusal = core.ready(&bytes).refusal;
     let asked = Asked { bytes: &bytes, discards: None, refusal, notes: input::notes(&words) };
-    if wish.plain { asked.plain_head(page) } else { asked.head(page) }
+    if wish.plain {
+        asked.plain_head(page)
+    } else {
+        asked.head(page)
+    }
     Ok(core.say_ready(wish.language, &bytes, wish.buffer))
+}
+
+/// The message of the scores after a log's last entry.
+fn of_scores(core: &mut Core, wish: &Wish, words: Words) -> Result<(Said, Vec<u8>), Bad> {
+    let log = input::log(core, words)?;
+    let walk = whole(core, limit::read(&log.bytes));
+    Ok(core.say_scores(wish.language, &position(&walk), wish.buffer))
+}
+
+/// For scripts, the message of a position's scores.
+pub fn scores(core: &mut Core, page: &mut Page, language: u8, position: &Position) {
+    let (said, clips) = core.say_scores(language, position, MESSAGE_MAX);
+    plain(page, language, said, &clips);
 }
 
 /// The sentence for a refusal.
@@ -115,10 +144,13 @@ fn of_refusal(core: &mut Core, page: &mut Page, wish: &Wish, words: Words) -> Re
 fn rows(page: &mut Page, wish: &Wish, said: Said, clips: &[u8]) {
     page.row("language", sheet::named(wish.language));
     if said.refusal != 0 {
-        page.row("message", match said.refusal {
-            13 => format!("refusal 13, the buffer is shorter than the message: {}", count(wish.buffer, "byte")),
-            refusal => sentence(refusal as u8, &[]),
-        });
+        page.row(
+            "message",
+            match said.refusal {
+                13 => format!("refusal 13, the buffer is shorter than the message: {}", count(wish.buffer, "byte")),
+                refusal => sentence(refusal as u8, &[]),
+            },
+        );
         wish.wav.iter().for_each(|file| page.line(format!("\nnothing is said, and {file} is not written")));
         return;
     }
@@ -138,11 +170,11 @@ pub fn numbers(clips: &[u8]) -> String {
 }
 
 /// The same for scripts.
-fn plain(page: &mut Page, wish: &Wish, said: Said, clips: &[u8]) {
-    page.plain("language", [wish.language]);
+fn plain(page: &mut Page, language: u8, said: Said, clips: &[u8]) {
+    page.plain("language", [language]);
     page.plain("said", [said.refusal, said.len]);
     page.plain("clips", clips);
     if said.refusal == 0 {
-        parts(clips).into_iter().for_each(|part| page.plain("words", [sheet::words(wish.language, part)]));
+        parts(clips).into_iter().for_each(|part| page.plain("words", [sheet::words(language, part)]));
     }
 }

@@ -18,6 +18,11 @@ fn lines() -> &'static BTreeMap<u8, Vec<&'static str>> {
     })
 }
 
+/// The sheet's rows: clip, name, Japanese, kana, English, Korean, Mandarin, pinyin.
+pub fn rows() -> impl Iterator<Item = &'static Vec<&'static str>> {
+    lines().values()
+}
+
 /// A clip's words in a column, ? where the sheet has none.
 fn word(clip: u8, column: usize) -> &'static str {
     let words = lines().get(&clip).and_then(|line| line.get(column)).copied();

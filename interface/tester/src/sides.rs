@@ -40,7 +40,11 @@ pub fn alone(core: &Core, first: &Answer, plain: bool, why: &str) -> String {
 /// Fu as the sum of its items.
 fn fu(scored: &Scored) -> String {
     let items: Vec<String> = scored.items.list().iter().filter(|&&item| item > 0).map(u8::to_string).collect();
-    if items.len() < 2 { scored.fu.to_string() } else { format!("{} = {}", scored.fu, items.join(" + ")) }
+    if items.len() < 2 {
+        scored.fu.to_string()
+    } else {
+        format!("{} = {}", scored.fu, items.join(" + "))
+    }
 }
 
 /// The rows of an answer: a label, and no line, one or more below each other.

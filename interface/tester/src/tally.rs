@@ -87,24 +87,26 @@ fn changes(outcome: &Outcome) -> Option<Vec<String>> {
     (outcome.step.refusal == 0).then(|| [&label[..], &outcome.cells()].concat())
 }
 
-/// Of each step: why it was refused; or which entry a correction supersedes, the last accepted one, what an accepted draw was besides
-/// one, and who pays and takes what of wins that are no plain ones.
+/// Of each step: why it was refused, or what is to be said of an accepted one.
 fn remarks(walk: &Walk) -> Vec<Option<String>> {
     let mut last = 0;
-    let each = (1..).zip(&walk.steps).map(|(n, step)| {
-        if step.refusal != 0 {
-            return Some(sentence(step.refusal, &of_entry(step.refusal, &step.entry, &step.before.other)));
-        }
-        let (superseded, booking) = match &step.entry {
-            Entry::Correction(new) => (Some(format!("supersedes entry {last}")), new.as_ref()),
-            booking => (None, booking),
-        };
-        last = n;
-        let position = made_in(step);
-        let said: Vec<String> = superseded.into_iter().chain(of_draw(booking, &position)).chain(of_wins(booking, &position)).collect();
-        (!said.is_empty()).then(|| said.join("; "))
+    let each = (1..).zip(&walk.steps).map(|(n, step)| match step.refusal {
+        0 => accepted(step, std::mem::replace(&mut last, n)),
+        refusal => Some(sentence(refusal, &of_entry(refusal, &step.entry, &step.before.other))),
     });
     each.collect()
+}
+
+/// Of an accepted step: which entry a correction supersedes, the `last` accepted one, what an accepted draw was besides one, and who pays
+/// and takes what of wins that are no plain ones.
+pub fn accepted(step: &Step, last: usize) -> Option<String> {
+    let (superseded, booking) = match &step.entry {
+        Entry::Correction(new) => (Some(format!("supersedes entry {last}")), new.as_ref()),
+        booking => (None, booking),
+    };
+    let position = made_in(step);
+    let said: Vec<String> = superseded.into_iter().chain(of_draw(booking, &position)).chain(of_wins(booking, &position)).collect();
+    (!said.is_empty()).then(|| said.join("; "))
 }
 
 /// A line of tally with its remark behind it.

@@ -16,11 +16,29 @@ use crate::refusals::{of_unfinished, sentence};
 use crate::words::{Bad, Words};
 
 /// The indicator when none is given: North.
-const NORTH: u8 = 30;
+pub const NORTH: u8 = 30;
 
-/// The bytes of notation or of hexadecimal digits.
-pub fn bytes(words: &Words) -> Result<Vec<u8>, Bad> {
+/// The bytes of a word record=HEX: the hand that the record is without its winning tile.
+fn of_record(core: &mut Core, words: &mut Words) -> Result<Option<Vec<u8>>, Bad> {
+    let record = words.take("record", from_hex)?;
+    let Some(record) = record else { return Ok(None) };
+    if !words.texts().is_empty() {
+        return Err(words.bad(0, "record= has the tiles already, leave the word out"));
+    }
+    match core.unfinished(&record) {
+        (written, bytes) if written.refusal == 0 => Ok(Some(bytes[..written.len].to_vec())),
+        (written, _) => {
+            Err(Bad::new(format!("record={}: {}; `tester hand {0}` says more", to_hex(&record), sentence(written.refusal, &[]))))
+        }
+    }
+}
+
+/// The bytes of notation, of hexadecimal digits or of a record.
+pub fn bytes(core: &mut Core, words: &mut Words) -> Result<Vec<u8>, Bad> {
     words.no_options()?;
+    if let Some(bytes) = of_record(core, words)? {
+        return Ok(bytes);
+    }
     input::no_spaces(words, "567m22456p67s chi=234m")?;
     input::bytes_alone(words, "the hand's bytes say this already, leave the word out")?;
     if let Some(bytes) = input::bytes(words) {
@@ -31,7 +49,11 @@ pub fn bytes(words: &Words) -> Result<Vec<u8>, Bad> {
         return Err(words.bad(0, "no hand, such as 567m22456p67s chi=234m"));
     }
     let hand = unfinished::parse(&texts).map_err(|fault| words.bad(fault.word, fault.why))?;
-    Ok(pack(&hand))
+    let (written, bytes) = core.write_unfinished(&hand);
+    Ok(match written.refusal {
+        0 => bytes[..written.len].to_vec(),
+        _ => pack(&hand),
+    })
 }
 
 /// The discards of a word discards=TILES or kinds=HEX.
@@ -95,6 +117,14 @@ impl Asked<'_> {
     }
 }
 
+/// The one tile of a word.
+pub fn one(value: &str) -> Result<u8, String> {
+    match tiles(value)?[..] {
+        [tile] => Ok(tile),
+        _ => Err("one tile is needed, such as 4m".into()),
+    }
+}
+
 /// A player who may win with the hand: what a record says besides the tiles, and the table.
 struct Player {
     hand: Hand,
@@ -107,10 +137,7 @@ fn player(words: &mut Words) -> Result<Option<Player>, Bad> {
     let seat = words.take("seat", seat)?;
     let Some(winner) = seat else { return Ok(None) };
     let (dealer, wind) = input::table(words)?;
-    let indicator = words.take("indicator", |value| match tiles(value)?[..] {
-        [tile] => Ok(tile),
-        _ => Err("one tile is needed, such as 4m".to_string()),
-    })?;
+    let indicator = words.take("indicator", one)?;
     let riichi = if words.take_flag("double") { 2 } else { words.take_flag("riichi") as u8 };
     let situation = if words.take_flag("last") { LAST_TILE } else { ORDINARY };
     let hand = Hand { winner, riichi, situation, indicator: indicator.unwrap_or(NORTH), ..Hand::default() };
@@ -149,12 +176,28 @@ fn each(core: &mut Core, hand: &Unfinished, waits: &[u8], discards: &[u8], playe
     waits.iter().map(row).collect()
 }
 
+/// For scripts, of each wait by ron and by tsumo what it would score: refusal, h, fu and gain; nothing without a player.
+pub fn plain_scores(core: &mut Core, page: &mut Page, mut words: Words) -> Result<(), Bad> {
+    let discards = discards(&mut words)?;
+    let Some(player) = player(&mut words)? else { return Ok(()) };
+    let bytes = bytes(core, &mut words)?;
+    let Ok((hand, _)) = unpack(&bytes) else { return Ok(()) };
+    for kind in core.waits(&bytes, &discards).waits.list() {
+        for (name, how) in [("ron", RON), ("tsumo", TSUMO)] {
+            let scored = finished(core, &player, &hand, kind, how);
+            let figures = [scored.refusal.into(), scored.h.into(), scored.fu.into(), scored.changes[player.hand.winner as usize]];
+            page.plain("score", [text(&[kind]), name.into()].into_iter().chain(figures.map(|figure| figure.to_string())));
+        }
+    }
+    Ok(())
+}
+
 /// The waits and furiten, or why there is no answer.
 pub fn run(core: &mut Core, mut words: Words) -> Result<String, Bad> {
     let plain = words.take_flag("--plain");
     let discards = discards(&mut words)?;
     let player = player(&mut words)?;
-    let bytes = bytes(&words)?;
+    let bytes = bytes(core, &mut words)?;
     let answer = core.waits(&bytes, &discards);
     let asked = Asked { bytes: &bytes, discards: Some(&discards), refusal: answer.refusal, notes: input::notes(&words) };
     let waits = answer.waits.list();

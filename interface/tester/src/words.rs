@@ -47,6 +47,12 @@ impl Words {
         Words { source, list, last }
     }
 
+    /// The words with each sign as another.
+    pub fn mapped(mut self, sign: fn(char) -> char) -> Words {
+        self.list.iter_mut().for_each(|(_, text)| *text = text.chars().map(sign).collect());
+        self
+    }
+
     /// The words left.
     pub fn texts(&self) -> Vec<&str> {
         self.list.iter().map(|(_, text)| text.as_str()).collect()

@@ -12,8 +12,8 @@ fn fails(line: &str, input: impl AsRef<[u8]>, message: &str) {
 
 #[test]
 fn of_the_tool() {
-    fails("", "", "no command: hand, readings, rotate, rename, slip, waits, ready, cards, judge, say, log, tally or damage; --help says more");
-    fails("hands", "", "word 1, \"hands\": no command; there are hand, readings, rotate, rename, slip, waits, ready, cards, judge, say, log, tally and damage");
+    fails("", "", "no command: hand, readings, rotate, rename, slip, waits, ready, cards, judge, say, log, tally, damage, draft, game or clips; --help says more");
+    fails("hands", "", "word 1, \"hands\": no command; there are hand, readings, rotate, rename, slip, waits, ready, cards, judge, say, log, tally, damage, draft, game and clips");
 }
 
 #[test]
@@ -67,7 +67,8 @@ fn of_a_hand_in_quotation_marks() {
         ("waits", "567m 22456p 67s", "567m22456p67s chi=234m"),
     ] {
         let ran = run_words(&[command, hand, "--plain"]);
-        let message = format!("tester: word 2, \"{hand}\": leave the quotation marks out, and write the words as they are, such as {such}\n");
+        let message =
+            format!("tester: word 2, \"{hand}\": leave the quotation marks out, and write the words as they are, such as {such}\n");
         assert_eq!((ran.status, ran.err), (2, message));
     }
 }
@@ -102,6 +103,10 @@ fn of_a_claim() {
         ("gain=1", format!("claim= is missing, {such}")),
         ("claim=40c800 gain=1", "claim=HEX has the whole claim: leave pair=, groups=, place= and gain= out".into()),
         ("claim=regular pair=55s groups=123m,789p,789p place=0 gain=1", "groups= has 3 groups, with 0 melds 4 are needed".into()),
+        (
+            "claim=regular pair=55s groups=123m,123m,789p,789p place=5 gain=1",
+            "place=5: the claim has 4 groups, melds left out".into(),
+        ),
         ("claim=regular pair=56s", "word 6, \"pair=56s\": two equal tiles are needed, such as 55s".into()),
         ("claim=regular groups=123m,89p1s", "word 6, \"groups=123m,89p1s\": 89p1s: three neighbours of a suit or three equal tiles are needed, such as 123m or EEE".into()),
         ("claim=regular groups=111m,222m,333m,444m,555m", "word 6, \"groups=111m,222m,333m,444m,555m\": at most four groups, melds left out".into()),
@@ -109,13 +114,24 @@ fn of_a_claim() {
     ] {
         fails(&format!("judge {hand} {words}"), "", &message);
     }
-    fails("judge 1111m44m77m22p55p8p+8p seat=1 ron=3", "", "no reading of the hand is reported, so claim= is needed: in words, such as claim=pairs gain=1600, or claim=HEX");
+    fails(
+        "judge 1111m44m77m22p55p8p+8p seat=1 ron=3",
+        "",
+        "no reading of the hand is reported, so claim= is needed: in words, such as claim=pairs gain=1600, or claim=HEX",
+    );
 }
 
 #[test]
 fn of_an_unfinished_hand() {
     let tiles = "567m22456p67s";
     for (words, message) in [
+        ("record=b81e 567m", "word 3, \"567m\": record= has the tiles already, leave the word out".to_string()),
+        ("record=b81", "word 2, \"record=b81\": b81: two hexadecimal digits are needed for each byte".to_string()),
+        (
+            "record=b81e64808828c51461a72ec1",
+            "record=b81e64808828c51461a72ec1: refusal 2, a field is out of range; `tester hand b81e64808828c51461a72ec1` says more"
+                .to_string(),
+        ),
         ("", "after word 1, \"waits\": no hand, such as 567m22456p67s chi=234m".to_string()),
         ("202", "word 2, \"202\": two hexadecimal digits make a byte, one is left over".into()),
         (tiles, format!("after word 2, \"{tiles}\": 10 tiles, with 0 melds 13 are needed")),
@@ -245,7 +261,11 @@ fn of_a_text_that_is_not_utf_8() {
             fails(line, &input, &format!("standard input, {message}; {advice}"));
         }
     }
-    fails("log - as=text", [1, 0x24], &format!("standard input, line 1, byte 1 of the line, 01: a control sign, which a text does not have; {advice}"));
+    fails(
+        "log - as=text",
+        [1, 0x24],
+        &format!("standard input, line 1, byte 1 of the line, 01: a control sign, which a text does not have; {advice}"),
+    );
 }
 
 #[test]

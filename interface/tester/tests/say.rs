@@ -99,7 +99,8 @@ fn scores_of_an_evening() {
     let evening = root().join("docs/evening.txt");
     let words = format!("tally {} --say", evening.display());
     let out = answer(&format!("{words} en"));
-    let words_then = "East thirty thousand points; South twenty nine thousand points; West thirty thousand points; North thirty thousand points";
+    let words_then =
+        "East thirty thousand points; South twenty nine thousand points; West thirty thousand points; North thirty thousand points";
     let clips = "60 12 51 68; 61 11 9 51 68; 62 12 51 68; 63 12 51 68; 77 1";
     assert!(out.contains(&format!("\n      {words_then}; sticks one\n      {clips}\n")), "{out}");
     let plain = answer(&format!("{words} 4 --plain"));

@@ -23,7 +23,9 @@ fn paid(hand: &str, changes: &str, more: &[(&str, &str)]) {
 /// A hand is refused with this number, all else zero.
 fn refused(hand: &str, refusal: &str) {
     let out = answer(&format!("hand {hand} --plain"));
-    for (key, wanted) in [("refusal", refusal), ("h", "0"), ("fu", "0"), ("fu-items", NO_ITEMS), ("yaku", ""), ("tried", "0"), ("changes", "0 0 0 0")] {
+    for (key, wanted) in
+        [("refusal", refusal), ("h", "0"), ("fu", "0"), ("fu-items", NO_ITEMS), ("yaku", ""), ("tried", "0"), ("changes", "0 0 0 0")]
+    {
         assert_eq!(value(&out, key), wanted, "{key} of {hand}");
     }
 }

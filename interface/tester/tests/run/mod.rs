@@ -31,12 +31,7 @@ pub fn run_alone(line: &str) -> Ran {
 
 /// Runs a command with bytes on standard input.
 fn run_by(command: &mut Command, input: &[u8]) -> Ran {
-    let mut child = command
-        .stdin(Stdio::piped())
-        .stdout(Stdio::piped())
-        .stderr(Stdio::piped())
-        .spawn()
-        .expect("the tool");
+    let mut child = command.stdin(Stdio::piped()).stdout(Stdio::piped()).stderr(Stdio::piped()).spawn().expect("the tool");
     child.stdin.take().expect("its input").write_all(input).unwrap_or(());
     let ran = child.wait_with_output().expect("its output");
     let text = |bytes: Vec<u8>| String::from_utf8(bytes).expect("text");
