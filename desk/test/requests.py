@@ -1,0 +1,102 @@
+"""Requests that no page makes: each gets a status 400 and one line, nothing outside the page can be read, and the server goes on."""
+import http.client
+import socket
+import subprocess
+from urllib.parse import urlsplit
+
+LINE_1 = "/ask/draft?words=234567m345p67s22s%2B8s+seat%3D1+ron%3D3&language=2"
+
+
+def asked(address, path, method="GET", body=None, **headers):
+    """The status and the text of a request."""
+    link = http.client.HTTPConnection(address.hostname, address.port, timeout=30)
+    try:
+        link.request(method, path, body, {name.replace("_", "-"): value for name, value in headers.items()})
+        response = link.getresponse()
+        return response.status, response.read().decode("utf-8", "replace")
+    finally:
+        link.close()
+
+
+def raw(address, content):
+    """What the server sends back to bytes as they are."""
+    with socket.create_connection((address.hostname, address.port), timeout=30) as link:
+        link.sendall(content)
+        link.shutdown(socket.SHUT_WR)
+        return b"".join(iter(lambda: link.recv(65536), b""))
+
+
+def run(desk):
+    address = urlsplit(desk.address)
+    host = f"Host: 127.0.0.1:{address.port}"
+    good = lambda: asked(address, LINE_1)[0] == 200
+    desk.checks.true("a good question is answered", good())
+    for what, request in {
+        "an address that is not there": dict(path="/nothing"),
+        "a file outside": dict(path="/../run.sh"),
+        "a file outside, hidden": dict(path="/%2e%2e/server/tool.py"),
+        "a file outside, twice": dict(path="/..%2f..%2f..%2fetc/passwd"),
+        "a whole path": dict(path="//etc/passwd"),
+        "an option": dict(path="/ask/draft?words=--help&language=2"),
+        "help": dict(path="/ask/draft?words=help&language=2"),
+        "an option of a letter": dict(path="/ask/draft?words=-h&language=2"),
+        "no such language": dict(path="/ask/draft?words=1m&language=5"),
+        "a language that is none": dict(path="/ask/draft?words=1m&language=--plain"),
+        "a control sign": dict(path="/ask/draft?words=1m%00&language=2"),
+        "too many words": dict(path="/ask/draft?words=" + "1" * 2000 + "&language=2"),
+        "no query": dict(path="/ask/draft?words"),
+        "no text": dict(path="/ask/draft?words=%ff%fe&language=2"),
+        "no tiles": dict(path="/ask/draft?words=hello&language=2"),
+        "another name": dict(path="/", Host="attacker.example"),
+        "another name with the port": dict(path="/", Host=f"attacker.example:{address.port}"),
+        "another page": dict(path=LINE_1, Origin="http://attacker.example"),
+        "no page": dict(path=LINE_1, Origin="null"),
+        "a page elsewhere on this machine": dict(path=LINE_1, Origin="http://127.0.0.1:1"),
+        "another site": dict(path=LINE_1, Sec_Fetch_Site="cross-site"),
+        "a post to a question": dict(path=LINE_1, method="POST", body=b""),
+        "a get of a booking": dict(path="/ask/game?language=2"),
+        "another method": dict(path="/", method="DELETE"),
+        "a method that is none": dict(path="/", method="NONE"),
+        "a log that is no text": dict(path="/ask/game?as=text&language=2", method="POST", body=b"\xff\xff"),
+        "a form that is none": dict(path="/ask/game?as=to%3D/tmp/x&language=2", method="POST", body=b""),
+        "a body too long": dict(path="/ask/game?language=2", method="POST", body=b"0" * ((1 << 20) + 1)),
+        "a sound of nothing": dict(path="/ask/sound?of=all&language=2", method="POST", body=b""),
+        "a sound of a refused hand": dict(path="/ask/sound?of=score&words=1111m44m77m22p55p8p%2B8p+seat%3D1+ron%3D3&language=2", method="POST", body=b""),
+        "damage of nothing": dict(path="/ask/damage?of=hand&words=", method="POST", body=b""),
+        "damage without a number": dict(path="/ask/damage?of=hand&words=b81e&random=x", method="POST", body=b""),
+        "damage by an option": dict(path="/ask/damage?of=hand&words=b81e+--show", method="POST", body=b""),
+    }.items():
+        status, text = asked(address, **request)
+        desk.checks.same(f"{what}: 400 and one line", (status, text.count("\n"), text.strip() != ""), (400, 1, True))
+        desk.checks.true(f"{what}: the server goes on", good())
+    for what, content in {
+        "no request": b"hello\r\n\r\n",
+        "bytes": bytes(range(256)),
+        "a line without an end": b"GET /" + b"a" * 100000,
+        "a header without an end": b"GET / HTTP/1.1\r\n" + host.encode() + b"\r\nX: " + b"a" * 100000 + b"\r\n\r\n",
+        "too many headers": b"GET / HTTP/1.1\r\n" + host.encode() + b"\r\n" + b"X: 1\r\n" * 200 + b"\r\n",
+        "two lengths": f"POST /ask/game?language=2 HTTP/1.1\r\n{host}\r\nContent-Length: 1\r\nContent-Length: 2\r\n\r\n1".encode(),
+        "a length below zero": f"POST /ask/game?language=2 HTTP/1.1\r\n{host}\r\nContent-Length: -1\r\n\r\n".encode(),
+        "a length that is no number": f"POST /ask/game?language=2 HTTP/1.1\r\n{host}\r\nContent-Length: ٣\r\n\r\n".encode(),
+        "chunks": f"POST /ask/game?language=2 HTTP/1.1\r\n{host}\r\nTransfer-Encoding: chunked\r\n\r\n0\r\n\r\n".encode(),
+        "no name": b"GET / HTTP/1.1\r\n\r\n",
+        "two names": f"GET / HTTP/1.1\r\n{host}\r\nHost: attacker.example\r\n\r\n".encode(),
+    }.items():
+        back = raw(address, content)
+        body = back.partition(b"\r\n\r\n")[2]
+        desk.checks.same(f"{what}: 400 and one line", (back[:12], body.count(b"\n")), (b"HTTP/1.1 400", 1))
+        desk.checks.true(f"{what}: the server goes on", good())
+    links = [socket.create_connection((address.hostname, address.port)) for _ in range(300)]
+    desk.checks.true("three hundred silent connections do not stop it", good())
+    [link.close() for link in links]
+    others = subprocess.run(["hostname", "-I"], capture_output=True, text=True).stdout.split()
+    for other in [name for name in others if ":" not in name]:
+        desk.checks.true("it cannot be reached from another machine", refuses(other, address.port))
+
+
+def refuses(name, port):
+    try:
+        socket.create_connection((name, port), timeout=5).close()
+    except OSError:
+        return True
+    return False
