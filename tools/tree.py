@@ -14,7 +14,7 @@ INDEX = ("Lib.antt", "laws.antt", "search.antt")
 
 HEAD = re.compile(r"(abbrev |unfoldable )?(pub )?(record |data )?([^\s:(){}]+)(?: [^:]*?|(?: [({].*?[)}])*) ?:(?: |$)")
 MEMBER = re.compile(r"\s+(?:pub )?([^\s:(){}]+) :(?: |$)")
-IMPORT = re.compile(r"(pub |ghost )?use ([^{};]+?)(?:\.\{([^}]*)\}| as (\S+?))?;?$")
+IMPORT = re.compile(r"(?:unfoldable )?(pub |ghost )?use ([^{};]+?)(?:\.\{([^}]*)\}| as (\S+?))?;?$")
 
 
 def read(path):
@@ -83,7 +83,7 @@ def antt_file(crate, path, text):
         indent = len(line) - len(line.lstrip())
         if statement:
             statement += " " + bare
-        elif re.match(r"(pub )?use ", line):
+        elif re.match(r"(unfoldable )?(pub )?use ", line):
             statement = bare
         if statement:
             file.import_lines += 1
@@ -101,6 +101,9 @@ def antt_file(crate, path, text):
                 comments += 1
             continue
         if re.match(r"(pub )?mod ", line):
+            continue
+        if modules and not modules[-1].endswith("where"):
+            modules[-1] += " " + bare  # the head of a module goes on
             continue
         closing = bare.startswith(("}", ")"))
         while modules and indent < 2 * len(modules) and not closing:
@@ -184,6 +187,7 @@ class Tree:
             for path in self.paths(crate, "src/*.rt"):
                 self.files[path] = rt_file(crate, path, read(os.path.join(self.root, path)))
         self.edits = {path.split("/")[0] + "/" + os.path.basename(path)[:-5] for path in self.paths("*", "must-fail/**/*.edit")}
+        self.in_gate = {path.split("/")[0] + "/" + os.path.basename(path)[:-5] for path in self.paths("*", "must-fail/*.edit")}
 
     def paths(self, crate, pattern):
         """Paths below crates/."""

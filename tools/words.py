@@ -24,7 +24,7 @@ C_LIKE = r'/\*.*?\*/|//[^\n]*|"(?:[^"\\]|\\.)*"|\'(?:[^\'\\]|\\.)\''
 PYTHON = r'"""(?:[^\\]|\\.)*?"""|"(?:[^"\\\n]|\\.)*"|\'(?:[^\'\\\n]|\\.)*\'|#[^\n]*'
 HIDDEN = {".c": C_LIKE, ".h": C_LIKE, ".rs": C_LIKE, ".py": PYTHON, ".sh": r"\"(?:[^\"\\]|\\.)*\"|'[^']*'|(?<![^\s])#[^\n]*", ".rt": r"//[^\n]*", ".antt": r"(?<![^\s])--[^\n]*"}
 SHELL = re.compile(r"\$\{?(\w+)|^\s*(?:local )?(\w+)(?==|\(\))", flags=re.M)
-USE = re.compile(r"^\s*(?:pub )?(?:ghost )?use ([^;{\n]+?)(?:\.\{([^}]*)\}| as (\S+?))?;?$", flags=re.M)
+USE = re.compile(r"^\s*(?:unfoldable )?(?:pub )?(?:ghost )?use ([^;{\n]+?)(?:\.\{([^}]*)\}| as (\S+?))?;?$", flags=re.M)
 
 
 def parts(name):

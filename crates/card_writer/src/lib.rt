@@ -90,6 +90,7 @@ fn is_size(size: u8) -> bool
     (size == 2) | (size == 5) | (size == 8)
 }
 
+// Refusal 19, and no set.
 fn refused() -> Cards
     ensures { λ r. ⌜ r ≡ refusedCards ⌝ }
 {

@@ -75,7 +75,7 @@ fn nothing() -> Claimed
     }
 }
 
-// A claim of shape 0 and its length.
+// What a claim of shape 0 names, which has the length of one.
 fn regular_in(s: &[u8], m: usize) -> Claimed
     requires { ⌜ (m ≤ 4) × (length (now s) ≡ lengthOf 0 m) × (shapeIn (bitsOf (now s)) ≡ 0) ⌝ }
     ensures { λ r. ⌜ r ≡ claimedIn m (lengthOf 0 m) (bitsOf (now (s .entry))) ⌝ }
@@ -103,7 +103,7 @@ fn regular_in(s: &[u8], m: usize) -> Claimed
     }
 }
 
-// A claim of shape 1 or 2 and its length.
+// What a claim of shape 1 or 2 names, which has the length of one.
 fn shape_in(s: &[u8], m: usize, shape: u8) -> Claimed
     requires { ⌜ (length (now s) ≡ 3) × (shapeIn (bitsOf (now s)) ≡ shape) × (0 < shape) × (shape ≡ 3 → ⊥) ⌝ }
     ensures { λ r. ⌜ r ≡ claimedIn m 3 (bitsOf (now (s .entry))) ⌝ }

@@ -12,20 +12,21 @@ pub exactly-one-answer : (c : Claim) (buf : List ℕ)
     → (w : Written) × (out : List ℕ) × Writes c buf w out × ((v : Written) (l : List ℕ) → Writes c buf v l → (v ≡ w) × (l ≡ out))
 exactly-one-answer = laws.exactly-one
 
--- that answer, and that buffer
+-- that answer
 unfoldable pub writtenOf : Claim → List ℕ → Written
 writtenOf c buf = exactly-one-answer c buf .0
 
+-- that buffer
 unfoldable pub bufferOf : Claim → List ℕ → List ℕ
 bufferOf c buf = exactly-one-answer c buf .1
 
 module _ (c : Claim) (buf : List ℕ) where
-  -- they are so
+  -- `Writes` says so of them
   pub is-written : Writes c buf (writtenOf c buf) (bufferOf c buf)
   unfolding writtenOf bufferOf
   is-written = exactly-one-answer c buf .2
 
-  -- and the only ones
+  -- and of no other answer or buffer
   pub one-answer : (v : Written) (l : List ℕ) → Writes c buf v l → (v ≡ writtenOf c buf) × (l ≡ bufferOf c buf)
   unfolding writtenOf bufferOf
   one-answer = exactly-one-answer c buf .3

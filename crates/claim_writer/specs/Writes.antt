@@ -17,7 +17,7 @@ readingOf c = record { shape = c .shape; pair = c .pair; groups = c .groups; pla
 abbrev pub claimOf : ℕ → NthReading → Claim
 claimOf m a = record { gain = a .gain; shape = a .shape; pair = a .pair; groups = a .groups; place = a .place; m = m }
 
--- the bytes s name that reading and gain for a hand with m melds; none has "m over 4" (01, Tiles and the hand record)
+-- the bytes s name that reading and gain for a hand with m melds; no hand has "m over 4" (01, Tiles and the hand record)
 pub record IsClaimOf (c : Claim) (s : List ℕ) : Type 0 where
   pub few : c .m ≤ 4
   pub bytes : EachBelow 256 s

@@ -3,7 +3,7 @@ ghost use mathlib.Core.Path.{_≡_};
 ghost use mathlib.Core.List.{[], _∷_};
 ghost use Prim.Native.Nat.{_≤_, _<_};
 ghost use Rattle.bits.specs.Bits.{pack, fill};
-ghost use Rattle.claim.specs.laws.Claimed.{widths};
+ghost use Rattle.claim.specs.search.Claimed.{widths};
 ghost use Rattle.claim_writer.specs.Writes.{Writes};
 ghost use Rattle.claim_writer.specs.Write.{writtenOf, bufferOf};
 ghost use Rattle.claim_writer.specs.search.Bytes.{inOrder, ordered, isNameable, regularValues, otherValues, packed, lengthFor};
@@ -26,7 +26,7 @@ const LENGTHS: [usize; 5] = [7, 7, 6, 5, 4];
 
 // ---- whether bytes can name it
 
-// The code at place i of the groups: of the first n one of a group, from `low` on; past them 68.
+// The code at place i of the groups is one of a group and not under `low`, where i is one of the first n places; past them it is 68.
 fn in_order(n: u8, i: u8, low: u8, code: u8) -> bool
     ensures { λ r. ⌜ r ≡ inOrder n i low code ⌝ }
 {
@@ -65,7 +65,7 @@ fn is_nameable(c: Claim) -> bool
 
 // ---- its bytes
 
-// How many there are.
+// How many bytes the claim has.
 fn length(c: Claim) -> usize
     requires { ⌜ c .m ≤ 4 ⌝ }
     ensures { λ r. ⌜ r ≡ lengthFor c ⌝ }

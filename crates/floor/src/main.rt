@@ -49,6 +49,7 @@ const WINS: [u8; 39] = [
     66,
 ];
 
+// The position after a hand: seat 1's riichi, refused or not, and the three wins.
 fn hand_of(g: Position) -> Position {
     let a = position_bookings::riichi(g, 1);
     let h = a.position;
@@ -57,13 +58,14 @@ fn hand_of(g: Position) -> Position {
     b.position
 }
 
-// The first n bytes.
+// Prints the first n bytes.
 fn put(line: &[u8], n: usize) {
     if n <= line.len() {
         io::write_all(STDOUT_FILENO, &line[..n]);
     }
 }
 
+// Prints a line of `tally`.
 fn show(g: Position, entry: u32, letter: u8, refusal: u8) {
     let mut line = [0u8; 96];
     let s = g.scores;

@@ -37,7 +37,7 @@ pub both-in-form : (es : List Entry) → let g = gameFrom freshGame es in (outOf
 both-in-form es = let p = lists.both-kept es in (lists.kept-in-form _ (p .0), lists.kept-in-form _ (p .1))
 
 -- "The earlier game that is kept for this must be in form too, or the game isn't": a booking is refused with 9, or with the 8 before it, as in that
--- position; of a correction the next theorem but one says it
+-- position; of a correction `nine-then-twenty` says it
 pub earlier-in-form-too : (g : Game) → isSet (g .correctable) ≡ true → outOfForm (g .earlier) ≡ true → (b : Booking)
     → let n = gameRefusal g (booking b) in (n ≡ refusalFor (g .earlier) b) × ((n ≡ 8) ⊎ (n ≡ 9))
 earlier-in-form-too = after.earlier-out

@@ -52,8 +52,8 @@ gameFrom g (e ∷ es) = gameFrom (gameAfter g e) es
 
 -- ---- the bookings left standing
 
--- where bs stand, and after them `last`: the booking that a correction supersedes, "the last finished booking, as long as no other booking has been accepted
--- since", or none
+-- bs stand, and after them `last`: the booking that a correction would supersede, "the last finished booking, as long as no other booking has been accepted
+-- since", or none. What stands after the entries
 unfoldable pub standingFrom : List Booking → List Booking → List Entry → List Booking
 standingFrom bs last [] = bs ++ last
 standingFrom bs last (booking b ∷ es) =
@@ -61,8 +61,8 @@ standingFrom bs last (booking b ∷ es) =
     cond (ltb 0 (refusalFor l b)) (standingFrom bs last es)
     (cond (effectOf l b .finishes) (standingFrom (bs ++ last) (b ∷ []) es) (standingFrom ((bs ++ last) ++ (b ∷ [])) [] es))
 standingFrom bs [] (correction r ∷ es) = standingFrom bs [] es
-standingFrom bs (last ∷ none) (correction r ∷ es) =
-    cond (ltb 0 (refusalFor (ledger bs) (result r))) (standingFrom bs (last ∷ none) es) (standingFrom bs (result r ∷ []) es)
+standingFrom bs (b ∷ last) (correction r ∷ es) =
+    cond (ltb 0 (refusalFor (ledger bs) (result r))) (standingFrom bs (b ∷ last) es) (standingFrom bs (result r ∷ []) es)
 
 -- "the bookings left standing" of a list
 abbrev pub standing : List Entry → List Booking

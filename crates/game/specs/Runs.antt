@@ -1,6 +1,6 @@
 -- Lists of entries, "each booked in the game as the last one left it".
--- The step is what each call promises, `Books`: the bookings of crate `game_bookings` and the handset's calls over them. So a run of calls is a run of the
--- definitions, and demand 3's `game` and `named` follow from those promises; what the definitions come to is said by `ledger` and the rest.
+-- `Books` is what the contract of each booking says, in crate `game_bookings` and in the handset's calls. So a list of calls is a run. Demand 3's `game` and
+-- `named` follow from `Books` alone; its other fields say what the definitions come to.
 use mathlib.Core.Path.{_≡_}
 use mathlib.Core.Bool.{true}
 use mathlib.Core.List.{List, [], _∷_}
@@ -17,8 +17,8 @@ Books g e n g′ = (n ≡ gameRefusal g e) × (g′ ≡ gameAfter g e)
 
 -- a list with its refusals: "Each booking is lent the game as the last one left it, accepted or refused"
 pub data Runs : Game → List Entry → List ℕ → Game → Type 0 where
-  done : {g : Game} → Runs g [] [] g
-  next : {g h j : Game} {e : Entry} {n : ℕ} {es : List Entry} {ns : List ℕ} → Books g e n h → Runs h es ns j → Runs g (e ∷ es) (n ∷ ns) j
+  empty : {g : Game} → Runs g [] [] g
+  next : {g g′ g″ : Game} {e : Entry} {n : ℕ} {es : List Entry} {ns : List ℕ} → Books g e n g′ → Runs g′ es ns g″ → Runs g (e ∷ es) (n ∷ ns) g″
 
 -- P of each booking, its refusal and "the ledger as the win meets it": "a correction's win, once past 20, is a win booked in the earlier game" (02, S-10)
 abbrev pub Every : (Position → Booking → ℕ → Type 0) → Game → List Entry → List ℕ → Type 0

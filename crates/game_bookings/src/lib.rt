@@ -6,7 +6,7 @@ ghost use lib.Dec.{ltb};
 ghost use Rattle.position.specs.Booking as Booking;
 ghost use Rattle.game.specs.Game.{booking, correction, freshGame, gameOutOfForm};
 ghost use Rattle.game.specs.Runs.{Books};
-ghost use Rattle.game_bookings.specs.laws.Books.{correctionRefusal, checkedIn};
+ghost use Rattle.game_bookings.specs.search.Books.{correctionRefusal, checkedIn};
 use game::Game;
 use position::Position;
 use position_bookings::Moved;

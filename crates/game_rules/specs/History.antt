@@ -12,18 +12,18 @@ use Rattle.position.specs.declared.Position.{Position}
 use Rattle.position.specs.Booking.{Booking}
 use Rattle.position.specs.Ledger.{handFor, isSet, isDeclared, notOpen, feederIndex, feederAt}
 use Rattle.position.specs.Wins.{HasYaku}
-use Rattle.game_rules.specs.Past.{recordsIn, hasDeclared, hasNamed, handsIn, passes, dealerIn, countersIn, sticksPut, sticksReturned}
+use Rattle.game_rules.specs.Past.{recordsIn, hasDeclared, hasNamed, handsIn, passesIn, dealerIn, countersIn, sticksPut, sticksReturned}
 
 -- position l after the bookings of this past
 pub record History (past : List Booking) (l : Position) : Type 0 where
   -- "The deal passes ..; after seat 3 the wind turns South"
-  pub deal : passes past < 8 → (l .dealer ≡ dealerIn past) × (l .wind ≡ passes past / 4)
+  pub deal : passesIn past < 8 → (l .dealer ≡ dealerIn past) × (l .wind ≡ passesIn past / 4)
   -- "after South's seat 3 the game is marked over, dealer and wind staying"
-  pub stays : 8 ≤ passes past → (l .dealer ≡ 3) × (l .wind ≡ 1)
+  pub stays : 8 ≤ passesIn past → (l .dealer ≡ 3) × (l .wind ≡ 1)
   -- "it is marked so at 200 finished hands too"
-  pub over : isSet (l .over) ≡ leb 8 (passes past) || leb 200 (handsIn past)
-  -- "Refusal 9 is for a game that isn't open: over (marked so, or 200 hands finished), or out of form": from a fresh game it never is out of form
-  pub shut : notOpen l ≡ leb 8 (passes past) || leb 200 (handsIn past)
+  pub over : isSet (l .over) ≡ leb 8 (passesIn past) || leb 200 (handsIn past)
+  -- "Refusal 9 is for a game that isn't open: over (marked so, or 200 hands finished), or out of form": after a list from a fresh game none is out of form
+  pub shut : notOpen l ≡ leb 8 (passesIn past) || leb 200 (handsIn past)
   -- "finished hands"
   pub hands : l .hands ≡ handsIn past
   -- "The game holds a counter" (02, S-5)
@@ -38,7 +38,7 @@ pub record History (past : List Booking) (l : Position) : Type 0 where
 
 -- the game is open, by its past: it is not "over (marked so, or 200 hands finished)"
 abbrev pub IsOpen : List Booking → Type 0
-IsOpen past = leb 8 (passes past) || leb 200 (handsIn past) ≡ false
+IsOpen past = leb 8 (passesIn past) || leb 200 (handsIn past) ≡ false
 
 -- P of each booking of a past, with the past before it
 abbrev pub EachWithPast : (Booking → List Booking → Type 0) → List Booking → Type 0

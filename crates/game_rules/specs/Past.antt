@@ -1,4 +1,5 @@
--- What has happened at a table, by the bookings that were accepted alone, the latest first: the past. Nothing here looks at a position.
+-- What has happened at a table: the past. It is "the bookings left standing" (02, S-10), the latest first: those that were accepted, without each that a
+-- correction superseded. Nothing here looks at a position.
 use mathlib.Core.Bool.{Bool, true, false, _&&_, _||_, not, cond}
 use mathlib.Core.List.{List, [], _∷_}
 use Prim.Native.Nat.{ℕ, _+_, _%_}
@@ -8,7 +9,7 @@ use Rattle.hand_rons.specs.Records.{recordsOf, isWinner}
 use Rattle.position.specs.Booking.{Booking, result, riichi, pao, win, draw, chombo, multiRon}
 use Rattle.position.specs.Ledger.{isReady}
 
--- the sum of f over the bookings accepted since the last one with `last`; both see a booking and the past before it
+-- f added up over the bookings of a past after the latest one that has `last`; both are asked of a booking and the past before it
 unfoldable pub sumSince : (Booking → List Booking → Bool) → (Booking → List Booking → ℕ) → List Booking → ℕ
 sumSince last f [] = 0
 sumSince last f (b ∷ past) = cond (last b past) 0 (f b past + sumSince last f past)
@@ -37,15 +38,15 @@ isPaoOf h f y (pao holder feeder yaku) past = eqb h holder && eqb f feeder && eq
 isPaoOf h f y (riichi seat) past = false
 isPaoOf h f y (result r) past = false
 
--- "declared already this hand": a riichi of seat i was accepted since the last finished hand
+-- "declared already this hand": the past has a riichi of seat i since the last finished hand
 abbrev pub hasDeclared : List Booking → ℕ → Bool
 hasDeclared past i = ltb 0 (countSince isResult (isRiichiOf i) past)
 
--- "A new booking names holder, feeder and yaku"; "The booking lapses when the hand is finished" (02, S-8)
+-- "A new booking names holder, feeder and yaku"; "The booking lapses when the hand is finished" (02, S-8): the past has it since the last finished hand
 abbrev pub hasNamed : List Booking → ℕ → ℕ → ℕ → Bool
 hasNamed past holder feeder yaku = ltb 0 (countSince isResult (isPaoOf holder feeder yaku) past)
 
--- "finished hands": how many results were accepted
+-- "finished hands": how many results the past has
 abbrev pub handsIn : List Booking → ℕ
 handsIn past = countSince (λ b before. false) isResult past
 
@@ -94,14 +95,14 @@ isChildsWin dealer b past = isWin b past && not (hasWon b dealer)
 abbrev pub hasPassed : ℕ → Booking → List Booking → Bool
 hasPassed dealer b past = isChildsWin dealer b past || isDraw (λ bits. not (isReady bits dealer)) b past
 
--- how often it has passed. "seat 0 deals first", the others "in turn order", so that the dealer then is what is left of this by four
-unfoldable pub passes : List Booking → ℕ
-passes [] = 0
-passes (b ∷ past) = passes past + cond (hasPassed (passes past % 4) b past) 1 0
+-- how often it has passed. "seat 0 deals first", the others "in turn order", so that the dealer then is this number mod 4
+unfoldable pub passesIn : List Booking → ℕ
+passesIn [] = 0
+passesIn (b ∷ past) = passesIn past + cond (hasPassed (passesIn past % 4) b past) 1 0
 
 -- who deals then
 abbrev pub dealerIn : List Booking → ℕ
-dealerIn past = passes past % 4
+dealerIn past = passesIn past % 4
 
 -- the counter "rises by one at each dealer's win and each draw, returns to 0 at a child's win, and isn't touched by a chombo" (02, S-5)
 abbrev pub countersIn : List Booking → ℕ
@@ -110,7 +111,7 @@ countersIn past =
 
 -- ---- the sticks
 
--- riichi "adds a stick": how many were accepted since the last win, which takes "all sticks"
+-- riichi "adds a stick": how many the past has since the last win, which takes "all sticks"
 abbrev pub sticksPut : List Booking → ℕ
 sticksPut past = countSince isWin (λ b before. any 4 (λ i. isRiichiOf i b before)) past
 

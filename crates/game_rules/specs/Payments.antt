@@ -1,13 +1,12 @@
--- Who pays what, seat by seat and case by case (01, Fu and points, Ledger; 02, S-5, S-7 and S-8).
+-- Who pays what, seat by seat and case by case (01, Fu and points, Ledger; 02, S-5 to S-8).
 use mathlib.Core.Path.{_≡_}
 use mathlib.Core.Bool.{Bool, true, false, _&&_, not, cond}
 use mathlib.Core.Logic.{_⊎_}
-use mathlib.Core.List.{List}
-use Prim.Native.Nat.{ℕ, _+_, _-_, _*_, _<_}
+use mathlib.Core.List.{List, [], _∷_}
+use Prim.Native.Nat.{ℕ, _+_, _*_, _<_}
 use lib.Dec.{eqb}
 use lib.IntN.{ℤ, pos, negℤ, _+ℤ_}
 use lib.ListN.{getD}
-use Rattle.tiles.specs.Below.{count}
 use Rattle.hand.specs.declared.Fields.{Fields}
 use Rattle.hand.specs.Hand.{isRon}
 use Rattle.reading.specs.declared.Reading.{Reading}
@@ -16,16 +15,18 @@ use Rattle.points.specs.Points.{hundreds}
 use Rattle.points_value.specs.declared.Value.{Value}
 use Rattle.score.specs.Named.{groupsOf, worth}
 use Rattle.position.specs.declared.Position.{Position}
-use Rattle.position.specs.Ledger.{mark, handFor, isDeclared, isReady, readySeats, feederIndex, feederAt, wholeOf, isDealersWin}
+use Rattle.position.specs.Ledger.{mark, handFor, isDeclared, isReady, readySeats, feederIndex, feederAt, wholeOf, isDealersWin, winGives}
 use Rattle.position.specs.Article67.{Article67}
 
 -- ---- a win
 
 -- the win of record s in position l, by reading r
 module _ (l : Position) (s : List ℕ) (r : Reading) where
+  -- the fields of its record
   abbrev f : Fields
   f = handFor s .fields
 
+  -- what the reading is worth
   abbrev value : Value
   value = worth (handFor s) (l .dealer) (l .wind) r
 
@@ -41,21 +42,26 @@ module _ (l : Position) (s : List ℕ) (r : Reading) where
 
   -- what it gives each seat with n counters, sticks left out
   pub record WhoPays (n : ℕ) (gives : ℕ → ℤ) : Type 0 where
-    -- "ron, 4A to a child, 6A to the dealer"; "A ron payer pays 300 more for each counter" (02, S-5)
-    pub ron : NoneLiable → isRon f ≡ true → gives (f .discarder) ≡ negℤ (pos (hundreds (cond (eqb (f .winner) (l .dealer)) 6 4 * value .basic .0) + 300 * n))
-    -- and nobody else pays
-    pub ron-others : NoneLiable → isRon f ≡ true → (i : ℕ) → i < 4 → (i ≡ f .winner → ⊥) → (i ≡ f .discarder → ⊥) → gives i ≡ pos 0
+    -- the discarder pays: "ron, 4A to a child, 6A to the dealer"; "A ron payer pays 300 more for each counter" (02, S-5); and nobody else does
+    pub ron : NoneLiable → isRon f ≡ true → (i : ℕ) → i < 4 → (i ≡ f .winner → ⊥)
+        → gives i ≡ negℤ (pos (cond (eqb i (f .discarder)) (hundreds (cond (eqb (f .winner) (l .dealer)) 6 4 * value .basic .0) + 300 * n) 0))
     -- "dealer tsumo, 2A each"; "on tsumo each payer pays 100 more" (02, S-5)
     pub dealers-tsumo : NoneLiable → isRon f ≡ false → f .winner ≡ l .dealer
         → (i : ℕ) → i < 4 → (i ≡ f .winner → ⊥) → gives i ≡ negℤ (pos (hundreds (2 * value .basic .0) + 100 * n))
     -- "child tsumo, children A, dealer 2A"
     pub childs-tsumo : NoneLiable → isRon f ≡ false → (f .winner ≡ l .dealer → ⊥)
-        → (gives (l .dealer) ≡ negℤ (pos (hundreds (2 * value .basic .0) + 100 * n)))
-        × ((i : ℕ) → i < 4 → (i ≡ f .winner → ⊥) → (i ≡ l .dealer → ⊥) → gives i ≡ negℤ (pos (hundreds (value .basic .0) + 100 * n)))
+        → (i : ℕ) → i < 4 → (i ≡ f .winner → ⊥) → gives i ≡ negℤ (pos (hundreds (cond (eqb i (l .dealer)) 2 1 * value .basic .0) + 100 * n))
     -- article 67 (02, S-8)
     pub with-pao : (feeder : ℕ) → IsLiable feeder → Article67 (f .winner) (f .discarder) feeder (isRon f) (wholeOf (isDealersWin l s)) (300 * n) gives
     -- the winner gets what the others pay
     pub zero : gives 0 +ℤ gives 1 +ℤ gives 2 +ℤ gives 3 ≡ pos 0
+
+-- ---- a multiple ron (02, S-6)
+
+-- what the records give seat i, each alone: without counters and sticks
+abbrev pub eachAlone : Position → List (List ℕ) → ℕ → ℤ
+eachAlone l [] i = pos 0
+eachAlone l (s ∷ ss) i = winGives l s 0 0 i +ℤ eachAlone l ss i
 
 -- ---- a draw
 
@@ -67,18 +73,9 @@ declaredNotReady l bits i = isDeclared l i && not (isReady bits i)
 abbrev pub bitsBy : (ℕ → Bool) → ℕ
 bitsBy ready = 8 * mark (ready 0) + 4 * mark (ready 1) + 2 * mark (ready 2) + mark (ready 3)
 
--- "With 1 to 3 ready, the others pay 3,000 in all, equally, shared equally (71)": what a draw gives each seat
-pub record DrawPays (bits : ℕ) (gives : ℕ → ℤ) : Type 0 where
-  pub one : readySeats bits ≡ 1 → (i : ℕ) → i < 4 → gives i ≡ cond (isReady bits i) (pos 3000) (negℤ (pos 1000))
-  pub two : readySeats bits ≡ 2 → (i : ℕ) → i < 4 → gives i ≡ cond (isReady bits i) (pos 1500) (negℤ (pos 1500))
-  pub three : readySeats bits ≡ 3 → (i : ℕ) → i < 4 → gives i ≡ cond (isReady bits i) (pos 1000) (negℤ (pos 3000))
-  pub else : (readySeats bits ≡ 0) ⊎ (readySeats bits ≡ 4) → (i : ℕ) → i < 4 → gives i ≡ pos 0
-
--- ---- a chombo
-
--- "each such seat pays 3,000 to every other seat, two such seats paying each other, and this hand's sticks return" (02, S-7): what it gives each seat,
--- by which are at fault and how many
-abbrev pub FinePays : Position → (ℕ → Bool) → (ℕ → ℤ) → Type 0
-FinePays l atFault gives =
-    let n = count 4 atFault in
-    (i : ℕ) → i < 4 → gives i ≡ cond (atFault i) (negℤ (pos (3000 * (4 - n)))) (pos (3000 * n)) +ℤ cond (isDeclared l i) (pos 1000) (pos 0)
+-- "With 1 to 3 ready, the others pay 3,000 in all, equally, shared equally (71)": a draw gives seat i the points x
+pub record DrawPays (bits i : ℕ) (x : ℤ) : Type 0 where
+  pub one : readySeats bits ≡ 1 → x ≡ cond (isReady bits i) (pos 3000) (negℤ (pos 1000))
+  pub two : readySeats bits ≡ 2 → x ≡ cond (isReady bits i) (pos 1500) (negℤ (pos 1500))
+  pub three : readySeats bits ≡ 3 → x ≡ cond (isReady bits i) (pos 1000) (negℤ (pos 3000))
+  pub else : (readySeats bits ≡ 0) ⊎ (readySeats bits ≡ 4) → x ≡ pos 0

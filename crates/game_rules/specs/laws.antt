@@ -7,3 +7,4 @@ pub mod RiichiDeclared
 pub mod AcceptedWhen
 pub mod Step
 pub mod Payments
+pub mod MultiRon

@@ -57,7 +57,7 @@ pub fn is_closed(x: Held) -> bool
 
 // ---- tallies
 
-// The first n tiles.
+// The tally of the first n tiles.
 fn tally_of(c: [u8; 13], n: usize) -> [u8; 34]
     requires { ⌜ n ≤ 13 ⌝ }
     ensures { λ r. ⌜ r ≡ tallyOf (λ k. countBelow n (λ i. eqb (getD c i 0) k)) ⌝ }
@@ -72,7 +72,7 @@ fn tally_of(c: [u8; 13], n: usize) -> [u8; 34]
     t
 }
 
-// The concealed tiles alone.
+// The tally of the concealed tiles alone.
 pub fn others_tally(x: Held) -> [u8; 34]
     ensures { λ r. ⌜ r ≡ tallyOf (inOthers x) ⌝ }
 {
@@ -80,7 +80,7 @@ pub fn others_tally(x: Held) -> [u8; 34]
     tally_of(c, others(x.m))
 }
 
-// The tiles of a meld.
+// A tally with the tiles of a meld added.
 fn add_meld(t: [u8; 34], b: u8) -> [u8; 34]
     requires { ⌜ ((k : ℕ) → getD t k 0 ≤ 240) ⌝ }
     ensures { λ r. ⌜ ((k : ℕ) → k < 34 → getD r k 0 ≡ getD t k 0 + meldHolds b k) ⌝ }
@@ -97,7 +97,7 @@ fn add_meld(t: [u8; 34], b: u8) -> [u8; 34]
     }
 }
 
-// The meld where it is one of the m.
+// The same, where the meld is one of the m.
 fn add_meld_if(t: [u8; 34], used: bool, b: u8) -> [u8; 34]
     requires { ⌜ ((k : ℕ) → getD t k 0 ≤ 240) ⌝ }
     ensures { λ r. ⌜ ((k : ℕ) → k < 34 → getD r k 0 ≡ getD t k 0 + cond used (meldHolds b k) 0) ⌝ }
@@ -105,7 +105,7 @@ fn add_meld_if(t: [u8; 34], used: bool, b: u8) -> [u8; 34]
     if used { add_meld(t, b) } else { t }
 }
 
-// The tiles of all m melds, kans whole.
+// A tally with the tiles of all m melds added, kans whole.
 fn add_melds(t: [u8; 34], x: Held) -> [u8; 34]
     requires { ⌜ ((k : ℕ) → getD t k 0 ≤ 224) ⌝ }
     ensures { λ r. ⌜ ((k : ℕ) → k < 34 → getD r k 0 ≡ getD t k 0 + inMelds x k) ⌝ }
@@ -118,21 +118,21 @@ fn add_melds(t: [u8; 34], x: Held) -> [u8; 34]
     add_meld_if(t3, 3 < m, d[3])
 }
 
-// Melds and concealed tiles together.
+// The tally of melds and concealed tiles together.
 pub fn held_tally(x: Held) -> [u8; 34]
     ensures { λ r. ⌜ r ≡ tallyOf (inHeld x) ⌝ }
 {
     add_melds(others_tally(x), x)
 }
 
-// The concealed tiles with the winning tile: what readings go by.
+// The tally of the concealed tiles with the winning tile: what readings go by.
 pub fn concealed_tally(h: Hand) -> [u8; 34]
     ensures { λ r. ⌜ r ≡ concealedTally h ⌝ }
 {
     tiles::add(others_tally(h.held), h.fields.winning, 1)
 }
 
-// All tiles of the hand, where c is the tally of its concealed tiles with the winning tile: the melds alone are counted.
+// The tally of all tiles of the hand, where c is that of its concealed tiles with the winning tile: the melds alone are counted.
 pub fn with_melds(c: [u8; 34], h: Hand) -> [u8; 34]
     requires { ⌜ c ≡ concealedTally h ⌝ }
     ensures { λ r. ⌜ r ≡ handTally h ⌝ }
@@ -140,7 +140,7 @@ pub fn with_melds(c: [u8; 34], h: Hand) -> [u8; 34]
     add_melds(c, h.held)
 }
 
-// All tiles of the hand: what yaku and dora go by.
+// The tally of all tiles of the hand: what yaku and dora go by.
 pub fn hand_tally(h: Hand) -> [u8; 34]
     ensures { λ r. ⌜ r ≡ handTally h ⌝ }
 {

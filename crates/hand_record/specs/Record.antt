@@ -5,7 +5,7 @@ use mathlib.Core.List.{List, [], _∷_, _++_}
 use Prim.Native.Nat.{ℕ, _+_, _*_, _-_}
 use lib.Dec.{ltb, eqb}
 use lib.ListN.{length, getD, take, drop, replicate}
-use Rattle.bits.specs.Bits.{unpack, eights, EachBelow, bitsOf, bytesOf, fill}
+use Rattle.bits.specs.Bits.{unpack, eights, EachBelow, bitsOf, packBytes, fill}
 use Rattle.hand.specs.declared.Fields.{Fields}
 use Rattle.hand.specs.declared.Held.{Held}
 use Rattle.hand.specs.declared.Hand.{Hand}
@@ -36,7 +36,7 @@ lengthOf m = getD (13 ∷ 12 ∷ 11 ∷ 10 ∷ 8 ∷ []) m 0
 abbrev pub padOf : ℕ → ℕ
 padOf m = getD (1 ∷ 3 ∷ 5 ∷ 7 ∷ 1 ∷ []) m 0
 
--- the widths after a head: "m melds of 8 ..; 13 − 3m other concealed tiles of 6, ..; zero bits to the byte", n of them
+-- the widths after a head: "m melds of 8 ..; 13 − 3m other concealed tiles of 6, ..; zero bits to the byte", which are n
 abbrev pub heldWidths : ℕ → ℕ → List ℕ
 heldWidths m n = eights m ++ (sixes (13 - 3 * m) ++ (n ∷ []))
 
@@ -61,11 +61,11 @@ headBy l = record {
   m = getD l 7 0;
 }
 
--- the head of a record: the bits up to "meld count m", which says the widths of the rest
+-- the head of a record: its first 25 bits, "meld count m" the last of them; m says the widths of the rest
 unfoldable pub headOf : List ℕ → Head
 headOf bits = headBy (unpack head bits)
 
--- the tiles held by a record's values, of which n come before them: "m melds", then "13 − 3m other concealed tiles"; an "unused place" is zero
+-- the tiles held that a record's values say, after the first n of them: "m melds", then "13 − 3m other concealed tiles"; an "unused place" is zero
 unfoldable pub heldBy : ℕ → ℕ → List ℕ → Held
 heldBy n m l = record { m = m; melds = fill 4 (take m (drop n l)); concealed = fill 13 (take (13 - 3 * m) (drop (n + m) l)) }
 
@@ -139,7 +139,7 @@ handOfRecord s = handIn (countIn s) (bitsOf s)
 abbrev pub paddingOfRecord : List ℕ → ℕ
 paddingOfRecord s = paddingOf (countIn s) (bitsOf s)
 
--- "A record that meets none of these is sound": neither 1, the length, nor 2, the fields, 3, the order of the tiles, 4, four of a kind, 5, the situation
+-- "A record that meets none of these is sound": neither 1, the length, nor 2, the fields, 3, the order of the tiles, 4, over four of a kind, 5, the situation
 pub record IsSound (s : List ℕ) : Type 0 where
   pub len : wrongLength (length s) (countIn s) ≡ false
   pub fields : wrongFields (handOfRecord s) (paddingOfRecord s) ≡ false
@@ -169,7 +169,7 @@ valuesOf h = headList (headFor h) ++ heldValues (h .held)
 
 -- "Write takes a hand": its record, each value at its width, as bytes
 unfoldable pub recordOf : Hand → List ℕ
-recordOf h = bytesOf (lengthOf (h .held .m)) (widths (h .held .m)) (valuesOf h)
+recordOf h = packBytes (lengthOf (h .held .m)) (widths (h .held .m)) (valuesOf h)
 
 -- "Refusals: 2 .., 3, 4, 5 as above, then 13: buffer shorter than the record"
 unfoldable pub writeRefusal : Hand → List ℕ → ℕ

@@ -51,7 +51,7 @@ pub struct Written {
     pub len: usize,
 }
 
-// The first 25 bits.
+// The head of a record: its first 25 bits.
 fn header(s: &[u8]) -> Head
     requires { ⌜ 4 ≤ length (now s) ⌝ }
     ensures { λ r. ⌜ r ≡ headOf (bitsOf (now (s .entry))) ⌝ }

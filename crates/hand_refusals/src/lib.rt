@@ -16,7 +16,7 @@ use hand::Held;
 
 // ---- the tiles held: 2, 3 and 4
 
-// A tile over 33 among the first n.
+// A tile over 33 is among the first n.
 fn over_33(c: [u8; 13], n: usize) -> bool
     requires { ⌜ n ≤ 13 ⌝ }
     ensures { λ r. ⌜ r ≡ anyBelow n (λ i. ltb 33 (getD c i 0)) ⌝ }
@@ -29,7 +29,7 @@ fn over_33(c: [u8; 13], n: usize) -> bool
     false
 }
 
-// A tile over 33 in a meld or among the concealed tiles.
+// A tile over 33 is in a meld or among the concealed tiles.
 fn tile_over_33(x: Held) -> bool
     ensures { λ r. ⌜ r ≡ tileOver33 x ⌝ }
 {
@@ -50,7 +50,7 @@ fn bad_chi(b: u8) -> bool
     (b / 64 == 0) & !tiles::is_run_start(b % 64)
 }
 
-// Such a chi among the melds.
+// Such a chi is among the melds.
 fn chi_without_run(x: Held) -> bool
     ensures { λ r. ⌜ r ≡ chiWithoutRun x ⌝ }
 {
@@ -110,7 +110,7 @@ pub fn over_four(t: [u8; 34]) -> bool
 
 // ---- with the fields: 2, the tiles of 4, and 5
 
-// With the indicator: the tiles of 4.
+// The tally of the tiles of 4: the hand's and the indicator.
 fn record_tally(h: Hand) -> [u8; 34]
     ensures { λ r. ⌜ r ≡ tallyOf (inRecord h) ⌝ }
 {

@@ -48,7 +48,7 @@ conflict f g =
     || not (eqb (f .indicator) (g .indicator))
     || not (eqb (f .situation) (g .situation))
 
--- one of the records is such a one beside f
+-- one of the records is in conflict with f
 unfoldable pub conflicts : Fields → List (List ℕ) → Bool
 conflicts f [] = false
 conflicts f (s ∷ ss) = conflict f (handFor s .fields) || conflicts f ss
@@ -72,6 +72,7 @@ discarderOf (s ∷ ss) = handFor s .fields .discarder
 abbrev pub firstAfter : ℕ → (ℕ → Bool) → ℕ
 firstAfter d wins = cond (wins ((d + 1) % 4)) ((d + 1) % 4) (cond (wins ((d + 2) % 4)) ((d + 2) % 4) ((d + 3) % 4))
 
+-- of records: the first of their winners after who discarded the tile
 abbrev pub firstWinner : List (List ℕ) → ℕ
 firstWinner rs = firstAfter (discarderOf rs) (isWinner rs)
 

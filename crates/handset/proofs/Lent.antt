@@ -187,7 +187,8 @@ module _ (S : Lendable) where
         ensured-is κs h y r = exE 𝓤 _ (λ ws. snd∗ 𝓤 (sem 𝓤 H A (lasts callee-ended κs (h, y) ws)) (fact 𝓤 (Says κs h y (S .refusal r) (S .after r))))
 
       module _ {M : Type 1} (𝓤 : URA M) (H : Heap 𝓤) (A : Atoms 𝓤) (W : Given 𝓤 H A) where
-        module _ (κ : Lft) (κs : Lfts p) (q : Share) (qs : Shares p) (b o : ℕ) (γ : GName) (h : State) (n : Values (κ, κs) ps) (n-is : Are (typesAt (lents ps) (κ, κs)) (Ises (typesAt (lents ps) (κ, κs))) n (lent-vals (κ, κs) ps n)) where
+        module _ (κ : Lft) (κs : Lfts p) (q : Share) (qs : Shares p) (b o : ℕ) (γ : GName) (h : State)
+            (n : Values (κ, κs) ps) (n-is : Are (typesAt (lents ps) (κ, κs)) (Ises (typesAt (lents ps) (κ, κs))) n (lent-vals (κ, κs) ps n)) where
           abbrev vs : List Val
           vs = flat (typesAt (lents ps) (κ, κs)) (lent-vals (κ, κs) ps n)
 

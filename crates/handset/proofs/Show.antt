@@ -126,7 +126,8 @@ module _ (k : Name) (P : Position → ℕ → ℕ → ℕ → List ℕ → ℕ �
   abbrev pub Callee : {M : Type 1} (𝓤 : URA M) (H : Heap 𝓤) (A : Atoms 𝓤) → Contract 𝓤
   Callee 𝓤 H A = tripleOf 𝓤 H A callee-sig (closing 𝓤 H A callee-ended (callee-clauses 𝓤))
 
-  module _ {M : Type 1} (𝓤 : URA M) (H : Heap 𝓤) (A : Atoms 𝓤) (W : Given 𝓤 H A) (κ κ1 : Lft) (q q1 : Share) (b o : ℕ) (γ : GName) (h : Position) (c d : ℕ) (δ : GName) (ys : List ℕ) (n m j : ℕ) (n-fits : n < 2 ^ 32) (m-fits : m < 2 ^ 8) (j-fits : j < 2 ^ 8) where
+  module _ {M : Type 1} (𝓤 : URA M) (H : Heap 𝓤) (A : Atoms 𝓤) (W : Given 𝓤 H A) (κ κ1 : Lft) (q q1 : Share) (b o : ℕ) (γ : GName) (h : Position)
+      (c d : ℕ) (δ : GName) (ys : List ℕ) (n m j : ℕ) (n-fits : n < 2 ^ 32) (m-fits : m < 2 ^ 8) (j-fits : j < 2 ^ 8) where
     -- the slice, and its machine value
     abbrev y : RefT (List ℕ)
     y = record { ptr = (c, d); name = δ; now = ys }
@@ -219,7 +220,8 @@ module _ (k : Name) (P : Position → ℕ → ℕ → ℕ → List ℕ → ℕ �
           -- [the last list; true, five times; the slice's token and the result; the token; the fractured borrow; res; the locals]
           move ! (6 ∷ []) $ split ! $ move ! (1 ∷ []) $ peeks ! usize (Is usize) (shows 𝓤 H A usize) r (w ∷ []) (λ is.
           land ! (from ! (stop !)) (init ! 27 refl (uint-lawful 𝓤 H A W w64 .typed r _ is .0)) $
-          returns ! (look ! 27 refl) $ forget ! 11 refl $ forget ! 13 refl $ forget ! 15 refl $ forget ! 17 refl $ forget ! 19 refl $ forget ! 21 refl $ forget ! 23 refl $ forget ! 25 refl $ forget ! 27 refl $
+          returns ! (look ! 27 refl) $ forget ! 11 refl $ forget ! 13 refl $ forget ! 15 refl $ forget ! 17 refl $ forget ! 19 refl $
+          forget ! 21 refl $ forget ! 23 refl $ forget ! 25 refl $ forget ! 27 refl $
           move ! (27 ∷ 28 ∷ []) $ free1 ! $ move ! (25 ∷ 26 ∷ []) $ free1 ! $ move ! (23 ∷ 24 ∷ []) $ free1 ! $ move ! (21 ∷ 22 ∷ []) $ free1 ! $ move !
           (19 ∷ 20 ∷ []) $ free1 ! $ move ! (17 ∷ 18 ∷ []) $ free1 ! $ move ! (15 ∷ 16 ∷ []) $ free1 ! $ move ! (13 ∷ 14 ∷ []) $ free1 ! $ move !
           (11 ∷ 12 ∷ []) $ free1 ! $ free0 ! $

@@ -23,10 +23,11 @@ written-within h buf = laws.written-within h buf
 pub claim-within : (c : Claim) (buf : List ℕ) → claims.writtenOf c buf .len ≤ length buf
 claim-within c buf = laws.claim-within c buf
 
--- the same of an unfinished hand, from its tiles held and from a record
+-- Write unfinished: so does an unfinished hand, from its tiles held
 pub unfinished-within : (x : Held) (buf : List ℕ) → unfinishedWritten x buf .len ≤ length buf
 unfinished-within x buf = within x buf (unwritable x)
 
+-- Unfinished: and from a record
 pub record-within : (s buf : List ℕ) → writtenFrom s buf .len ≤ length buf
 record-within s buf = within (heldInRecord s) buf (refusalIn (readOf s .answer))
 
@@ -34,10 +35,11 @@ record-within s buf = within (heldInRecord s) buf (refusalIn (readOf s .answer))
 pub entry-within : (log : List ℕ) (at : ℕ) → nextEntryOf log at .length ≤ length log
 entry-within log at = laws.entry-within log at
 
--- a line of `tally`, and lines of a log: what is written fits, and the walk stands inside the log or where it stood
+-- a line of `tally` fits
 pub line-within : (buf line : List ℕ) → lengthIn buf line ≤ length buf
 line-within buf line = laws.line-within buf line
 
+-- lines of a log: what is written fits, and the walk stands inside the log or where it stood
 pub lines-within : (room : ℕ) (w : Walk) (log : List ℕ) (most : ℕ) → w .at ≤ most → length log ≤ most
     → let r = linesOf room w log in
     (r .written ≤ room) × (r .walk .at ≤ most)

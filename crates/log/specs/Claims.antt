@@ -14,7 +14,7 @@ use Rattle.log.specs.laws.Walk as laws
 pub end-only-at-end : (log : List ℕ) (at : ℕ) → ((length (partAt log at) ≡ 0) × (refusalAt log at ≡ 0)) ↔ (length log ≤ at)
 end-only-at-end log at = laws.end-exactly log at
 
--- "that very part of the log": it lies inside it, and ends after its start where it is not empty
+-- "that very part of the log": where it is not empty it lies inside the log
 pub part-inside : (log : List ℕ) (at : ℕ) → 0 < length (partAt log at) → at + length (partAt log at) ≤ length log
 part-inside log at h = omega (arith, h, next.part-inside log at)
 

@@ -26,9 +26,11 @@ refusalIn end = 0
 refusalIn (entry x) = 0
 refusalIn bad = 14
 
+-- the part that Next entry hands back at an offset
 unfoldable pub partAt : List ℕ → ℕ → List ℕ
 partAt log at = partIn (nextOf log at)
 
+-- its refusal there
 unfoldable pub refusalAt : List ℕ → ℕ → ℕ
 refusalAt log at = refusalIn (nextOf log at)
 

@@ -24,7 +24,7 @@ pub data Next : Type 0 where
 -- what Next entry gives at an offset
 pub data IsNext (log : List ℕ) (at : ℕ) : Next → Type 0 where
   -- "From an offset at or past the log's end it says "end""
-  past : length log ≤ at → IsNext log at end
+  atEnd : length log ≤ at → IsNext log at end
   -- it "hands back that very part of the log, from its header on"
   starts : (x : LogEntry) → Starts (drop at log) x → IsNext log at (entry x)
   -- "Refusal 14": bytes are left, and they start with no entry

@@ -30,7 +30,7 @@ stepBy g (entry x) =
     record { refusal = gameRefusal g e; letter = letterOf e; len = length (x .part); game = gameAfter g e }
 stepBy g bad = noEntry 14 g
 
--- at an offset
+-- the entry at an offset, booked
 unfoldable pub stepOf : Game → List ℕ → ℕ → Step
 stepOf g log at = stepBy g (nextOf log at)
 

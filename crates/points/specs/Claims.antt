@@ -20,7 +20,7 @@ pub record GainIsPayments (s : Seats) (ron : Bool) (a : ℕ) : Type 0 where
   pub got : s .winner < 4 → getD (changes s ron a) (s .winner) (pos 0) ≡ pos (gain s ron a)
   pub paid : (seat : ℕ) → seat < 4 → (s .winner ≡ seat → ⊥) → getD (changes s ron a) seat (pos 0) ≡ pos 0 -ℤ pos (pays s ron a seat)
 
--- of every payment
+-- so it is of every payment
 pub gain-is-payments : (s : Seats) (ron : Bool) (a : ℕ) → GainIsPayments s ron a
 gain-is-payments s ron a = record { others = gain-of-others s ron a; got = winner-gets s ron a; paid = other-pays s ron a }
 

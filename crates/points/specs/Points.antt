@@ -29,15 +29,15 @@ unfoldable pub hundreds : ℕ → ℕ
 hundreds x = (x + 99) / 100 * 100
 
 -- "child tsumo, children A, dealer 2A; dealer tsumo, 2A each; ron, 4A to a child, 6A to the dealer": how many times A a seat pays
-unfoldable pub share : Seats → Bool → ℕ → ℕ
-share s ron seat =
+unfoldable pub timesA : Seats → Bool → ℕ → ℕ
+timesA s ron seat =
     cond (eqb (s .winner) seat) 0
     (cond ron (cond (eqb (s .discarder) seat) (cond (eqb (s .winner) (s .dealer)) 6 4) 0)
     (cond (eqb (s .winner) (s .dealer) || eqb (s .dealer) seat) 2 1))
 
 -- "Each payment": what a seat pays
 unfoldable pub pays : Seats → Bool → ℕ → ℕ → ℕ
-pays s ron a seat = hundreds (share s ron seat * a)
+pays s ron a seat = hundreds (timesA s ron seat * a)
 
 -- "A reading's gain is what these payments give the winner, sticks left out"
 unfoldable pub gain : Seats → Bool → ℕ → ℕ

@@ -3,7 +3,8 @@ ghost use mathlib.Core.Path.{_≡_};
 ghost use mathlib.Core.Bool.{cond};
 ghost use Prim.Native.Nat.{_<_, _≤_};
 ghost use lib.IntN.{pos, _-ℤ_};
-ghost use Rattle.points.specs.Points.{plain as plainOf, limit as limitOf, ordinary as ordinaryOf, basic as basicOf, hundreds as hundredsOf, share as shareOf, pays as paysOf, gain as gainOf, changes as changesOf};
+ghost use Rattle.points.specs.Points.{plain as plainOf, limit as limitOf, ordinary as ordinaryOf, basic as basicOf, hundreds as hundredsOf, timesA};
+ghost use Rattle.points.specs.Points.{pays as paysOf, gain as gainOf, changes as changesOf};
 use units::Fu;
 use units::Han;
 use units::Points;
@@ -90,8 +91,8 @@ fn hundreds(p: Points) -> Points
 }
 
 // How many times A a seat pays.
-fn share(s: Seats, ron: bool, seat: u8) -> u32
-    ensures { λ r. ⌜ r ≡ shareOf s ron seat ⌝ }
+fn times_a(s: Seats, ron: bool, seat: u8) -> u32
+    ensures { λ r. ⌜ r ≡ timesA s ron seat ⌝ }
     ensures { λ r. ⌜ r ≤ 6 ⌝ }
 {
     let winner = s.winner;
@@ -119,7 +120,7 @@ fn pays(s: Seats, ron: bool, a: Points, seat: u8) -> Points
     ensures { λ r. ⌜ r .0 ≤ 48000 ⌝ }
 {
     let n = a.0;
-    hundreds(Points(share(s, ron, seat) * n))
+    hundreds(Points(times_a(s, ron, seat) * n))
 }
 
 // What the winner gains for basic points a: all that the other seats pay.

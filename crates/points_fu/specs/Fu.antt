@@ -44,8 +44,8 @@ regularItems w p =
     -- "tsumo 2, none with pinfu"
     let tsumo : ℕ = cond (not (w .ron) && not (pinfu w p)) 2 0 in
     -- "Fu: 20" and these
-    let nine : ℕ = 20 + ron + pair + sum 4 group + wait + tsumo in
-    let rounding : ℕ = rounded (w .closed) nine - nine in
+    let unrounded : ℕ = 20 + ron + pair + sum 4 group + wait + tsumo in
+    let rounding : ℕ = rounded (w .closed) unrounded - unrounded in
     record { base = fu 20; ron = fu ron; pair = fu pair; group = tabulate 4 0 (λ i. fu (group i)); wait = fu wait; tsumo = fu tsumo; rounding = fu rounding }
 
 -- "a base of 25 alone", "only zeros" (02, S-3): all other items are 0
@@ -61,6 +61,7 @@ unfoldable pub added : Items → ℕ
 added i =
     i .base .0 + i .ron .0 + i .pair .0 + sum 4 (λ k. getD (i .group) k (fu 0) .0) + i .wait .0 + i .tsumo .0 + i .rounding .0
 
--- "Everything that called for the total now takes it from the items" (02, S-3): the fu of a reading; theorem `fu-rounded` of `points_value` has document 01's words of it
+-- "Everything that called for the total now takes it from the items" (02, S-3): the fu of a reading; theorem `fu-rounded` of `points_value` says of it what
+-- document 01 does
 unfoldable pub fuOf : Won → FullReading → ℕ
 fuOf w p = added (itemsOf w p)

@@ -14,7 +14,7 @@ use Rattle.points_fu.specs.laws.Items as items
 use Rattle.points_value.specs.Value.{valueOf}
 use Rattle.points_value.specs.laws.Claims as laws
 
--- "Han; "c" closed only; "−1" one less when open": what yaku 0 to 25 count in an open hand, 13, 14, 15, 22, 23 and 25 being "−1"
+-- "Han; "c" closed only; "−1" one less when open": what yaku n, at index n, counts in an open hand; index 0 has none, and 13, 14, 15, 22, 23 and 25 are "−1"
 pub open-han : (values : ℕ) → hanFor false values
     ≡ 0 ∷ 0 ∷ 1 ∷ values ∷ 0 ∷ 0 ∷ 1 ∷ 1 ∷ 1 ∷ 1 ∷ 0 ∷ 0 ∷ 0 ∷ 1 ∷ 1 ∷ 1 ∷ 2 ∷ 2 ∷ 2 ∷ 2 ∷ 2 ∷ 0 ∷ 2 ∷ 2 ∷ 4 ∷ 5 ∷ []
 open-han values = refl

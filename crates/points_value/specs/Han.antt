@@ -1,4 +1,4 @@
--- h (01, "h = yaku han plus dora"). y is the list of the yaku.
+-- What each yaku counts, and h (01, "h = yaku han plus dora"). y has true at n where yaku n is listed.
 use mathlib.Core.Bool.{Bool, false, cond}
 use mathlib.Core.List.{List, [], _∷_}
 use Prim.Native.Nat.{ℕ, _+_, _-_}
@@ -9,7 +9,7 @@ use Rattle.yaku.specs.Yaku.{valueHanOf, yakuOf, yakuman}
 use Rattle.yaku.specs.declared.Won.{Won}
 use Rattle.yaku.specs.declared.FullReading.{FullReading}
 
--- "Han; "c" closed only; "−1" one less when open": the han of yaku n at place n; yaku 3 has as many as it counts, and a yakuman has none
+-- "Han; "c" closed only; "−1" one less when open": the han of yaku n at index n; yaku 3 has as many as it counts, and a yakuman has none
 abbrev pub hanFor : Bool → ℕ → List ℕ
 hanFor closed values =
     let c : ℕ → ℕ = λ n. cond closed n 0 in
@@ -33,7 +33,7 @@ yakuHan y closed values = sumBelow 37 (λ n. cond (getD y n false) (getD (hanFor
 abbrev pub han : ℕ → Han
 han n = record { 0 = n }
 
--- the han of each listed yaku as it counts, of yaku n at place n: those that "yaku han" sums
+-- the han of each listed yaku as it counts, of yaku n at index n: those that "yaku han" sums
 unfoldable pub hanEach : List Bool → Bool → ℕ → List Han
 hanEach y closed values = tabulate 37 0 (λ n. han (cond (getD y n false) (getD (hanFor closed values) n 0) 0))
 

@@ -4,7 +4,7 @@ ghost use mathlib.Core.Bool.{cond};
 ghost use Prim.Native.Nat.{_+_, _/_, _%_, _<_, _≤_};
 ghost use lib.Dec.{eqb};
 ghost use Rattle.points_value.specs.Han.{yakuHan, hanEach};
-ghost use Rattle.points_value.specs.laws.Han.{fixedHan, hanBy};
+ghost use Rattle.points_value.specs.search.Han.{fixedHan, hanBy};
 use units::Han;
 use yaku::PlaceTests;
 

@@ -1,4 +1,4 @@
--- What document 02, S-8 says of article 67 (004): gives is what each seat gets or pays in all, whole the yakuman, more what its counters come to.
+-- What document 02, S-8 says of article 67 (004): `gives` is what each seat gets or pays, sticks left out, `whole` the yakuman, `more` its counters' points.
 use mathlib.Core.Path.{_≡_}
 use mathlib.Core.Bool.{Bool, true, false}
 use Prim.Native.Nat.{ℕ, _+_, _/_}

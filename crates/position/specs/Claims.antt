@@ -14,7 +14,6 @@ use Rattle.reading.specs.declared.Reading.{Reading}
 use Rattle.yaku_basics.specs.Tests.{winds}
 use Rattle.score.specs.Named.{groupsOf, IsReadingOf, IsReported, scoredAs}
 use Rattle.position.specs.declared.Position.{Position}
-use Rattle.hand_rons.specs.Records.{recordsOf, isWinner, discarderOf, firstWinner, turnsAfter}
 use Rattle.position.specs.Booking.{Booking, result, riichi, win, multiRon}
 use Rattle.position.specs.Ledger.{fresh, scoreAt, floor, outOfForm, notOpen, handFor, refusalFor}
 use Rattle.position.specs.Ledger.{holdsFourWinds, after, ledger}
@@ -26,7 +25,6 @@ use Rattle.position.specs.laws.Winds as by-tiles
 use Rattle.position.specs.laws.Credit as credit
 use Rattle.position.specs.laws.Lowest as lowest
 use Rattle.position.specs.laws.One as one
-use Rattle.position.specs.laws.MultiRon as multi-ron
 
 -- "From a fresh game no score falls under" the floor, which "becomes −28,540,000" (02, S-6), and the game stays in form
 pub never-below-floor : (bs : List Booking) → (outOfForm (ledger bs) ≡ false) × ((i : ℕ) → i < 4 → ltZ (scoreAt (ledger bs) i) floor ≡ false)
@@ -53,21 +51,15 @@ never-12 = not-ready.never-12
 
 -- ---- who fed the dragons (02, S-8)
 
--- "The winner's gain is what it was, so the choice of reading is too": whatever reading is reported, and whoever is the feeder
-pub winner-as-before : (l : Position) (s : List ℕ) (r : Reading) → notOpen l ≡ false → IsSound s →
-    let winner = handFor s .fields .winner in paidIn l s r 0 winner ≡ getD (scoredAs (handFor s) (l .dealer) (l .wind) r .changes) winner (pos 0)
-winner-as-before l s r o i = tiles.winner-won l s o (sound s .0 i) r
+module _ (s : List ℕ) (dealer wind : ℕ) (r : Reading) where
+  -- "with four wind triplets, not three and a pair": by the tiles, as the ledger has it, and in every reading with 29
+  pub winds-of-reading : IsSound s → IsReadingOf (handFor s) r → getD (scoredAs (handFor s) dealer wind r .yaku) 29 false ≡ true
+      → holdsFourWinds (handFor s) ≡ eqb (winds (groupsOf (handFor s) r)) 4
+  winds-of-reading i = by-tiles.winds-by-tiles s (sound s .0 i) dealer wind r
 
--- "with four wind triplets, not three and a pair": by the tiles, as the ledger has it, and in every reading with 29
-pub winds-of-reading : (s : List ℕ) (dealer wind : ℕ) (r : Reading) → IsSound s → IsReadingOf (handFor s) r
-    → getD (scoredAs (handFor s) dealer wind r .yaku) 29 false ≡ true
-    → holdsFourWinds (handFor s) ≡ eqb (winds (groupsOf (handFor s) r)) 4
-winds-of-reading s dealer wind r i = by-tiles.winds-by-tiles s (sound s .0 i) dealer wind r
-
--- 28 and 29 are never both reported, so that no other feeder is passed over
-pub never-both : (s : List ℕ) (dealer wind : ℕ) (r : Reading)
-    → let yaku = scoredAs (handFor s) dealer wind r .yaku in getD yaku 28 false ≡ true → getD yaku 29 false ≡ true → ⊥
-never-both s dealer wind r = by-tiles.not-both (handFor s) dealer wind r
+  -- 28 and 29 are never both reported, so that no other feeder is passed over
+  pub never-both : let yaku = scoredAs (handFor s) dealer wind r .yaku in getD yaku 28 false ≡ true → getD yaku 29 false ≡ true → ⊥
+  never-both = by-tiles.not-both (handFor s) dealer wind r
 
 -- ---- two or three rons on one tile (02, S-6)
 
@@ -75,13 +67,6 @@ never-both s dealer wind r = by-tiles.not-both (handFor s) dealer wind r
 pub one-is-win : (l : Position) (s : List ℕ) → isRon (handFor s .fields) ≡ true
     → (refusalFor l (result (multiRon 1 s)) ≡ refusalFor l (result (win s))) × (after l (result (multiRon 1 s)) ≡ after l (result (win s)))
 one-is-win = one.one-is-win
-
--- "the first winner in turn order after the discarder": of an accepted multiple ron it is a winner, and no winner comes before it
-pub first-winner : (l : Position) (number : ℕ) (s : List ℕ) → refusalFor l (result (multiRon number s)) ≡ 0 →
-    let rs = recordsOf number s in
-    (isWinner rs (firstWinner rs) ≡ true) × ((seat : ℕ) → isWinner rs seat ≡ true
-    → turnsAfter (discarderOf rs) (firstWinner rs) ≤ turnsAfter (discarderOf rs) seat)
-first-winner = multi-ron.first-winner
 
 -- ---- no stick, no riichi (02, S-11)
 

@@ -72,13 +72,13 @@ isDeclared l i = isSet (getD (l .declared) i 0)
 abbrev pub declarations : Position → ℕ
 declarations l = count 4 (isDeclared l)
 
--- the place of a holder's yaku, 28 or 29, among the feeders (02, S-8): by holder, 28's before 29's
+-- the index of a holder's yaku, 28 or 29, among the feeders (02, S-8): by holder, 28's before 29's
 abbrev pub feederIndex : ℕ → ℕ → ℕ
 feederIndex holder yaku = 4 * (yaku - 28) + holder
 
 -- what a position holds there: 0 where no feeder is named, 1 + the feeder where one is
 abbrev pub feederAt : Position → ℕ → ℕ
-feederAt l place = getD (l .feeders) place 0
+feederAt l index = getD (l .feeders) index 0
 
 -- "scores plus 1,000 times sticks"
 unfoldable pub totalOf : Position → ℤ
@@ -94,9 +94,9 @@ eqZ a b = leZ a b && leZ b a
 abbrev pub isOver : Position → Bool
 isOver l = isSet (l .over) || eqb (l .hands) lastHand
 
--- at a place "a feeder over 3, or one equal to its holder" (02, S-8), n being 0 or 1 + the feeder
+-- at an index "a feeder over 3, or one equal to its holder" (02, S-8), n being 0 or 1 + the feeder
 abbrev pub wrongFeeder : ℕ → ℕ → Bool
-wrongFeeder place n = ltb (1 + 3) n || eqb n (1 + place % 4)
+wrongFeeder index n = ltb (1 + 3) n || eqb n (1 + index % 4)
 
 -- "out of form (dealer over 3, wind over 1, over 200 hands, fewer sticks than declared seats, a score under the floor below, or scores plus 1,000 times
 -- sticks not 120,000)";
@@ -125,23 +125,23 @@ scoredFor l s = scoreOf s (l .dealer) (l .wind)
 abbrev pub riichiMismatch : Position → Hand → Bool
 riichiMismatch l h = cond (ltb 0 (h .fields .riichi)) (not (isDeclared l (h .fields .winner))) (isDeclared l (h .fields .winner))
 
--- "the first listed is its number": of refusals in the paper's order, each with whether it meets the booking, the number of the first that does; 0 where none does
+-- "the first listed is its number": of pairs (it meets the booking, its number) in the papers' order, the number of the first that meets it, or 0
 abbrev pub firstOf : List (Bool × ℕ) → ℕ
 firstOf [] = 0
 firstOf (r ∷ rs) = cond (r .0) (r .1) (firstOf rs)
 
 -- a refusal that another call gives, 0 where it gives none
-abbrev pub given : ℕ → Bool × ℕ
-given n = (isSet n, n)
+abbrev pub handedOn : ℕ → Bool × ℕ
+handedOn n = (isSet n, n)
 
 -- of a win's record in an open game: "Score's 1 to 7 with the game's dealer and wind; 11"
 abbrev pub winRefusals : Position → List ℕ → List (Bool × ℕ)
-winRefusals l s = given (scoredFor l s .refusal) ∷ (riichiMismatch l (handFor s), 11) ∷ []
+winRefusals l s = handedOn (scoredFor l s .refusal) ∷ (riichiMismatch l (handFor s), 11) ∷ []
 
 -- of several records "6, 7 or 11 of the first record that meets one" (02, S-6)
 unfoldable pub recordRefusals : Position → List (List ℕ) → List (Bool × ℕ)
 recordRefusals l [] = []
-recordRefusals l (s ∷ ss) = given (firstOf (winRefusals l s)) ∷ recordRefusals l ss
+recordRefusals l (s ∷ ss) = handedOn (firstOf (winRefusals l s)) ∷ recordRefusals l ss
 
 -- "four bits, seat 0 first, set for ready"
 abbrev pub isReady : ℕ → ℕ → Bool
@@ -166,7 +166,7 @@ refusalsOf shut l (result (draw bits)) = (ltb 15 bits, 8) ∷ (shut, 9) ∷ []
 refusalsOf shut l (result (chombo seat)) = (ltb 3 seat, 8) ∷ (shut, 9) ∷ []
 refusalsOf shut l (result (multiRon number s)) =
     let rs = recordsOf number s in
-    (shut, 9) ∷ (eqb number 0 || ltb 3 number, 17) ∷ given (firstUnreadable rs) ∷ (notOnOneTile rs, 17) ∷ recordRefusals l rs
+    (shut, 9) ∷ (eqb number 0 || ltb 3 number, 17) ∷ handedOn (firstUnreadable rs) ∷ (notOnOneTile rs, 17) ∷ recordRefusals l rs
 
 -- "the first listed is its number", by a position alone, which is open or not; 0 where none meets it
 unfoldable pub refusalFor : Position → Booking → ℕ
@@ -174,9 +174,8 @@ refusalFor l b = firstOf (refusalsOf (notOpen l) l b)
 
 -- ---- what an accepted booking does
 
--- what it gives each seat, or takes; the sticks that it leaves on the table; the seats that are declared after it; whether it finishes the hand; whether the
--- deal passes;
--- the counter and the feeders that it leaves
+-- what it gives each seat, or takes; the sticks that it leaves on the table; the seats that are declared after it; whether it finishes the hand, and whether
+-- the deal passes; the counter and the feeders that it leaves
 pub record Effect : Type 0 where
   pub gives : ℕ → ℤ
   pub sticks : ℕ
@@ -209,8 +208,8 @@ pub data Liable : Type 0 where
   nobody : Liable
   theFeeder : ℕ → Liable
 
--- who owes what at a win with n counters, by who is liable and whether it is a ron: of seat i, another than the winner, the reported reading takes `taken i`;
--- a yakuman gives the winner `whole`
+-- what seat i, another than the winner, owes at a win with n counters, by who is liable and whether it is a ron. By the reported reading alone it pays
+-- `taken i`; a yakuman gives the winner `whole`
 module _ (taken : ℕ → ℕ) (discarder whole n : ℕ) where
   -- "A ron payer pays 300 more for each counter, and on tsumo each payer pays 100 more" (02, S-5);
   -- "On ron the feeder and the discarder pay half each, the discarder paying the counters; if they are one seat it pays all" (02, S-8; 004, article 67);
@@ -221,7 +220,7 @@ module _ (taken : ℕ → ℕ) (discarder whole n : ℕ) where
   owes (theFeeder x) true i = cond (eqb i x) (whole / 2) 0 + cond (eqb i discarder) (whole / 2 + 300 * n) 0
   owes (theFeeder x) false i = cond (eqb i x) (whole + 300 * n) 0
 
--- who a position says is liable: at a place it holds 0, or 1 + the feeder that is named
+-- who a position says is liable: at an index it holds 0, or 1 + the feeder that is named
 abbrev pub liableBy : ℕ → Liable
 liableBy zero = nobody
 liableBy (suc x) = theFeeder x
@@ -240,8 +239,9 @@ wholeOf dealers = cond dealers 48000 32000
 abbrev pub isDealersWin : Position → List ℕ → Bool
 isDealersWin l s = eqb (handFor s .fields .winner) (l .dealer)
 
--- "A win gives the four changes of the reported reading"; "document 01's plus this addition" (02, S-5); "compared with article 67" (02, S-8): what a win with
--- record s that scores v, with four wind triplets or not, gives seat i with n counters, sticks left out; what it takes of a seat is the size of its change
+-- "A win gives the four changes of the reported reading"; "document 01's plus this addition" (02, S-5); "compared with article 67" (02, S-8): what seat i
+-- gets, or pays where it is negative, at a win with record s that scores v, with four wind triplets or not, and with n counters, sticks left out; by v alone
+-- a seat pays the size of its change
 unfoldable pub payments : Position → List ℕ → Scored → Bool → ℕ → ℕ → ℤ
 payments l s v fourWinds n =
     let f = handFor s .fields in
@@ -257,7 +257,7 @@ unfoldable pub winGives : Position → List ℕ → ℕ → ℕ → ℕ → ℤ
 winGives l s n k i =
     payments l s (scoredFor l s) (holdsFourWinds (handFor s)) n i +ℤ cond (eqb i (handFor s .fields .winner)) (pos (1000 * k)) (pos 0)
 
--- what all records give it: "all against the game as it was before. Sticks and counters go to the first winner" (02, S-6)
+-- what all records give it: "all against the game as it was before. Sticks and counters go to the first winner in turn order after the discarder" (02, S-6)
 unfoldable pub multiRonGives : Position → ℕ → List (List ℕ) → ℕ → ℤ
 multiRonGives l first [] i = pos 0
 multiRonGives l first (s ∷ ss) i =
@@ -276,22 +276,22 @@ shareOf r ready = cond (eqb r 0 || eqb r 4) (pos 0) (cond ready (pos (3000 / r))
 unfoldable pub drawGives : ℕ → ℕ → ℤ
 drawGives bits i = shareOf (readySeats bits) (isReady bits i)
 
--- "each such seat pays 3,000 to every other seat" (02, S-7): what seat i pays seat j, the seats `at` being at fault
+-- "each such seat pays 3,000 to every other seat" (02, S-7): what seat i pays seat j, `fined` being the seats that pay
 abbrev pub finePaid : (ℕ → Bool) → ℕ → ℕ → ℕ
-finePaid at i j = cond (not (eqb i j) && at i) 3000 0
+finePaid fined i j = cond (not (eqb i j) && fined i) 3000 0
 
 -- what seat i gets of the others less what it pays them, "two such seats paying each other" (02, S-7)
 unfoldable pub fineOf : (ℕ → Bool) → ℕ → ℤ
-fineOf at i = pos (sum 4 (λ j. finePaid at j i)) +ℤ negℤ (pos (sum 4 (finePaid at i)))
+fineOf fined i = pos (sum 4 (λ j. finePaid fined j i)) +ℤ negℤ (pos (sum 4 (finePaid fined i)))
 
--- what a chombo of the seats `at` gives seat i: its fine, and "each declared seat gets 1,000 back"; of one seat it "costs the seat 9,000 and gives each other
+-- what a chombo gives seat i: its fine, and "each declared seat gets 1,000 back"; of one seat it "costs the seat 9,000 and gives each other
 -- seat 3,000", as `chombo-costs-9000` of crate `game_rules` says
 unfoldable pub chomboGives : Position → (ℕ → Bool) → ℕ → ℤ
-chomboGives l at i = fineOf at i +ℤ cond (isDeclared l i) (pos 1000) (pos 0)
+chomboGives l fined i = fineOf fined i +ℤ cond (isDeclared l i) (pos 1000) (pos 0)
 
 -- of a chombo "a stick less for each" declared seat; "the deal and counter stay, and the hand is finished" (02, S-7)
 abbrev pub chomboOf : Position → (ℕ → Bool) → Effect
-chomboOf l at = finishing (chomboGives l at) (l .sticks - declarations l) false (l .counter)
+chomboOf l fined = finishing (chomboGives l fined) (l .sticks - declarations l) false (l .counter)
 
 -- of a draw that is no chombo: the sticks stay, "The deal passes on .. a draw with the dealer not ready", the counter "rises by one at .. each draw" (02, S-5)
 abbrev pub drawOf : Position → ℕ → Effect

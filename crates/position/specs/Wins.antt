@@ -2,7 +2,7 @@
 use mathlib.Core.Path.{_≡_}
 use mathlib.Core.Logic.{_⊎_, _↔_}
 use mathlib.Core.Bool.{false, cond}
-use mathlib.Core.List.{List, [], _∷_}
+use mathlib.Core.List.{List}
 use Prim.Native.Nat.{ℕ, _*_, _≤_, _<_}
 use lib.Dec.{eqb}
 use lib.IntN.{ℤ, pos, _+ℤ_}
@@ -14,7 +14,7 @@ use Rattle.score.specs.Named.{groupsOf, IsReadingOf, ReadsWithYaku, IsReported,
 use Rattle.position.specs.declared.Position.{Position}
 use Rattle.position.specs.Booking.{Booking, result, win, multiRon}
 use Rattle.hand_rons.specs.Records.{recordsOf, notOnOneTile, firstWinner}
-use Rattle.position.specs.Ledger.{scoreAt, notOpen, handFor, riichiMismatch, payments, winGives, after}
+use Rattle.position.specs.Ledger.{scoreAt, notOpen, handFor, riichiMismatch, payments, winGives, multiRonGives, after}
 
 -- ---- a win with record s; l is "the ledger as the win meets it"
 
@@ -27,7 +27,7 @@ module _ (l : Position) (s : List ℕ) where
   abbrev pub IsWinning : Type 0
   IsWinning = IsSound s × ((r : Reading) × HasYaku r) × (riichiMismatch l (handFor s) ≡ false)
 
-  -- what r gives or takes of seat i with n counters, "with four wind triplets, not three and a pair" (02, S-8)
+  -- what seat i gets, or pays where it is negative, by reading r with n counters; pao for 29 asks for "four wind triplets, not three and a pair" (02, S-8)
   abbrev pub paidIn : Reading → ℕ → ℕ → ℤ
   paidIn r = payments l s (scoredAs (handFor s) (l .dealer) (l .wind) r) (eqb (winds (groupsOf (handFor s) r)) 4)
 
@@ -43,7 +43,7 @@ module _ (l : Position) (s : List ℕ) where
       (r : Reading) × IsBest r
       × ((n k i : ℕ) → winGives l s n k i ≡ paidIn r n i +ℤ cond (eqb i (handFor s .fields .winner)) (pos (1000 * k)) (pos 0))
 
-  -- it got the refusal n
+  -- what demand 3 claims of it, where it got the refusal n
   pub record WinBooked (n : ℕ) : Type 0 where
     -- accepted exactly when no refusal meets it
     pub accepted : (n ≡ 0) ↔ ((notOpen l ≡ false) × IsWinning)
@@ -58,17 +58,13 @@ module _ (l : Position) (s : List ℕ) where
 
 -- ---- a multiple ron (02, S-6), "the set as one booking", that got the refusal n
 
--- what the records give seat i: "Sticks and counters go to the first winner"
-abbrev pub givenIn : Position → ℕ → List (List ℕ) → ℕ → ℤ
-givenIn l first [] i = pos 0
-givenIn l first (s ∷ ss) i =
-    cond (eqb (handFor s .fields .winner) first) (winGives l s (l .counter) (l .sticks) i) (winGives l s 0 0 i) +ℤ givenIn l first ss i
-
+-- what demand 3 claims of it
 pub record MultiRonBooked (l : Position) (number : ℕ) (s : List ℕ) (n : ℕ) : Type 0 where
   -- accepted exactly when no refusal meets it
   pub accepted : let ss = recordsOf number s in
       (n ≡ 0) ↔ ((notOpen l ≡ false) × (0 < number) × (number ≤ 3) × Each (IsWinning l) ss × (notOnOneTile ss ≡ false))
-  -- accepted: "each of the winners has the best reading of that winner's tiles", and each score moved by what all records give or take
+  -- accepted: "each of the winners has the best reading of that winner's tiles", and each score moved by what all records give or take; what that comes to
+  -- for each seat, `multi-ron-pays` of crate `game_rules` says
   pub paid : let ss = recordsOf number s in
       n ≡ 0 → Each (IsPaid l) ss
-      × ((i : ℕ) → i < 4 → scoreAt (after l (result (multiRon number s))) i ≡ scoreAt l i +ℤ givenIn l (firstWinner ss) ss i)
+      × ((i : ℕ) → i < 4 → scoreAt (after l (result (multiRon number s))) i ≡ scoreAt l i +ℤ multiRonGives l (firstWinner ss) ss i)

@@ -1,9 +1,7 @@
 pub mod Bounds
 pub mod Form
 pub mod Sums
-pub mod After
 pub mod Effect
-pub mod First
 pub mod Accepted
 pub mod Refusals
 pub mod PaidByOthers

@@ -17,9 +17,11 @@ pub struct Position {
     pub feeders: [u8; 8],
 }
 
-// "200 hands finished", "scores plus 1,000 times sticks" (01, The game), "the floor of a score" (02, S-6): `lastHand`, `pointsInPlay`, `floor` of specs/Ledger.
+// "200 hands finished" (01, The game): `lastHand` of specs/Ledger.
 pub const LAST_HAND: u8 = 200;
 
+// "the floor of a score" (02, S-6): `floor` of specs/Ledger.
 pub const FLOOR: i32 = -28540000;
 
+// "scores plus 1,000 times sticks" (01, The game): `pointsInPlay` of specs/Ledger.
 pub const POINTS_IN_PLAY: i64 = 120000;

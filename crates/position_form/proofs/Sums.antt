@@ -22,7 +22,8 @@ pub eqb-eqZ : (z : ℤ) (n : ℕ) → SFits w64 z → n < 2 ^ 63 → eqb (ofZ w6
 eqb-eqZ (pos m) n f l = sym (same-leb m n)
 eqb-eqZ (negsuc m) n f l = ne-eqb (2 ^ 64 - suc m) n (λ e. omega (arith, f .sfits))
 
-module _ (a b c d : ℤ) (k : ℕ) (wa : Within a 2147483648) (wb : Within b 2147483648) (wc : Within c 2147483648) (wd : Within d 2147483648) (hk : k < 2 ^ 32) where
+module _ (a b c d : ℤ) (k : ℕ) (wa : Within a 2147483648) (wb : Within b 2147483648) (wc : Within c 2147483648)
+    (wd : Within d 2147483648) (hk : k < 2 ^ 32) where
   fa : SFits w64 a
   fa = fit a 2147483648 wa (omega arith)
 

@@ -7,7 +7,7 @@ ghost use lib.ListN.{getD};
 ghost use lib.Signed.{ltZ};
 ghost use Rattle.tiles.specs.Below.{any, count, tabulate};
 ghost use Rattle.position.specs.Ledger.{pointsInPlay, floor, isSet, mark, eqZ, wrongFeeder, outOfForm, notOpen};
-ghost use Rattle.position.specs.laws.Form.{sumOf};
+ghost use Rattle.position.specs.search.Form.{sumOf};
 use position::FLOOR;
 use position::LAST_HAND;
 use position::POINTS_IN_PLAY;

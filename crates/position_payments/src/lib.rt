@@ -6,11 +6,10 @@ ghost use lib.Dec.{eqb};
 ghost use lib.IntN.{pos, negℤ, _+ℤ_};
 ghost use lib.ListN.{getD};
 ghost use Rattle.tiles.specs.Below.{count, tabulate};
-ghost use Rattle.score.specs.laws.Z.{Within};
+ghost use Rattle.score.specs.search.Parts.{Within};
 ghost use Rattle.position.specs.Ledger.{lastHand, isSet, paidByOthers, wholeOf, shareOf, fineOf};
-ghost use Rattle.position.specs.laws.Bounds.{amount, mostChange, mostSticks, mostGift};
-ghost use Rattle.position.specs.laws.Fines.{finedBy};
-ghost use Rattle.position.specs.laws.Sums.{Small, Changes, Gifts};
+ghost use Rattle.position.specs.search.Amounts.{amount, mostChange, mostSticks, mostGift, Small, Changes, Gifts};
+ghost use Rattle.position.specs.search.Fines.{finedBy};
 ghost use Rattle.position_payments.specs.search.Parts.{paoPays, repeatPays};
 use points::Seats;
 use position_form::count_true;
@@ -32,6 +31,7 @@ fn less(p: Points) -> i32
     -(p.0 as i32)
 }
 
+// What riichi gives a seat, which pays for the stick or does not.
 fn stake(pays: bool) -> i32
     ensures { λ r. ⌜ (r ≡ cond pays (negℤ (pos 1000)) (pos 0)) × Within r amount ⌝ }
 {
@@ -118,14 +118,14 @@ pub fn penalties(f: [bool; 4], d: [bool; 4]) -> [i32; 4]
     ]
 }
 
-// What a seat pays that owes an amount, or does not.
+// The amount where the seat owes it, else none.
 fn due(owes: bool, p: Points) -> Points
     ensures { λ r. ⌜ (r .0 ≡ cond owes (p .0) 0) × (r .0 ≤ p .0) ⌝ }
 {
     if owes { p } else { Points(0) }
 }
 
-// What n repeat counters give a seat that wins, or does not, where one seat pays them alone or all do, and it is that one or not.
+// What n repeat counters give a seat at a win: `wins` says that it is the winner, `alone` that one seat pays them all, `pays` that it is that seat.
 fn addition(wins: bool, alone: bool, pays: bool, n: u32) -> i32
     requires { ⌜ n ≤ lastHand ⌝ }
     ensures { λ r. ⌜ (r ≡ cond wins (pos (300 * n)) (negℤ (pos (cond alone (cond pays (300 * n) 0) (100 * n))))) × Within r mostChange ⌝ }
@@ -163,7 +163,7 @@ fn whole_of(dealers: bool) -> Points
     }
 }
 
-// What a seat pays of the whole by article 67, by ron or not, that is the feeder or not, and the discarder or not.
+// What a seat pays of the whole by article 67: `feeds` says that it is the feeder, `discards` that it is the discarder.
 fn owed(ron: bool, feeds: bool, discards: bool, whole: Points) -> Points
     requires { ⌜ whole .0 ≤ 48000 ⌝ }
     ensures { λ r. ⌜ (r .0 ≡ cond ron (cond feeds (whole .0 / 2) 0 + cond discards (whole .0 / 2) 0) (cond feeds (whole .0) 0)) × (r .0 ≤ whole .0) ⌝ }

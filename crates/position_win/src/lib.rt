@@ -7,13 +7,12 @@ ghost use lib.Dec.{ltb};
 ghost use lib.ListN.{getD};
 ghost use Rattle.hand.specs.Refusals.{wrongDiscarder};
 ghost use Rattle.hand_record.specs.Record.{refusalIn, readOf};
-ghost use Rattle.hand_record.specs.laws.Bounds.{Bounds};
+ghost use Rattle.hand_record.specs.search.Bounds.{Bounds};
 ghost use Rattle.position.specs.Booking as Booking;
 ghost use Rattle.position.specs.Ledger.{lastHand, handFor, liableBy, liableIn, holdsFourWinds, Moves};
-ghost use Rattle.position.specs.laws.Bounds.{mostSticks};
-ghost use Rattle.position.specs.laws.Form.{Open};
-ghost use Rattle.position.specs.laws.Sums.{Changes, Gifts};
-ghost use Rattle.position_win.specs.laws.Settling.{nothing, SettledAs, IsSettled};
+ghost use Rattle.position.specs.search.Amounts.{mostSticks, Changes, Gifts};
+ghost use Rattle.position.specs.search.Form.{Open};
+ghost use Rattle.position_win.specs.search.Settling.{nothing, SettledAs, IsSettled};
 use hand::Fields;
 use hand::Hand;
 use hand_record::Answer;
@@ -142,7 +141,7 @@ fn settle(p: Position, s: &[u8], n: u32, k: u32) -> Settled
     settle_hand(p, h, n, k)
 }
 
-// Win: the record is settled, and the winner takes the counters and the sticks. Refused with 9, a position that is not open; what its settling is refused with.
+// Win: the record is settled, and the winner takes the counters and the sticks. Refused with 9, a position that is not open; then as its settling is.
 pub fn win(p: Position, s: &[u8]) -> Moved
     ensures { λ r. ⌜ Moves p (Booking.result (Booking.win (now (s .entry)))) (r .refusal) (r .position) ⌝ }
 {

@@ -2,7 +2,7 @@
 // eight of sou, how many there are, then each on a line.
 use libc::STDOUT_FILENO;
 
-// A number in three digits.
+// Prints a number in three digits.
 fn put_count(n: u16) {
     let hundreds = (n / 100 % 10) as u8;
     let tens = (n / 10 % 10) as u8;
@@ -11,14 +11,14 @@ fn put_count(n: u16) {
     io::write_all(STDOUT_FILENO, &line);
 }
 
-// The first n bytes.
+// Prints the first n bytes.
 fn put(line: &[u8], n: usize) {
     if n <= line.len() {
         io::write_all(STDOUT_FILENO, &line[..n]);
     }
 }
 
-// A card by the numbers on its tiles, and the letter of their suit.
+// Prints a card: the numbers on its tiles, and the letter of their suit.
 fn put_card(tiles: &[u8], letter: u8) {
     let n = tiles.len();
     if n <= 8 {
@@ -31,7 +31,7 @@ fn put_card(tiles: &[u8], letter: u8) {
     }
 }
 
-// Cards of so many tiles, one after the other.
+// Prints cards of so many tiles, one after the other.
 fn put_list(page: &[u8], count: u16, size: u8, letter: u8) {
     let n = size as usize;
     let mut at = 0;

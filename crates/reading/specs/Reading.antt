@@ -53,13 +53,13 @@ ofShape f = record { shape = f; pair = 34; groups = 68 ∷ 68 ∷ 68 ∷ 68 ∷ 
 
 -- "seven pairs: m = 0, seven different kinds"
 pub record IsSevenPairs (t : List ℕ) (m : ℕ) (r : Reading) : Type 0 where
-  pub closed : m ≡ 0
+  pub meldless : m ≡ 0
   pub kinds : isSevenPairs t ≡ true
   pub reading : r ≡ ofShape 1
 
 -- "thirteen orphans: m = 0, all 13 yaochu kinds, one twice"
 pub record IsOrphans (t : List ℕ) (m : ℕ) (r : Reading) : Type 0 where
-  pub closed : m ≡ 0
+  pub meldless : m ≡ 0
   pub kinds : isOrphans t ≡ true
   pub reading : r ≡ ofShape 2
 

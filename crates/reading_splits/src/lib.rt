@@ -7,7 +7,7 @@ ghost use lib.ListN.{length, getD};
 ghost use Rattle.reading_splits.specs.Splits.{Splits};
 ghost use Rattle.reading_splits.specs.search.SplitsInto.{lowest as lowestOf, splitsInto};
 
-// The lowest kind from one on that the tally has, or 34.
+// The lowest kind, not below `from`, that the tally has, or 34.
 fn lowest(t: &[u8; 34], from: u8) -> u8
     requires { ⌜ (from ≤ 34) × (length (now t) ≡ 34) ⌝ }
     ensures { λ r. ⌜ (r ≡ lowestOf (34 - from) from (now (t .entry))) × (r ≤ 34) ⌝ }

@@ -8,8 +8,7 @@ ghost use Rattle.tiles.specs.Below.{sum};
 ghost use Rattle.tiles.specs.Groups.{isGroup};
 ghost use Rattle.reading.specs.Reading.{holds as holdsOf, isSevenPairs, isOrphans};
 ghost use Rattle.reading.specs.search.Readings.{isEmpty, less, fits as fitsOf, without as withoutOf, passes as passesOf};
-ghost use Rattle.reading.specs.search.Pairs.{OnlyPairs};
-ghost use Rattle.reading.specs.laws.Pairs.{weighed};
+ghost use Rattle.reading.specs.search.Pairs.{OnlyPairs, weighed};
 
 // No tile is left.
 pub fn is_empty(t: [u8; 34]) -> bool

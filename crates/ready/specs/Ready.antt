@@ -11,7 +11,7 @@ use Rattle.unfinished.specs.Unfinished.{heldRefusal, heldOf, refusalOf}
 use Rattle.waits.specs.Waits.{IsWait}
 use Rattle.ready.specs.declared.Ready.{Ready}
 
--- "melds kept and no kind over four held": y is a hand beside the melds of x, with tiles that Read's 2 to 4 let pass, 13 − 3m in order and zeros after them
+-- "melds kept and no kind over four held": y has the melds of x and 13 − 3m concealed tiles, zeros after them, and Read's 2 to 4 let it pass
 pub record SameMelds (x y : Held) : Type 0 where
   pub number : y .m ≡ x .m
   pub melds : y .melds ≡ x .melds

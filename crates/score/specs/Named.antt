@@ -27,7 +27,7 @@ use Rattle.score.specs.Readings.{readingsOf}
 
 -- ---- the hand at the table
 
--- "Seat wind is (seat − dealer) mod 4 counted from East"; the round wind's kind: "0 East, 1 South"
+-- how the hand was won: "Seat wind is (seat − dealer) mod 4 counted from East"; the round wind's kind: "0 East, 1 South"
 unfoldable pub wonOf : Hand → ℕ → ℕ → Won
 wonOf h dealer wind = record {
   tally = handTally h;

@@ -1,2 +1,3 @@
 pub mod HandCommon
 pub mod HandScore
+pub mod Parts

@@ -29,9 +29,9 @@ pub struct HandCommon {
     pub ways: [u8; 4],
 }
 
-// What the search keeps: whether a reading had a yaku, the best of those and what it is worth; whether the search is done, as the last reading had a
-// yakuman; and how many readings it tried. Where a reading is wanted by its number, `wanted`, from 1, it is that one, and whether it was reached;
-// nothing ends the search then. 0 is for the best.
+// What the search keeps. `valued` says that a reading had a yaku; `value` and `reading` are the best of those. `done` says that the last reading had a
+// yakuman, which ends the search; `tried` is how many were tried. Where `wanted` is not 0, it is the number, from 1, of the reading to keep: then `valued`
+// says that it was reached, and nothing ends the search.
 pub struct Best {
     pub valued: bool,
     pub value: Value,

@@ -43,7 +43,7 @@ pub data IsNth (s : List ℕ) (dealer wind n : ℕ) : NthReading → Type 0 wher
   eight : (3 < dealer) ⊎ (1 < wind) → IsNth s dealer wind n (refusedWith 8)
   -- Read's "1 to 5"
   unreadable : dealer ≤ 3 → wind ≤ 1 → (k : ℕ) → readOf s .answer ≡ Refused k → IsNth s dealer wind n (refusedWith k)
-  -- 8 again: there is no such reading, as where there is none at all
+  -- 8 again, where n is 0 or over the number of readings: so too where the tiles have no reading
   no-such : dealer ≤ 3 → wind ≤ 1 → (f : Fields) → readOf s .answer ≡ Sound f → (n ≡ 0) ⊎ (length (readingsOf (handOf (readOf s))) < n)
       → IsNth s dealer wind n (refusedWith 8)
   -- that reading, and whether it is the one that is reported

@@ -37,8 +37,8 @@ paidOf v s ron =
     cond (hasYaku (v .yaku)) (record { basic = v .basic; gain = v .gain; changes = changes s ron (v .basic .0) })
     (record { basic = points 0; gain = points 0; changes = replicate 4 (pos 0) })
 
--- what is shown of the reading r, worth v, one of `count`: `values` is what yaku 3 counts, `dora` how many are held ("h = yaku han plus dora"), and with a yakuman
--- "h and fu are 0", so that none counts
+-- what is shown of the reading r, worth v, one of `count`: `values` is what yaku 3 counts, `dora` how many are held ("h = yaku han plus dora"); with a
+-- yakuman "h and fu are 0", so that none counts
 abbrev pub shownWith : ℕ → Reading → Value → ℕ → ℕ → Bool → Seats → Bool → Bool → NthReading
 shownWith count r v values dora closed s ron reported = record {
   count = count;

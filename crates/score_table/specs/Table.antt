@@ -21,15 +21,16 @@ use Rattle.score.specs.Score.{scoreOf}
 abbrev pub lowOf : ℕ → ℕ
 lowOf c = cond (eqb c 112) 9 (cond (eqb c 115) 18 0)
 
--- the kinds that a text names, its last letter first, `low` being the 1 of the suit that was read last
+-- the kinds that a text names, which is read from its end: `later` are those read so far, `low` is the 1 of the suit whose letter was read last
 unfoldable pub kindsFrom : ℕ → List ℕ → List ℕ → List ℕ
-kindsFrom low [] kinds = kinds
-kindsFrom low (c ∷ cs) kinds = let suit = ltb 57 c in kindsFrom (cond suit (lowOf c) low) cs (cond suit kinds ((low + (c - 49)) ∷ kinds))
+kindsFrom low [] later = later
+kindsFrom low (c ∷ cs) later = let suit = ltb 57 c in kindsFrom (cond suit (lowOf c) low) cs (cond suit later ((low + (c - 49)) ∷ later))
 
+-- the kinds that a text names, in its order
 abbrev pub kinds : String → List ℕ
 kinds text = kindsFrom 0 (reverse (bytesOf text)) []
 
--- "indicator North, no riichi, ordinary": how (0 tsumo, 1 ron), winner, discarder, melds, other concealed tiles, winning tile
+-- a hand of the table, with "indicator North, no riichi, ordinary": by how (0 tsumo, 1 ron), winner, discarder, melds, other concealed tiles, winning tile
 abbrev pub won : ℕ → ℕ → ℕ → List ℕ → String → String → Hand
 won how winner discarder melds others winning =
     let tile = getD (kinds winning) 0 0 in
@@ -43,6 +44,7 @@ won how winner discarder melds others winning =
 abbrev pub ron : ℕ → List ℕ → String → String → Hand
 ron winner = won 1 winner 3
 
+-- "tsumo", with discarder 0
 abbrev pub tsumo : ℕ → List ℕ → String → String → Hand
 tsumo winner = won 0 winner 0
 

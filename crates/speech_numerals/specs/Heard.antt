@@ -21,6 +21,7 @@ unfoldable pub heardFrom : ℕ → ℕ → List ℕ → ℕ
 heardFrom whole since [] = whole + since
 heardFrom whole since (c ∷ cs) = heardFrom (whole + max 1 since * scaleOf c) (cond (eqb (scaleOf c) 0) (since + valueOf c) 0) cs
 
+-- what is heard of clips, from the first on
 unfoldable pub heard : List ℕ → ℕ
 heard cs = heardFrom 0 0 cs
 

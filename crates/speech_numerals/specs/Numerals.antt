@@ -1,5 +1,5 @@
 -- The numbers "0 to 4,294,967,295" as lists of clips, in the languages 1 Japanese, 2 English, 3 Korean, 4 Mandarin (SPEECH, Numbers).
--- A place of a number is meant by what is left when the digits below it are cut off: its digit is x % 10, and x / 10 stands above it.
+-- Of a number whose lower digits are cut off, x is what is left: its last digit is x % 10, and x / 10 stands above that digit.
 use mathlib.Core.Bool.{Bool, true, false, _&&_, cond}
 use mathlib.Core.List.{List, [], _∷_, _++_}
 use Prim.Native.Nat.{ℕ, _+_, _/_, _%_}

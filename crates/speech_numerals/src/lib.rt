@@ -5,7 +5,8 @@ ghost use mathlib.Core.Bool.{cond};
 ghost use Prim.Native.Nat.{_+_, _≤_, _<_};
 ghost use lib.ListN.{length};
 ghost use Rattle.text.specs.Put.{Put};
-ghost use Rattle.speech_numerals.specs.Numerals.{placeOf, underHundred, threeOf, scaledThree, englishOf, isGap, thousandsOf, hundredsOf, tensOf, onesOf, fourOf, scaledFour, easternOf, numeral};
+ghost use Rattle.speech_numerals.specs.Numerals.{placeOf, underHundred, threeOf, scaledThree, englishOf, isGap, thousandsOf, hundredsOf, tensOf};
+ghost use Rattle.speech_numerals.specs.Numerals.{onesOf, fourOf, scaledFour, easternOf, numeral};
 
 // a where the test holds, b where not.
 fn choose(test: bool, a: u8, b: u8) -> u8

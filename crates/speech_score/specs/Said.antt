@@ -28,10 +28,11 @@ isKnown language = ltb 0 language && leb language 4
 unfoldable pub saidOf : ℕ → ℕ → List ℕ → List ℕ → Said
 saidOf language refusal message buf = cond (isKnown language) (cond (ltb 0 refusal) (refusedWith refusal) (givenOf message buf)) (refusedWith 8)
 
+-- what the buffer then holds
 unfoldable pub saidBuffer : ℕ → ℕ → List ℕ → List ℕ → List ℕ
 saidBuffer language refusal message buf = cond (isKnown language) (cond (ltb 0 refusal) buf (bufferOf message buf)) buf
 
--- a call in language l has to say the message m, or hand on the refusal n, where it is not 0: it gives r, and makes the buffer new of old
+-- a call says the message m in language l, or hands on the refusal n where n is not 0: it gives r, and turns the buffer `old` into `new`
 pub record Answers (l n : ℕ) (m old : List ℕ) (r : Said) (new : List ℕ) : Type 0 where
   pub answer : r ≡ saidOf l n m old
   pub buffer : new ≡ saidBuffer l n m old

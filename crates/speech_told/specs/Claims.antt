@@ -43,7 +43,7 @@ module _ (language : ℕ) (s : List ℕ) (dealer wind : ℕ) where
   pub fu-on-sheet : (c : ℕ) → Member c (fuMessage language (scoreOf s dealer wind)) → hasClip language c ≡ true
   fu-on-sheet = short.fu-has language s dealer wind .has
 
--- of a refusal that there is
+-- the two of a refusal that there is
 pub refusal-short : (n : ℕ) → length (refusalMessage n) ≤ 1
 refusal-short n = omega arith
 

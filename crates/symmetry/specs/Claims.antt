@@ -32,9 +32,10 @@ module _ (σ : ℕ → ℕ) (r : IsRenaming σ) (s : List ℕ) (i : IsSound s) w
   pub renamed-exists : (t : List ℕ) × IsSound t × IsRenamed σ (handOf (readOf s)) (handOf (readOf t))
   renamed-exists = renamed.renamed-exists σ r s i
 
-  -- of any such record t, whatever dealer and wind
-  module _ (t : List ℕ) (j : IsSound t) (x : IsRenamed σ (handOf (readOf s)) (handOf (readOf t))) (dealer wind : ℕ)
-      (before : isAllGreen (scoreOf s dealer wind) ≡ false) (after : isAllGreen (scoreOf t dealer wind) ≡ false) where
-    -- "leaves changes, h and fu as they were, provided the hand is all green (yaku 34) neither before nor after"
-    pub renamed-scores : SameScore (scoreOf s dealer wind) (scoreOf t dealer wind)
-    renamed-scores = renamed.renamed-score σ r s i t j x dealer wind before after
+  -- of any such record t, whatever dealer and wind: it "leaves changes, h and fu as they were, provided the hand is all green (yaku 34) neither before nor
+  -- after"
+  pub renamed-scores : (t : List ℕ) → IsSound t → IsRenamed σ (handOf (readOf s)) (handOf (readOf t)) → (dealer wind : ℕ) →
+      let before = scoreOf s dealer wind in
+      let after = scoreOf t dealer wind in
+      isAllGreen before ≡ false → isAllGreen after ≡ false → SameScore before after
+  renamed-scores = renamed.renamed-score σ r s i

@@ -45,7 +45,7 @@ pub record IsRenamed (σ : ℕ → ℕ) (h k : Hand) : Type 0 where
   -- the melds stand where they stood, each renamed
   pub m : k .held .m ≡ h .held .m
   pub melds : (i : ℕ) → i < h .held .m → getD (k .held .melds) i 0 ≡ renamedMeld σ (getD (h .held .melds) i 0)
-  -- of the other concealed tiles there are as many of a renamed kind as there were of the kind
+  -- of a kind, renamed, there are as many concealed tiles as there were of the kind
   pub tiles : (j : ℕ) → inOthers (k .held) (renamed σ j) ≡ inOthers (h .held) j
   -- "put back in order": they descend nowhere
   pub order : descends (k .held) ≡ false

@@ -28,7 +28,8 @@ abbrev pub tabulate {ℓ} : {A : Type ℓ} → ℕ → ℕ → (ℕ → A) → L
 tabulate zero i f = []
 tabulate (suc n) i f = f i ∷ tabulate n (suc i) f
 
--- The same four under names that stay shut until a proof opens them, for ranges such as the 34 kinds.
+-- ---- `all`, `any`, `count` and `sum` again, under names that stay shut until a proof opens them, for ranges such as the 34 kinds
+
 -- `all`: p at each k below n
 unfoldable pub allBelow : ℕ → (ℕ → Bool) → Bool
 allBelow n p = all n p

@@ -2,20 +2,40 @@
 -- same bytes, and an accepted hand written and read gives the same hand", here of an unfinished hand).
 use Prim.Native.Nat.{ℕ, _≤_}
 use mathlib.Core.Path.{_≡_}
+use mathlib.Core.Bool.{cond}
 use mathlib.Core.Logic.{_↔_}
 use mathlib.Core.List.{List, _++_}
 use lib.ListN.{length, take, drop}
 use Rattle.bits.specs.Bits.{EachBelow}
 use Rattle.hand.specs.declared.Held.{Held}
-use Rattle.hand_record.specs.Record.{handOf}
+use Rattle.hand_record.specs.Record.{refusalIn, handOf}
 use Rattle.hand_record.specs.Record as hand-record
 use Rattle.reading.specs.declared.Reading.{Reading}
 use Rattle.score.specs.Named.{IsReadingOf}
-use Rattle.unfinished.specs.Unfinished.{heldOf, readOf, IsSound}
+use Rattle.unfinished.specs.Unfinished.{heldOf, refusalOf, readOf, IsSound}
 use Rattle.unfinished.specs.Claims.{sound}
 use Rattle.waits.specs.Waits.{IsWait}
-use Rattle.unfinished_writer.specs.Write.{unwritable, writtenOf, bufferOf, IsHeld, heldInRecord, writtenFrom, bufferFrom}
+use Rattle.unfinished_writer.specs.Write.{unfinishedBytes, unwritable, writtenOf, bufferOf, IsHeld, heldInRecord, writtenFrom, bufferFrom}
+use Rattle.unfinished_writer.specs.Write.{InOrder, isUnfit}
 use Rattle.unfinished_writer.specs.laws.Claims as laws
+use Rattle.unfinished_writer.specs.laws.Order as order
+
+-- ---- what is refused before 13
+
+-- the writer of tiles held: "2 .., 3, 4 .., then 13" (01, Write)
+pub write-in-order : (x : Held) (buf : List ℕ) → InOrder (unwritable x) x buf (writtenOf x buf) (bufferOf x buf)
+write-in-order = order.write-in-order
+
+-- the writer from a record: Read's 1 to 5, then 13
+pub record-in-order : (s buf : List ℕ) → InOrder (refusalIn (hand-record.readOf s .answer)) (heldInRecord s) buf (writtenFrom s buf) (bufferFrom s buf)
+record-in-order = order.record-in-order
+
+-- "2 (also m over 4, a field too large for its bits, or an unused place not zero), 3, 4 .. as above": 2 for tiles that no bytes can hold, and else what
+-- the reader refuses their bytes with
+pub refused-as-read : (x : Held) → IsHeld x → unwritable x ≡ cond (isUnfit x) 2 (refusalOf (unfinishedBytes x))
+refused-as-read = order.refused-as-read
+
+-- ---- written and read
 
 -- a sound unfinished hand read and written back gives the same bytes, in a buffer that it fits, whose bytes past them stay
 pub read-write : (s buf : List ℕ) → EachBelow 256 s → IsSound s → length s ≤ length buf

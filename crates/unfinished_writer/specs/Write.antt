@@ -1,13 +1,15 @@
 -- An unfinished hand written (02, S-1), as Write has it (01, Tiles and the hand record): from the tiles held, and from a record without its winning tile.
 use mathlib.Core.Path.{_≡_}
-use mathlib.Core.Bool.{_||_, cond}
+use mathlib.Core.Bool.{Bool, _||_, cond}
+use mathlib.Core.Logic.{_↔_}
 use mathlib.Core.List.{List, _∷_, _++_}
-use Prim.Native.Nat.{ℕ}
+use Prim.Native.Nat.{ℕ, _≤_, _<_}
 use lib.Dec.{ltb}
-use lib.ListN.{length, drop}
-use Rattle.bits.specs.Bits.{EachBelow, bytesOf}
+use lib.ListN.{length, getD, drop}
+use Rattle.tiles.specs.Below.{anyBelow}
+use Rattle.bits.specs.Bits.{EachBelow, packBytes}
 use Rattle.hand.specs.declared.Held.{Held}
-use Rattle.hand.specs.Held.{unusedNotZero}
+use Rattle.hand.specs.Held.{others, unusedNotZero}
 use Rattle.hand_record.specs.declared.Written.{Written}
 use Rattle.hand_record.specs.Record.{heldValues, refusalIn, handOf, readOf}
 use Rattle.unfinished.specs.Unfinished.{lengthOf, widths, heldRefusal}
@@ -20,7 +22,7 @@ valuesOf x = x .m ∷ heldValues x
 
 -- each value at its width, as bytes
 unfoldable pub unfinishedBytes : Held → List ℕ
-unfinishedBytes x = bytesOf (lengthOf (x .m)) (widths (x .m)) (valuesOf x)
+unfinishedBytes x = packBytes (lengthOf (x .m)) (widths (x .m)) (valuesOf x)
 
 -- ---- what is refused, answered and stored
 
@@ -73,3 +75,20 @@ writtenFrom s buf = writtenBy (recordRefusal s buf) (heldInRecord s)
 -- what the buffer then holds
 abbrev pub bufferFrom : List ℕ → List ℕ → List ℕ
 bufferFrom s buf = bufferBy (recordRefusal s buf) (heldInRecord s) buf
+
+-- ---- a writer's refusals before 13
+
+-- j is what comes before 13: of tiles held 2, 3 or 4, of a record Read's 1 to 5; 0 for none. x are the tiles held, w is the answer, b the buffer after it
+pub record InOrder (j : ℕ) (x : Held) (buf : List ℕ) (w : Written) (b : List ℕ) : Type 0 where
+  -- these first, whatever the buffer
+  pub tiles : 0 < j → w .refusal ≡ j
+  -- "then 13: buffer shorter than the record": exactly where none of them is met and it is shorter than the bytes
+  pub short : (w .refusal ≡ 13) ↔ ((j ≡ 0) × (length buf < length (unfinishedBytes x)))
+  -- and accepted exactly where it is not
+  pub accepted : (w .refusal ≡ 0) ↔ ((j ≡ 0) × (length (unfinishedBytes x) ≤ length buf))
+  -- "a refused call returns its number with all else zero or empty and writes nothing"
+  pub nothing : 0 < w .refusal → (w .len ≡ 0) × (b ≡ buf)
+
+-- tiles held that are no unfinished hand's bytes: "m over 4, a field too large for its bits, or an unused place not zero"; a tile has 6 bits
+abbrev pub isUnfit : Held → Bool
+isUnfit x = ltb 4 (x .m) || unusedNotZero x || anyBelow (others x) (λ i. ltb 63 (getD (x .concealed) i 0))

@@ -1,4 +1,5 @@
 pub mod Store
 pub mod Round
 pub mod Claims
+pub mod Order
 pub mod Examples

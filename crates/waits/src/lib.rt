@@ -87,7 +87,7 @@ fn of_sort(t: &[u8; 34], c: usize) -> u8
     n
 }
 
-// 1 for yes.
+// 1 for yes, 0 for no.
 fn one(b: bool) -> u8
     ensures { λ r. ⌜ (r ≡ cond b 1 0) × (r ≤ 1) ⌝ }
 {

@@ -1,4 +1,4 @@
--- The yaku of a reading (01, Yaku), as a list of 37: yaku n at place n, and false at place 0.
+-- The yaku of a reading (01, Yaku), as a list of 37: yaku n at index n, and false at index 0.
 use mathlib.Core.Bool.{Bool, false, _&&_, not, cond}
 use mathlib.Core.List.{List, [], _∷_}
 use Prim.Native.Nat.{ℕ, _+_, _-_}

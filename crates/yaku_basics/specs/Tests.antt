@@ -39,12 +39,12 @@ earnsWait place c win =
     eqb place 0 || (isRun c && (eqb win (c + 1) || (eqb (c % 9) 0 && eqb win (c + 2)) || (eqb (c % 9) 6 && eqb win c)))
 
 -- "a run held twice or thrice": how many of the four groups are c
-abbrev pub held : List ℕ → ℕ → ℕ
-held g c = count 4 (λ i. eqb (getD g i 0) c)
+abbrev pub copies : List ℕ → ℕ → ℕ
+copies g c = count 4 (λ i. eqb (getD g i 0) c)
 
 -- 5, 21: twin runs. "a run held twice or thrice" is one, "four equal runs" are two
 unfoldable pub twins : List ℕ → ℕ
-twins g = sumBelow 27 (λ c. held g c / 2)
+twins g = sumBelow 27 (λ c. copies g c / 2)
 
 -- 13 "same run in three suits", 16 "same triplet in three suits": the group of some number i is there in each suit s; the codes start at low,
 -- 0 for runs and 34 for triplets, and a suit has nine, of which the last two are no run

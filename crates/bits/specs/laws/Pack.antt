@@ -10,7 +10,7 @@ use native.Mathlib.Omega.{arith}
 use lib.ListN.{length, getD, take, drop, set, replicate, length-append, length-drop, length-replicate}
 use lib.Seq.{drop-drop, drop-cons, take-at, drop-at, take-add, length-take-le, getD-drop, sets, sets-eq, take-append-le, drop-append-le, take-length}
 use lib.Pow.{pow-pos, pow-mono, mod-pow-add, shr-shr}
-use Rattle.bits.specs.Bits.{digits, val, pack, unpack, widthOf, EachBelow, eights, bitsOf, fill, bytesOf}
+use Rattle.bits.specs.Bits.{digits, val, pack, unpack, widthOf, EachBelow, eights, bitsOf, fill, packBytes}
 
 -- each value fits its width
 abbrev pub FitIn : List ℕ → List ℕ → Type 0
@@ -168,7 +168,7 @@ sum-eights zero = refl
 sum-eights (suc n) = omega (arith, sum-eights n)
 
 -- THE ROUND TRIPS
-pub bytes-fields : (ws s : List ℕ) → EachBelow 256 s → widthOf ws ≡ 8 * length s → bytesOf (length s) ws (fieldsOf ws s) ≡ s
+pub bytes-fields : (ws s : List ℕ) → EachBelow 256 s → widthOf ws ≡ 8 * length s → packBytes (length s) ws (fieldsOf ws s) ≡ s
 bytes-fields ws s h e =
     let n : ℕ = length s in
     let b : List ℕ = pack (eights n) s in
@@ -178,11 +178,11 @@ bytes-fields ws s h e =
     pack-unpack ws b (below-pack (eights n) s) (omega arith) ∙ rw (sym lb) (take-length b) in
     rw p (ap (λ (l : List ℕ). unpack (eights n) l) (sym (append-nil b)) ∙ unpack-pack (eights n) s [] ln (fit-run n 8 s (omega arith) h))
 
-pub fields-bytes : (ws vs : List ℕ) (n : ℕ) → length ws ≡ length vs → FitIn ws vs → widthOf ws ≡ 8 * n → fieldsOf ws (bytesOf n ws vs) ≡ vs
+pub fields-bytes : (ws vs : List ℕ) (n : ℕ) → length ws ≡ length vs → FitIn ws vs → widthOf ws ≡ 8 * n → fieldsOf ws (packBytes n ws vs) ≡ vs
 fields-bytes ws vs n l h e =
     let b : List ℕ = pack ws vs in
     let lb : length b ≡ widthOf ws = length-pack ws vs l in
-    let k : length (bytesOf n ws vs) ≡ n = length-unpack (eights n) b ∙ length-replicate n 8 in
+    let k : length (packBytes n ws vs) ≡ n = length-unpack (eights n) b ∙ length-replicate n 8 in
     let p : pack (eights n) (unpack (eights n) b) ≡ b =
     pack-unpack (eights n) b (below-pack ws vs) (omega (arith, sum-eights n)) ∙ rw (sum-eights n, sym e, sym lb) (take-length b) in
     rw (k, p) (ap (λ (x : List ℕ). unpack ws x) (sym (append-nil b)) ∙ unpack-pack ws vs [] l h)

@@ -17,7 +17,7 @@ use Rattle.cards.specs.search.Draws.{drawn}
 use Rattle.cards.specs.laws.Exact.{card-list-drawn}
 use Rattle.card_counts.specs.laws.Count.{whole}
 use Rattle.card_writer.specs.Call.{isSize, refuses, refusedCards, answerOf, cardBuffer}
-use Rattle.card_writer.specs.search.Written.{bytesOf, written, counted}
+use Rattle.card_writer.specs.search.Written.{withPrefix, written, counted}
 
 -- what is known of an accepted size
 pub record Known (size : ℕ) : Type 0 where
@@ -70,7 +70,7 @@ one-after-another (l ∷ x) = rw (one-after-another x)
 -- what is drawn from no tile on is the whole list
 pub all-drawn : (suit size : ℕ) (prefix : List ℕ) → suit ≤ 2
     → written (take (size - size) prefix) ((size - 2) / 3) size (9 * suit + 9) (9 * suit) (replicate 34 0) ≡ cardBytes suit size
-unfolding written bytesOf cardBytes drawn
+unfolding written withPrefix cardBytes drawn
 all-drawn suit size prefix h =
     let z : size - size ≡ 0 = sub-self size in
     let j : 9 * suit + 9 - 9 * suit ≡ 9 = omega arith in

@@ -17,7 +17,7 @@ use Rattle.reading.specs.search.Readings.{concatMap}
 use Rattle.reading.specs.laws.Lists.{concat-append}
 use Rattle.reading_splits.specs.search.SplitsInto.{splitsInto}
 use Rattle.cards.specs.search.Draws.{draw, draws}
-use Rattle.card_writer.specs.search.Written.{bytesOf, written}
+use Rattle.card_writer.specs.search.Written.{withPrefix, written}
 
 -- what is left to put gives the whole
 pub record Left (old : List ℕ) (at : ℕ) (whole now : List ℕ) (next : ℕ) (rest : List ℕ) : Type 0 where
@@ -45,32 +45,32 @@ put-done {b} {m} {w} {r} {at} {e} h l =
     let z : length r ≡ 0 = ap length h in
     record { place = omega (arith, l .place); bytes = ap (sets m e) (sym h) ∙ l .bytes }
 
-bytes-taken : (prefix : List ℕ) (a : ℕ) (x : List (List ℕ)) → bytesOf prefix (map (λ (l : List ℕ). a ∷ l) x) ≡ bytesOf (prefix ++ (a ∷ [])) x
-unfolding bytesOf concatMap
+bytes-taken : (prefix : List ℕ) (a : ℕ) (x : List (List ℕ)) → withPrefix prefix (map (λ (l : List ℕ). a ∷ l) x) ≡ withPrefix (prefix ++ (a ∷ [])) x
+unfolding withPrefix concatMap
 bytes-taken prefix a [] = refl
 bytes-taken prefix a (l ∷ x) = rw (bytes-taken prefix a x, append-assoc prefix (a ∷ []) l)
 
-bytes-append : (prefix : List ℕ) (x y : List (List ℕ)) → bytesOf prefix (x ++ y) ≡ bytesOf prefix x ++ bytesOf prefix y
-unfolding bytesOf
+bytes-append : (prefix : List ℕ) (x y : List (List ℕ)) → withPrefix prefix (x ++ y) ≡ withPrefix prefix x ++ withPrefix prefix y
+unfolding withPrefix
 bytes-append prefix x y = concat-append (λ (l : List ℕ). prefix ++ l) x y
 
 module _ (prefix : List ℕ) (n left end a : ℕ) (t : List ℕ) where
   pub written-leaf : left ≡ 0 → splitsInto (suc n) true t ≡ true → written prefix n left end a t ≡ prefix
-  unfolding written bytesOf draws concatMap
+  unfolding written withPrefix draws concatMap
   written-leaf z e = rw (z, e, append-nil, append-nil)
 
   pub written-over : left ≡ 0 → splitsInto (suc n) true t ≡ false → written prefix n left end a t ≡ []
-  unfolding written bytesOf draws concatMap
+  unfolding written withPrefix draws concatMap
   written-over z e = rw (z, e)
 
 module _ (prefix : List ℕ) (n end a : ℕ) (t : List ℕ) where
   pub written-end : (left : ℕ) → (left ≡ 0 → ⊥) → end ≤ a → written prefix n left end a t ≡ []
-  unfolding written bytesOf draws draw concatMap
+  unfolding written withPrefix draws draw concatMap
   written-end zero h l = absurd (h refl)
   written-end (suc m) h l = let s : end - a ≡ 0 = omega arith in rw s
 
   pub written-skip : (left : ℕ) → (left ≡ 0 → ⊥) → a < end → 4 ≤ getD t a 0 → written prefix n left end a t ≡ written prefix n left end (a + 1) t
-  unfolding written bytesOf draws draw concatMap
+  unfolding written withPrefix draws draw concatMap
   written-skip zero h l f = absurd (h refl)
   written-skip (suc m) h l f =
       let s : end - a ≡ suc (end - (a + 1)) = omega arith in
@@ -86,7 +86,7 @@ module _ (prefix : List ℕ) (n end a : ℕ) (t : List ℕ) where
       let x = draws n m (suc (end - (a + 1))) a (more t a 1) in
       let y = draw (draws n m) (end - (a + 1)) (a + 1) t in
       rw (s, z, lt-ltb (getD t a 0) 4 f) (bytes-append prefix (map (λ (l : List ℕ). a ∷ l) x) y
-      ∙ ap (λ (b : List ℕ). b ++ bytesOf prefix y) (bytes-taken prefix a x))
+      ∙ ap (λ (b : List ℕ). b ++ withPrefix prefix y) (bytes-taken prefix a x))
 
 -- the tiles so far, with one more
 pub prefix-more : (prefix : List ℕ) (size left a : ℕ) → (left ≡ 0 → ⊥) → left ≤ size → size ≤ length prefix

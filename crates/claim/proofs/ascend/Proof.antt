@@ -42,17 +42,19 @@ ascend-spec =
     (λ c. search needs)
     (λ c κs. search needs)
     (λ c.
-    let k = c .before .before .before in
+    let turn = c .before .before in
+    let k = turn .before in
     stop (k .before .args .t1) (k .loop .i) (k .before .args .n) (k .loop .low) (c .before .is-group .result) _ (k .loop .inv .1)
-    (c .before .before .loop-test .taken) (c .before .is-group .ensures) (k .loop .inv .2) (c .if1 .taken))
+    (turn .loop-test .taken) (c .before .is-group .ensures) (k .loop .inv .2) (c .if1 .taken))
     (λ c. search needs)
     (λ c. search needs)
     (λ c.
-    let k = c .before .before .before in (
+    let turn = c .before .before in
+    let k = turn .before in (
       search needs,
       k .loop .inv .1,
       again (k .before .args .t1) (k .loop .i) (k .before .args .n) (k .loop .low) (c .before .is-group .result) _
-          (k .loop .inv .1) (c .before .before .loop-test .taken) (c .before .is-group .ensures) (k .loop .inv .2) (c .if1 .left),
+          (k .loop .inv .1) (turn .loop-test .taken) (c .before .is-group .ensures) (k .loop .inv .2) (c .if1 .left),
     ))
     (λ c.
     let k = c .before in

@@ -10,5 +10,7 @@ groups-in-spec =
     tie.close
     (tie.spec (λ c. search needs) (λ c. search needs) (λ c κs. search needs)
     (λ c.
-    let a = c .before .before .before .before in
-    groups-stored (a .args .m) (bitsOf (a .args .s .now)) _ (a .pre .0) (c .before .run-into .ensures)))
+    let run-into = c .before in
+    let out = run-into .before in
+    let a = out .before .before in
+    groups-stored (a .args .m) (bitsOf (a .args .s .now)) _ (a .pre .0) (run-into .run-into .ensures)))

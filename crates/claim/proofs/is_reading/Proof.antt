@@ -26,19 +26,25 @@ module _ (t : List ℕ) (m win : ℕ) (r : Reading) where
   unfolding reads
   shape-2 e f x ex = rw (ne-eqb (r .shape) 0 e, ne-eqb (r .shape) 1 f, ex)
 
+-- the start, from where the shape is known
+abbrev start : tie.After-struct-known → tie.Start
+start c = c .before .before
+
 pub is-reading-spec : {M : Type 1} → statement M
 is-reading-spec =
     tie.close
     (tie.spec (λ c. search needs) (λ c. search needs)
-    (λ c κs. let a = c .before .before .before in (omega arith, a .pre .2 (c .if1 .taken), a .pre .1))
-    (λ c. let a = c .before .before .before .before in shape-0 (a .args .t) (a .args .m) (a .args .win) (a .args .r) (c .before .if1 .taken)
-    (c .is-regular .result) (c .is-regular .ensures))
+    (λ c κs. let a = start (c .before) in (omega arith, a .pre .2 (c .if1 .taken), a .pre .1))
+    (λ c.
+    let then1 = c .before in let a = start (then1 .before) .args in
+    shape-0 (a .t) (a .m) (a .win) (a .r) (then1 .if1 .taken) (c .is-regular .result) (c .is-regular .ensures))
     (λ c κs. search needs)
     (λ c.
-    let a = c .before .before .before .before .before .before in
-    shape-1 (a .args .t) (a .args .m) (a .args .win) (a .args .r) (c .before .if2 .taken) (c .is-seven-pairs .result) (c .is-seven-pairs .ensures))
+    let then2 = c .before in let else1 = then2 .before .before in
+    let a = start (else1 .before) .args in
+    shape-1 (a .t) (a .m) (a .win) (a .r) (then2 .if2 .taken) (c .is-seven-pairs .result) (c .is-seven-pairs .ensures))
     (λ c κs. search needs)
     (λ c.
-    let a = c .before .before .before .before .before .before in
-    shape-2 (a .args .t) (a .args .m) (a .args .win) (a .args .r) (c .before .before .before .if1 .left) (c .before .if2 .left) (c .is-orphans .result)
-    (c .is-orphans .ensures)))
+    let else2 = c .before in let else1 = else2 .before .before in
+    let a = start (else1 .before) .args in
+    shape-2 (a .t) (a .m) (a .win) (a .r) (else1 .if1 .left) (else2 .if2 .left) (c .is-orphans .result) (c .is-orphans .ensures)))

@@ -28,5 +28,7 @@ is-regular-spec =
     (tie.spec (λ c. search needs)
     (λ c. short _ _ _ _ _ _ (c .if1 .taken))
     (λ c κs. search needs) (λ c κs. search needs) (λ c κs. search needs)
-    (λ c. made _ _ _ _ _ _ (c .before .before .before .if1 .left) (c .before .before .without-pair .result) (c .before .splits-as .result) (c .holds .result)
-    (c .before .before .without-pair .ensures) (c .before .splits-as .ensures) (c .holds .ensures)))
+    (λ c.
+    let w = c .before .before in
+    made _ _ _ _ _ _ (w .before .if1 .left) (w .without-pair .result) (c .before .splits-as .result) (c .holds .result) (w .without-pair .ensures)
+    (c .before .splits-as .ensures) (c .holds .ensures)))

@@ -15,17 +15,20 @@ room : (c : tie.Start)
     → (28 + 7 * (4 - c .args .m) + padOf 0 (c .args .m) ≡ 8 * length (c .args .s .now)) × (padOf 0 (c .args .m) ≤ 7) × (length (c .args .s .now) ≤ 7)
 room c = let f = filled (c .args .m) (c .pre .0) in (omega (arith, c .pre .1), f .1, omega (arith, c .pre .1))
 
+abbrev start : tie.After-field → tie.Start
+start c = c .before .before
+
 pub regular-in-spec : {M : Type 1} → statement M
 regular-in-spec =
     tie.close
     (tie.spec (λ c. search needs) (λ c. search needs) (λ c. search needs)
     (λ c κs. (omega arith, omega (arith, room (c .before))))
-    (λ c κs. let a = c .before .before in (a .pre .0, omega (arith, room a), omega (arith, room a)))
-    (λ c κs. (omega arith, omega (arith, room (c .before .before .before))))
+    (λ c κs. let a = start c in (a .pre .0, omega (arith, room a), omega (arith, room a)))
+    (λ c κs. (omega arith, omega (arith, room (start (c .before)))))
     (λ c. search needs)
-    (λ c κs. (omega arith, omega (arith, room (c .before .before .before .before))))
+    (λ c κs. (omega arith, omega (arith, room (start (c .before .before)))))
     (λ c. search needs) (λ c. search needs) (λ c. search needs)
-    (λ c κs. let a = c .before .before .before .before .before in (omega (arith, room a), omega (arith, room a)))
+    (λ c κs. let field2 = c .before in let a = start (field2 .before .before) in (omega (arith, room a), omega (arith, room a)))
     (λ c κs. search needs) (λ c. search needs) (λ c κs. search needs)
     (λ c.
     let d = c .before .before in
@@ -34,7 +37,7 @@ regular-in-spec =
     let q = g .before in
     let o = q .before in
     let k = o .before in
-    let a = k .before .before in
+    let a = start k in
     c .nothing .ensures
     ∙ regular-faulty (a .args .m) (bitsOf (a .args .s .now)) (a .pre .2) (k .field .result) (q .field2 .result) (g .long-field .result) (p .field3 .result)
     (o .groups-in .result) (d .ascend .result) (k .field .ensures) (o .groups-in .ensures) (q .field2 .ensures) (g .long-field .ensures)
@@ -46,7 +49,7 @@ regular-in-spec =
     let q = g .before in
     let o = q .before in
     let k = o .before in
-    let a = k .before .before in
+    let a = start k in
     regular-sound (a .args .m) (bitsOf (a .args .s .now)) (a .pre .2) (k .field .result) (q .field2 .result) (g .long-field .result) (p .field3 .result)
     (o .groups-in .result) (d .ascend .result) (k .field .ensures) (o .groups-in .ensures) (q .field2 .ensures) (g .long-field .ensures)
     (p .field3 .ensures) (d .ascend .ensures) (c .if1 .left)))

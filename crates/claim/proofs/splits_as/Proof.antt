@@ -49,20 +49,22 @@ splits-as-spec =
     (λ c. search needs)
     (λ c κs. search needs)
     (λ c.
-    let k = c .before .before .before in
+    let turn = c .before .before in
+    let k = turn .before in
     stop (k .before .args .t2) (k .loop .i) (k .before .args .n) (k .loop .u) (c .before .fits2 .result) _ (k .loop .inv .1)
-    (c .before .before .loop-test .taken) (c .before .fits2 .ensures) (k .loop .inv .3) (c .if1 .taken))
+    (turn .loop-test .taken) (c .before .fits2 .ensures) (k .loop .inv .3) (c .if1 .taken))
     (λ c κs. sym (c .before .fits2 .ensures) ∙ not-false _ (c .if1 .left))
     (λ c. search needs)
     (λ c. search needs)
     (λ c.
-    let k = c .before .before .before .before in (
+    let fits2 = c .before .before in
+    let turn = fits2 .before in
+    let k = turn .before in (
       omega arith,
       k .loop .inv .1,
       long (k .loop .u) (c .without .result) _ (k .loop .inv .2) (c .without .ensures),
-      again (k .before .args .t2) (k .loop .i) (k .before .args .n) (k .loop .u) (c .before .before .fits2 .result) _ (k .loop .inv .1)
-          (c .before .before .before .loop-test .taken) (c .before .before .fits2 .ensures) (k .loop .inv .3) (c .before .if1 .left) (c .without .result)
-          (c .without .ensures),
+      again (k .before .args .t2) (k .loop .i) (k .before .args .n) (k .loop .u) (fits2 .fits2 .result) _ (k .loop .inv .1)
+          (turn .loop-test .taken) (fits2 .fits2 .ensures) (k .loop .inv .3) (c .before .if1 .left) (c .without .result) (c .without .ensures),
     ))
     (λ c κs. search needs)
     (λ c.

@@ -78,7 +78,8 @@ verdict-spec =
     (λ c κs. search needs) (λ c κs. search needs)
     (λ c κs.
     let k = c .before in
-    let s = k .before .before .before .before in
+    let is-reading = k .before .before in
+    let s = is-reading .before .before in
     (k .hand-common-of .ensures .1, formed-bounds (s .args .h .held .m) (s .args .r) (s .pre .4) .0, none-going 0 (c .none .result) (c .none .ensures)))
     (λ c κs. search needs) (λ c κs. search needs)
     (λ c.

@@ -13,10 +13,12 @@ weighed-spec =
     let paying = c .before .before in
     rw (paying .before .if1 .left, ne-eqb _ _ (c .if2 .taken)))
     (λ c.
-    let most = c .before .before .before in
-    let paying = most .before .before in
-    rw (paying .before .if1 .left, eq-eqb _ _ (most .if2 .left), lt-ltb _ _ (c .if3 .taken)))
+    let most = c .before in
+    let agreed = most .before .before in
+    let paying = agreed .before .before in
+    rw (paying .before .if1 .left, eq-eqb _ _ (agreed .if2 .left), lt-ltb _ _ (c .if3 .taken)))
     (λ c.
-    let most = c .before .before .before in
-    let paying = most .before .before in
-    rw (paying .before .if1 .left, eq-eqb _ _ (most .if2 .left), le-ltb _ _ (c .if3 .left))))
+    let most = c .before in
+    let agreed = most .before .before in
+    let paying = agreed .before .before in
+    rw (paying .before .if1 .left, eq-eqb _ _ (agreed .if2 .left), le-ltb _ _ (c .if3 .left))))

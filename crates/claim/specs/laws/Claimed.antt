@@ -16,6 +16,7 @@ use Rattle.tiles.specs.laws.Below.{or-both}
 use Rattle.claim.specs.search.Claimed.{field, shapeIn, pairIn, placeIn, codesIn, gainOf, paddingIn, lengthOf, padOf, ascends, readingIn, faultyRegular}
 use Rattle.claim.specs.search.Claimed.{faultyIn, nothing, claimedIn}
 use Rattle.claim.specs.laws.Bits.{length-codes, ascends-true, ascends-of}
+pub use Rattle.claim.specs.search.Claimed.{widths}
 
 -- a claim's fields take its bytes; none has under 3 bytes or over 7
 pub filled : (m : ℕ) → m ≤ 4 → (28 + 7 * (4 - m) + padOf 0 m ≡ 8 * lengthOf 0 m) × (padOf 0 m ≤ 7) × (3 ≤ lengthOf 0 m) × (lengthOf 0 m ≤ 7)
@@ -85,7 +86,8 @@ module _ (m : ℕ) (b : List ℕ) (z : shapeIn b ≡ 0) (pair place gain pad : �
   reading-is = rw (z, e1, e2, e3)
 
   pub regular-sound : ltb 33 pair || not a || ltb (4 - m) place || ltb 0 pad ≡ false
-      → record { sound = true; reading = record { shape = 0; pair = pair; groups = groups; place = place }; gain = record { 0 = gain } } ≡ claimedIn m (lengthOf 0 m) b
+      → record { sound = true; reading = record { shape = 0; pair = pair; groups = groups; place = place }; gain = record { 0 = gain } }
+      ≡ claimedIn m (lengthOf 0 m) b
   regular-sound t =
       ap (λ (r : Reading). record { sound = true; reading = r; gain = record { 0 = gain } }) reading-is
       ∙ ap (λ (k : ℕ). record { sound = true; reading = readingIn m b; gain = record { 0 = k } }) gain-is
@@ -123,10 +125,6 @@ unfolding faultyIn
 three-bytes m n b shape s z t = claimed-faulty m n b (rw (← s, ne-eqb shape 0 z, t))
 
 -- ---- the fields in their order
-
--- the widths of a regular claim
-abbrev pub widths : ℕ → List ℕ
-widths m = 2 ∷ 6 ∷ (replicate (4 - m) 7 ++ (3 ∷ 17 ∷ []))
 
 pub sum-widths : (m : ℕ) → widthOf (widths m) ≡ 28 + 7 * (4 - m)
 sum-widths m = omega (arith, sum-append (replicate (4 - m) 7) (3 ∷ 17 ∷ []), sum-replicate (4 - m) 7)
@@ -167,7 +165,7 @@ module _ (m : ℕ) (b : List ℕ) where
 
 -- ---- a claim without faults
 
-pub record IsWhole (m n : ℕ) (b : List ℕ) : Type 0 where
+pub record IsFaultless (m n : ℕ) (b : List ℕ) : Type 0 where
   pub size : n ≡ lengthOf (shapeIn b) m
   pub shape : shapeIn b ≡ 3 → ⊥
   pub regular : shapeIn b ≡ 0 → (pairIn b ≤ 33) × Ascends 0 (codesIn m b) × (placeIn m b ≤ 4 - m)
@@ -190,8 +188,8 @@ regular-parts m b v =
     let q = or-both (ltb 33 (pairIn b)) (not (ascends 0 (codesIn m b))) (p .0) in
     (ltb-false 33 (pairIn b) (q .0), ascends-true 0 (codesIn m b) (not-false (ascends 0 (codesIn m b)) (q .1)), ltb-false (4 - m) (placeIn m b) (p .1))
 
-pub whole-of : (m n : ℕ) (b : List ℕ) → faultyIn m n b ≡ false → IsWhole m n b
-whole-of m n b w =
+pub faultless-of : (m n : ℕ) (b : List ℕ) → faultyIn m n b ≡ false → IsFaultless m n b
+faultless-of m n b w =
     let p = faulty-parts m n b w in
     record {
       size = eqb-true n (lengthOf (shapeIn b) m) (p .0);
@@ -200,9 +198,9 @@ whole-of m n b w =
       padding = let k = ltb-false 0 (paddingIn m b) (p .3) in omega arith;
     }
 
-pub of-whole : (m n : ℕ) (b : List ℕ) → IsWhole m n b → faultyIn m n b ≡ false
+pub of-faultless : (m n : ℕ) (b : List ℕ) → IsFaultless m n b → faultyIn m n b ≡ false
 unfolding faultyIn faultyRegular
-of-whole m n b y = go (eqb (shapeIn b) 0) refl
+of-faultless m n b y = go (eqb (shapeIn b) 0) refl
   where
     go : (z : Bool) → eqb (shapeIn b) 0 ≡ z → not (eqb n (lengthOf (shapeIn b) m)) || eqb (shapeIn b) 3 ||
         (eqb (shapeIn b) 0 && (ltb 33 (pairIn b) || not (ascends 0 (codesIn m b)) || ltb (4 - m) (placeIn m b))) || ltb 0 (paddingIn m b) ≡ false

@@ -32,8 +32,8 @@ use Rattle.claim.specs.laws.Verdict as verdicts
 
 module _ (m : ℕ) (claim : List ℕ) (few : m ≤ 4) (x : Claimed) (e : x ≡ claimedOf m claim) where
   either : {A : Type 0} → (x ≡ nothing → faultyIn m (length claim) (bitsOf claim) ≡ true → A)
-      → (x ≡ record { sound = true; reading = readingIn m (bitsOf claim); gain = record { 0 = gainOf m (bitsOf claim) } } → faultyIn m (length claim) (bitsOf claim) ≡ false
-      → A) → A
+      → (x ≡ record { sound = true; reading = readingIn m (bitsOf claim); gain = record { 0 = gainOf m (bitsOf claim) } }
+      → faultyIn m (length claim) (bitsOf claim) ≡ false → A) → A
   unfolding claimedIn
   either {A} f g = go (faultyIn m (length claim) (bitsOf claim)) refl
     where

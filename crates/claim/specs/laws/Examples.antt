@@ -19,7 +19,7 @@ use Rattle.yaku_basics.specs.Tests.{littleDragons, valueHan, earnsWait, twins, 
 use Rattle.yaku_basics.specs.Tests.{fourWinds}
 use Rattle.yaku_tiles.specs.OfTiles.{only, halfFlush, flush, gates}
 use Rattle.yaku.specs.Yaku.{pinfu, testsOf, isYakuman, listed, yakuOf, hasYaku}
-use Rattle.points.specs.Points.{plain, limit, ordinary, basic, hundreds, share, pays, gain, change, changes}
+use Rattle.points.specs.Points.{plain, limit, ordinary, basic, hundreds, timesA, pays, gain, change, changes}
 use Rattle.points_value.specs.Han.{yakuHan, hanOf}
 use Rattle.points_fu.specs.Fu.{tripletFu, groupFu, added, rounded, regularItems, itemsOf, fuOf}
 use Rattle.points_value.specs.Value.{valueOf}
@@ -72,9 +72,9 @@ by hand claim refusal verdict e = record { told = sym (found-is-judged (recordOf
 pub worked-claims : Worked
 unfolding widths valuesOf recordOf allBelow anyBelow countBelow sumBelow doraOf isGroup atKind uses tallyOf meldHolds inMelds inOthers inHeld inConcealed inHand
     concealedTally handTally tileOver33 wrongHeld wrongFields descends inRecord overFour wrongSituation refusalOf headOf heldBy
-    handIn paddingOf answerBy answerIn readOf holds isSevenPairs isOrphans concatMap isEmpty less fits without passes step splits placedAt placed paired shaped readings
-    folded littleDragons valueHan earnsWait pinfu twins inThreeSuits straight hasYaochu outside concealed kans fourWinds only halfFlush flush gates
-    testsOf isYakuman listed yakuOf hasYaku plain limit ordinary basic hundreds share pays gain change changes yakuHan hanOf tripletFu groupFu
+    handIn paddingOf answerBy answerIn readOf holds isSevenPairs isOrphans concatMap isEmpty less fits without passes step splits placedAt placed paired
+    shaped readings folded littleDragons valueHan earnsWait pinfu twins inThreeSuits straight hasYaochu outside concealed kans fourWinds only halfFlush flush
+    gates testsOf isYakuman listed yakuOf hasYaku plain limit ordinary basic hundreds timesA pays gain change changes yakuHan hanOf tripletFu groupFu
     regularItems added rounded itemsOf fuOf valueOf beats counted noneOf keepBetterBy bestOf wonOf groupsOf waysOf fullReadingOf worth keptOf codesIn
     gainOf paddingIn ascends faultyRegular faultyIn readingIn claimedIn strip regularly reads weighedAs verdictOf passedAs foundBy foundOf
 worked-claims = record {

@@ -8,7 +8,7 @@ use native.Mathlib.Omega.{arith}
 use borrow.Author.Tests.{ne-eqb}
 use lib.ListN.{length, getD, take, drop, replicate, length-append, length-replicate, length-drop}
 use lib.Seq.{length-take-le, take-all}
-use Rattle.bits.specs.Bits.{val, unpack, widthOf, eights, bitsOf, bytesOf, EachBelow}
+use Rattle.bits.specs.Bits.{val, unpack, widthOf, eights, bitsOf, packBytes, EachBelow}
 use Rattle.bits.specs.laws.Pack.{FitIn, fit-cons, fit-append, fit-run, fit-all, fields-bytes, length-unpack, length-bitsOf, sum-append, unpack-append}
 use Rattle.bits.specs.laws.Pack.{app-inj, below-cons, below-nil, below-pack, below-take, val-lt}
 use Rattle.reading.specs.declared.Reading.{Reading}
@@ -19,7 +19,7 @@ use Rattle.claim.specs.Claim.{HasFields, Names, regular, other}
 use Rattle.claim.specs.search.Claimed.{shapeIn, pairIn, codesIn, placeIn, gainOf, lengthOf, padOf, readingIn, faultyIn}
 use Rattle.claim.specs.search.Verdict.{IsFormed, formed, without-groups}
 use Rattle.claim.specs.laws.Bits.{length-codes}
-use Rattle.claim.specs.laws.Claimed.{filled, sizes, widths, sum-widths, laid-0, laid-1, padding-0, padding-1, IsWhole, whole-of, of-whole}
+use Rattle.claim.specs.laws.Claimed.{filled, sizes, widths, sum-widths, laid-0, laid-1, padding-0, padding-1, IsFaultless, faultless-of, of-faultless}
 
 -- ---- what the code reads is named
 
@@ -30,7 +30,7 @@ module _ (m : ℕ) (s : List ℕ) (few : m ≤ 4) where
   bytes-0 : length s ≡ lengthOf 0 m → length s ≡ (widthOf (widths m) + 7) / 8
   bytes-0 e = let f = filled m few in omega (arith, e, sum-widths m)
 
-  names-0 : IsWhole m (length s) b → shapeIn b ≡ 0 → Names m s (readingIn m b) (gainOf m b)
+  names-0 : IsFaultless m (length s) b → shapeIn b ≡ 0 → Names m s (readingIn m b) (gainOf m b)
   unfolding readingIn
   names-0 y z =
       let f = filled m few in
@@ -42,7 +42,7 @@ module _ (m : ℕ) (s : List ℕ) (few : m ≤ 4) where
       (record { size = bytes-0 l; values = e; padding = sym (padding-0 m b z (omega (arith, l, length-bitsOf s))) ∙ y .padding })
       (p .0) (p .1) (p .2))
 
-  names-1 : IsWhole m (length s) b → (k : ℕ) → (k ≡ 1) ⊎ (k ≡ 2) → shapeIn b ≡ k → Names m s (readingIn m b) (gainOf m b)
+  names-1 : IsFaultless m (length s) b → (k : ℕ) → (k ≡ 1) ⊎ (k ≡ 2) → shapeIn b ≡ k → Names m s (readingIn m b) (gainOf m b)
   unfolding readingIn
   names-1 y k o z =
       let n : shapeIn b ≡ 0 → ⊥ = λ e. ⊎-elim (λ q. omega arith) (λ q. omega arith) o in
@@ -54,12 +54,12 @@ module _ (m : ℕ) (s : List ℕ) (few : m ≤ 4) where
 
   pub names-of : faultyIn m (length s) b ≡ false → Names m s (readingIn m b) (gainOf m b)
   names-of w =
-      let y = whole-of m (length s) b w in
+      let y = faultless-of m (length s) b w in
       let l : 2 ≤ length b = omega (arith, y .size, sizes (shapeIn b) m few, length-bitsOf s) in
       let q = val-lt (take 2 b) (below-take 2 2 b (below-pack (eights (length s)) s)) in
       go (shapeIn b) refl y (rw (length-take-le 2 b l) at q)
     where
-      go : (k : ℕ) → shapeIn b ≡ k → IsWhole m (length s) b → shapeIn b < 2 ^ 2 → Names m s (readingIn m b) (gainOf m b)
+      go : (k : ℕ) → shapeIn b ≡ k → IsFaultless m (length s) b → shapeIn b < 2 ^ 2 → Names m s (readingIn m b) (gainOf m b)
       go zero e y l = names-0 y e
       go (suc zero) e y l = names-1 y 1 (inl refl) e
       go (suc (suc zero)) e y l = names-1 y 2 (inr refl) e
@@ -106,7 +106,7 @@ module _ (m : ℕ) (s : List ℕ) (few : m ≤ 4) where
         let l = filled m few in
         let n : length s ≡ lengthOf 0 m = omega (arith, f .size, sum-widths m) in
         record {
-          sound = of-whole m (length s) b (record {
+          sound = of-faultless m (length s) b (record {
             size = n ∙ ap (λ (k : ℕ). lengthOf k m) (sym shape-0);
             shape = λ z. omega (arith, shape-0);
             regular = λ z. (omega (arith, pair-0), subst (λ (x : List ℕ). Ascends 0 x) (sym (ends .0)) o, omega (arith, place-0));
@@ -123,7 +123,7 @@ module _ (m : ℕ) (s : List ℕ) (few : m ≤ 4) where
       let n : shapeIn b ≡ 0 → ⊥ = λ e. ⊎-elim (λ q. omega arith) (λ q. omega arith) o in
       let l : length s ≡ 3 = f .size in
       record {
-        sound = of-whole m (length s) b (record {
+        sound = of-faultless m (length s) b (record {
           size = rw (ne-eqb (shapeIn b) 0 n) l;
           shape = λ e. ⊎-elim (λ q. omega arith) (λ q. omega arith) o;
           regular = λ e. absurd (n e);
@@ -142,7 +142,7 @@ module _ (m : ℕ) (s : List ℕ) (few : m ≤ 4) where
 -- values at their widths, and zero bits to the byte
 made : (ws vs : List ℕ) (pad n : ℕ) → length ws ≡ length vs → FitIn ws vs → widthOf ws + pad ≡ 8 * n → pad ≤ 7 → (s : List ℕ) × HasFields s ws vs
 made ws vs pad n l f e p =
-    let s : List ℕ = bytesOf n (ws ++ (pad ∷ [])) (vs ++ (0 ∷ [])) in
+    let s : List ℕ = packBytes n (ws ++ (pad ∷ [])) (vs ++ (0 ∷ [])) in
     let long : length (ws ++ (pad ∷ [])) ≡ length (vs ++ (0 ∷ [])) = omega (arith, l, length-append ws (pad ∷ []), length-append vs (0 ∷ [])) in
     let fit : FitIn (ws ++ (pad ∷ [])) (vs ++ (0 ∷ [])) = fit-append ws vs (pad ∷ []) (0 ∷ []) l f (fit-all (pad ∷ []) (0 ∷ []) (lib.Pow.pow-pos pad, refl)) in
     let whole : widthOf (ws ++ (pad ∷ [])) ≡ 8 * n = omega (arith, e, sum-append ws (pad ∷ [])) in

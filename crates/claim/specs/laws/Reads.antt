@@ -87,21 +87,21 @@ module _ (t : List ℕ) (m win : ℕ) (l : length t ≡ 34) where
 
   seven : (reads t m win (ofShape 1) ≡ true) ↔ IsReading t m win (ofShape 1)
   unfolding reads
-  seven = (λ e. let p = and-true (eqb m 0) (isSevenPairs t) e in pairs (record { closed = eqb-true m 0 (p .0); kinds = p .1; reading = refl }), back)
+  seven = (λ e. let p = and-true (eqb m 0) (isSevenPairs t) e in pairs (record { meldless = eqb-true m 0 (p .0); kinds = p .1; reading = refl }), back)
     where
       back : IsReading t m win (ofShape 1) → eqb m 0 && isSevenPairs t ≡ true
       back (regular i) = absurd (omega (arith, i .shape))
-      back (pairs i) = rw (eq-eqb m 0 (i .closed), i .kinds)
+      back (pairs i) = rw (eq-eqb m 0 (i .meldless), i .kinds)
       back (orphans i) = let z : _≡_ {A = ℕ} 1 2 = ap (λ (x : Reading). x .shape) (i .reading) in absurd (omega arith)
 
   thirteen : (reads t m win (ofShape 2) ≡ true) ↔ IsReading t m win (ofShape 2)
   unfolding reads
-  thirteen = (λ e. let p = and-true (eqb m 0) (isOrphans t) e in orphans (record { closed = eqb-true m 0 (p .0); kinds = p .1; reading = refl }), back)
+  thirteen = (λ e. let p = and-true (eqb m 0) (isOrphans t) e in orphans (record { meldless = eqb-true m 0 (p .0); kinds = p .1; reading = refl }), back)
     where
       back : IsReading t m win (ofShape 2) → eqb m 0 && isOrphans t ≡ true
       back (regular i) = absurd (omega (arith, i .shape))
       back (pairs i) = let z : _≡_ {A = ℕ} 2 1 = ap (λ (x : Reading). x .shape) (i .reading) in absurd (omega arith)
-      back (orphans i) = rw (eq-eqb m 0 (i .closed), i .kinds)
+      back (orphans i) = rw (eq-eqb m 0 (i .meldless), i .kinds)
 
   pub decides : (r : Reading) → IsFormed m r → (reads t m win r ≡ true) ↔ IsReading t m win r
   decides r (formed pair place codes size order p q) = (reads-regular pair place codes size order p q, regular-reads pair place codes size order p q)

@@ -46,6 +46,10 @@ padOf shape m = cond (eqb shape 0) (getD (0 ∷ 7 ∷ 6 ∷ 5 ∷ 4 ∷ []) m 0)
 unfoldable pub paddingIn : ℕ → List ℕ → ℕ
 paddingIn m b = field (gainAt (shapeIn b) m + 17) (padOf (shapeIn b) m) b
 
+-- the widths of a regular claim, in order
+abbrev pub widths : ℕ → List ℕ
+widths m = 2 ∷ 6 ∷ (replicate (4 - m) 7 ++ (3 ∷ 17 ∷ []))
+
 -- ---- its faults
 
 -- each code names a group, none is under c or under the code before it

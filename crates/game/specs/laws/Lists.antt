@@ -12,7 +12,7 @@ use Rattle.position.specs.laws.Effect.{Kept}
 use Rattle.position.specs.laws.Kept.{fresh-kept, kept-form, after-kept}
 use Rattle.game.specs.declared.Game.{Game}
 use Rattle.game.specs.Game.{Entry, booking, correction, freshGame, gameRefusal, withEntry, gameAfter, gameFrom}
-use Rattle.game.specs.Runs.{Runs, done, next, Every, refusalsFrom}
+use Rattle.game.specs.Runs.{Runs, empty, next, Every, refusalsFrom}
 use Rattle.game.specs.laws.After.{and-false, both-in, past-nine, as-now}
 
 -- ---- what is kept
@@ -91,24 +91,24 @@ plain-ledger bs = plain-from bs freshGame fresh-both
 
 pub runs-game : {k j : Game} {xs : List Entry} {ns : List ℕ} → Runs k xs ns j → j ≡ gameFrom k xs
 unfolding gameFrom
-runs-game done = refl
+runs-game empty = refl
 runs-game (next {es = xs} p r) = runs-game r ∙ ap (λ (h : Game). gameFrom h xs) (p .1)
 
 pub runs-named : {k j : Game} {xs : List Entry} {ns : List ℕ} → Runs k xs ns j → ns ≡ refusalsFrom k xs
 unfolding refusalsFrom
-runs-named done = refl
+runs-named empty = refl
 runs-named {k} (next {e = x} {n = n} {es = xs} p r) =
     ap (λ (ns : List ℕ). n ∷ ns) (runs-named r) ∙ ap (λ (h : Game). n ∷ refusalsFrom h xs) (p .1) ∙ ap (λ (m : ℕ). m ∷ refusalsFrom (gameAfter k x) xs) (p .0)
 
 pub runs-exist : (xs : List Entry) (k : Game) → Runs k xs (refusalsFrom k xs) (gameFrom k xs)
 unfolding refusalsFrom gameFrom
-runs-exist [] k = done
+runs-exist [] k = empty
 runs-exist (x ∷ xs) k = next (refl, refl) (runs-exist xs (gameAfter k x))
 
 -- what holds of a booking in a game holds of each of a list
 module _ (P : Position → Booking → ℕ → Type 0) (each : (l : Position) (b : Booking) (n : ℕ) → n ≡ refusalFor l b → P l b n) where
   pub every-of : {k j : Game} {xs : List Entry} {ns : List ℕ} → Runs k xs ns j → Both k → Every P k xs ns
-  every-of done p = tt
+  every-of empty p = tt
   every-of {k} (next {e = booking b} {n = n} {es = xs} {ns = ns} q r) p = (
     each (k .now) b n (q .0 ∙ plain-refusal k p b),
     subst (λ (h : Game). Every P h xs ns) (q .1)

@@ -13,16 +13,9 @@ use Rattle.game.specs.declared.Game.{Game}
 use Rattle.game.specs.Game.{booking, correction, gameOutOfForm, gameRefusal, withEntry, gameAfter}
 use Rattle.game.specs.Runs.{Books}
 use Rattle.game.specs.laws.After.{correction-listed, as-in-earlier, as-now}
-
--- a correction meets 9, 20, or the refusal n of its result
-abbrev pub correctionRefusal : Game → ℕ → ℕ
-correctionRefusal g n = cond (gameOutOfForm g) 9 (cond (isSet (g .correctable)) n 20)
+pub use Rattle.game_bookings.specs.search.Books.{correctionRefusal, checkedIn}
 
 -- ---- a booking
-
--- the position in which the code makes it
-abbrev pub checkedIn : Game → Position
-checkedIn g = cond (isSet (g .correctable) && outOfForm (g .earlier)) (g .earlier) (g .now)
 
 -- where it meets what it meets in the game
 checked-refusal : (g : Game) (b : Booking) → gameRefusal g (booking b) ≡ refusalFor (checkedIn g) b

@@ -19,7 +19,7 @@ use Rattle.position.specs.laws.Form.{open-of}
 use Rattle.position.specs.laws.Accepted.{win-accepted}
 use Rattle.position.specs.laws.Each.{accepted-open}
 use Rattle.position.specs.laws.MultiRon.{multi-ron-accepted}
-use Rattle.game_rules.specs.Past.{hasDeclared, handsIn, isWin, isChombo, passes, dealerIn}
+use Rattle.game_rules.specs.Past.{hasDeclared, handsIn, isWin, isChombo, passesIn, dealerIn}
 use Rattle.game_rules.specs.History.{History}
 
 -- ---- a win
@@ -54,12 +54,12 @@ draw-either P l bits fined drawn = go (any 4 (isAtFault l bits))
 -- ---- the position by its past
 
 module _ (past : List Booking) (l : Position) (h : History past l) where
-  pub few-passes : (b : Booking) → refusalFor l b ≡ 0 → passes past < 8
+  pub few-passes : (b : Booking) → refusalFor l b ≡ 0 → passesIn past < 8
   few-passes b e =
-      let q : leb 8 (passes past) || leb 200 (handsIn past) ≡ false = sym (h .over) ∙ open-of l (accepted-open l b e) .over in
-      leb-false 8 (passes past) (or-both (leb 8 (passes past)) (leb 200 (handsIn past)) q .0)
+      let q : leb 8 (passesIn past) || leb 200 (handsIn past) ≡ false = sym (h .over) ∙ open-of l (accepted-open l b e) .over in
+      leb-false 8 (passesIn past) (or-both (leb 8 (passesIn past)) (leb 200 (handsIn past)) q .0)
 
-  pub deals : (b : Booking) → refusalFor l b ≡ 0 → (l .dealer ≡ dealerIn past) × (l .wind ≡ passes past / 4)
+  pub deals : (b : Booking) → refusalFor l b ≡ 0 → (l .dealer ≡ dealerIn past) × (l .wind ≡ passesIn past / 4)
   deals b e = h .deal (few-passes b e)
 
   same-fault : (bits : ℕ) → any 4 (isAtFault l bits) ≡ isChombo (result (draw bits)) past

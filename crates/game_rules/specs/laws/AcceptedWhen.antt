@@ -27,7 +27,7 @@ use Rattle.game.specs.Game.{Entry, booking, freshGame, gameRefusal, gameFrom}
 use Rattle.game.specs.laws.Lists.{both-kept, plain-refusal}
 use Rattle.game_rules.specs.Past.{hasDeclared, hasNamed}
 use Rattle.game_rules.specs.History.{History, IsOpen, WinsBy}
-use Rattle.game_rules.specs.laws.Feeders.{OneOfTwo, place-below, two-bounds}
+use Rattle.game_rules.specs.laws.Feeders.{OneOfTwo, index-below, two-bounds}
 use Rattle.game_rules.specs.laws.RiichiDeclared.{record-agrees, agrees-record}
 
 each-of : {P Q : List ℕ → Type 0} → ((s : List ℕ) → P s → Q s) → {ss : List (List ℕ)} → Each P ss → Each Q ss
@@ -86,7 +86,7 @@ module _ (past : List Booking) (l : Position) (h : History past l) where
 
 -- ---- a pao
 
--- nobody is named at a place
+-- nobody is named at a index
 free-of : (n : ℕ) → n ≤ 4 → ((f : ℕ) → f ≤ 3 → eqb n (1 + f) ≡ false) → isSet n ≡ false
 free-of zero m e = refl
 free-of (suc n) m e = absurd (eqb-false (suc n) (1 + n) (e n (omega arith)) (omega arith))
@@ -131,8 +131,8 @@ module _ (past : List Booking) (l : Position) (h : History past l) (form : InFor
 
   then-accepted : PaoWhen → refusalFor l (pao holder feeder yaku) ≡ 0
   then-accepted a =
-      let place : ℕ = feederIndex holder yaku in
-      let few = feeder-small place n (form .feeders place (place-below holder yaku (omega (arith, a .0)) (two-bounds yaku (a .4) .1))) in
+      let index : ℕ = feederIndex holder yaku in
+      let few = feeder-small index n (form .feeders index (index-below holder yaku (omega (arith, a .0)) (two-bounds yaku (a .4) .1))) in
       let free = free-of n few (λ f m. h .feeders holder f yaku (omega (arith, a .0)) (omega arith) (a .4) ∙ a .5 f m) in
       pao-by l holder feeder yaku (rw (le-ltb 3 holder (a .0), le-ltb 3 feeder (a .1))) (h .shut ∙ a .2) false
       (none-wrong (eqb holder feeder) (eqb yaku 28 || eqb yaku 29) (isSet n) (ne-eqb holder feeder (a .3)) (either-yaku yaku (a .4)) free)

@@ -10,7 +10,7 @@ use Rattle.hand_rons.specs.laws.OneTile.{winnerOf}
 use Rattle.position.specs.declared.Position.{Position}
 use Rattle.position.specs.Booking.{Booking, result, riichi, win, draw, chombo, pao, multiRon}
 use Rattle.position.specs.Ledger.{lastHand, refusalFor, Effect, chomboOf, drawOf, isAtFault, effectOf}
-use Rattle.position.specs.laws.After.{handsAfter}
+use Rattle.position.specs.search.After.{handsAfter}
 use Rattle.position.specs.laws.Form.{open-of}
 use Rattle.position.specs.laws.Each.{accepted-open, result-finishes}
 use Rattle.game_rules.specs.Past.{sumSince, isResult, handsIn, isWin, hasWon, isChombo, dealerIn, countersIn}

@@ -12,15 +12,15 @@ use Rattle.position.specs.declared.Position.{Position}
 use Rattle.position.specs.Booking.{Booking, result, riichi, win, draw, chombo, pao, multiRon}
 use Rattle.position.specs.Ledger.{lastHand, isReady, refusalFor, Effect, chomboOf, drawOf, isAtFault, effectOf}
 use Rattle.position.specs.Ledger.{isLast}
-use Rattle.position.specs.laws.After.{dealerAfter, windAfter, handsAfter, overAfter}
-use Rattle.game_rules.specs.Past.{isWin, hasWon, isChombo, hasPassed, passes, dealerIn}
+use Rattle.position.specs.search.After.{dealerAfter, windAfter, handsAfter, overAfter}
+use Rattle.game_rules.specs.Past.{isWin, hasWon, isChombo, hasPassed, passesIn, dealerIn}
 use Rattle.game_rules.specs.History.{History}
 use Rattle.game_rules.specs.laws.Accepted.{win-wins, multi-ron-wins, deals, draw-by-past}
 
 -- ---- whether it passes
 
-pub passes-more : (b : Booking) (past : List Booking) → passes (b ∷ past) ≡ passes past + cond (hasPassed (dealerIn past) b past) 1 0
-unfolding passes
+pub passes-more : (b : Booking) (past : List Booking) → passesIn (b ∷ past) ≡ passesIn past + cond (hasPassed (dealerIn past) b past) 1 0
+unfolding passesIn
 passes-more b past = refl
 
 -- a win that is no dealer's

@@ -33,17 +33,17 @@ eight-after l (result (chombo seat)) n = refl
 eight-after l (result (multiRon number s)) n = refl
 eight-after l (result (draw bits)) n = draw-either (λ x. Eight (x .feeders)) l bits refl refl
 
--- ---- a place for each holder and yaku
+-- ---- a index for each holder and yaku
 
 abbrev pub OneOfTwo : ℕ → Type 0
 OneOfTwo yaku = (yaku ≡ 28) ⊎ (yaku ≡ 29)
 
-pub place-below : (holder yaku : ℕ) → holder < 4 → yaku ≤ 29 → feederIndex holder yaku < 8
-place-below holder yaku m n = omega arith
+pub index-below : (holder yaku : ℕ) → holder < 4 → yaku ≤ 29 → feederIndex holder yaku < 8
+index-below holder yaku m n = omega arith
 
-one-place : (h y holder yaku : ℕ) → h < 4 → 28 ≤ y → y ≤ 29 → holder < 4 → 28 ≤ yaku → yaku ≤ 29
+one-index : (h y holder yaku : ℕ) → h < 4 → 28 ≤ y → y ≤ 29 → holder < 4 → 28 ≤ yaku → yaku ≤ 29
     → feederIndex h y ≡ feederIndex holder yaku → (h ≡ holder) × (y ≡ yaku)
-one-place h y holder yaku a b c d e f q = (omega arith, omega arith)
+one-index h y holder yaku a b c d e f q = (omega arith, omega arith)
 
 pub two-bounds : (yaku : ℕ) → OneOfTwo yaku → (28 ≤ yaku) × (yaku ≤ 29)
 two-bounds yaku = ⊎-elim (λ (e : yaku ≡ 28). (omega arith, omega arith)) (λ (e : yaku ≡ 29). (omega arith, omega arith))
@@ -60,10 +60,10 @@ module _ (places : List ℕ) (holder feeder yaku : ℕ) (n : Eight places) (a : 
     abbrev was : Bool
     was = eqb (getD places (feederIndex h k) 0) (1 + f)
 
-    at-place : h ≡ holder → k ≡ yaku → eqb (getD named (feederIndex h k) 0) (1 + f) ≡ eqb f feeder || was
-    at-place p q =
+    at-index : h ≡ holder → k ≡ yaku → eqb (getD named (feederIndex h k) 0) (1 + f) ≡ eqb f feeder || was
+    at-index p q =
         let there : getD named (feederIndex holder yaku) 0 ≡ 1 + feeder
-        = getD-set-same places (feederIndex holder yaku) (1 + feeder) 0 (omega (arith, place-below holder yaku (omega arith) (y .1))) in
+        = getD-set-same places (feederIndex holder yaku) (1 + feeder) 0 (omega (arith, index-below holder yaku (omega arith) (y .1))) in
         rw (p, q, there, free, ne-eqb 0 (1 + f) (λ (w : 0 ≡ 1 + f). omega arith), or-false (eqb f feeder))
         (same-test (1 + feeder) (1 + f) f feeder (λ (w : 1 + feeder ≡ 1 + f). omega arith) (λ (w : f ≡ feeder). omega arith))
 
@@ -71,20 +71,20 @@ module _ (places : List ℕ) (holder feeder yaku : ℕ) (n : Eight places) (a : 
     other-place p =
         let t = two-bounds k z in
         ap (λ (m : ℕ). eqb m (1 + f)) (getD-set-other places (feederIndex holder yaku) (feederIndex h k) (1 + feeder) 0
-        (λ q. let s = one-place h k holder yaku b (t .0) (t .1) (omega arith) (y .0) (y .1) q in p (s .0) (s .1)))
+        (λ q. let s = one-index h k holder yaku b (t .0) (t .1) (omega arith) (y .0) (y .1) q in p (s .0) (s .1)))
 
     pub named-at : eqb (getD named (feederIndex h k) 0) (1 + f) ≡ (eqb h holder && eqb f feeder && eqb k yaku) || was
     named-at = go (eqb h holder) (eqb k yaku) refl refl
       where
         go : (s t : Bool) → eqb h holder ≡ s → eqb k yaku ≡ t → eqb (getD named (feederIndex h k) 0) (1 + f) ≡ (s && eqb f feeder && t) || was
-        go true true p q = at-place (eqb-true h holder p) (eqb-true k yaku q) ∙ ap (λ (u : Bool). u || was) (sym (and-true (eqb f feeder)))
+        go true true p q = at-index (eqb-true h holder p) (eqb-true k yaku q) ∙ ap (λ (u : Bool). u || was) (sym (and-true (eqb f feeder)))
         go true false p q = other-place (λ u v. eqb-false k yaku q v) ∙ ap (λ (u : Bool). u || was) (sym (and-false (eqb f feeder)))
         go false t p q = other-place (λ u v. eqb-false h holder p u)
 
 -- ---- the step
 
-none-there : (place feeder : ℕ) → place < 8 → eqb (getD (replicate 8 0) place 0) (1 + feeder) ≡ false
-none-there place feeder m = ap (λ (n : ℕ). eqb n (1 + feeder)) (getD-replicate 8 place 0 0 m) ∙ ne-eqb 0 (1 + feeder) (λ (w : 0 ≡ 1 + feeder). omega arith)
+none-there : (index feeder : ℕ) → index < 8 → eqb (getD (replicate 8 0) index 0) (1 + feeder) ≡ false
+none-there index feeder m = ap (λ (n : ℕ). eqb n (1 + feeder)) (getD-replicate 8 index 0 0 m) ∙ ne-eqb 0 (1 + feeder) (λ (w : 0 ≡ 1 + feeder). omega arith)
 
 -- what is named in these places, as a past says it
 abbrev pub NamedAs : List ℕ → List Booking → Type 0
@@ -97,7 +97,7 @@ pub lapsed : (places : List ℕ) → places ≡ replicate 8 0 → (holder feeder
     → eqb (getD places (feederIndex holder yaku) 0) (1 + feeder) ≡ false
 lapsed places e holder feeder yaku m z =
     ap (λ (l : List ℕ). eqb (getD l (feederIndex holder yaku) 0) (1 + feeder)) e
-    ∙ none-there (feederIndex holder yaku) feeder (place-below holder yaku m (two-bounds yaku z .1))
+    ∙ none-there (feederIndex holder yaku) feeder (index-below holder yaku m (two-bounds yaku z .1))
 
 module _ (past : List Booking) (l : Position) (h : History past l) (n : Eight (l .feeders)) where
   pub same-named : (b : Booking) → refusalFor l b ≡ 0 → NamedAs (effectOf l b .feeders) (b ∷ past)

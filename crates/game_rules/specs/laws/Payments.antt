@@ -3,12 +3,12 @@ use mathlib.Core.Path.{_≡_, refl, sym, ap, _∙_, subst}
 use mathlib.Core.Bool.{Bool, true, false, _&&_, cond}
 use mathlib.Core.Logic.{_⊎_, inl, inr}
 use mathlib.Core.List.{List}
-use Prim.Native.Nat.{ℕ, zero, suc, _+_, _*_, _/_, _≤_, _<_}
-use native.Mathlib.Nat.{zero-mul, one-mul}
+use Prim.Native.Nat.{ℕ, zero, suc, _+_, _-_, _*_, _/_, _≤_, _<_}
+use native.Mathlib.Nat.{zero-mul}
 use native.Mathlib.Omega.{arith}
-use borrow.Author.Tests.{eq-eqb, ne-eqb, eqb-true}
+use borrow.Author.Tests.{eq-eqb, ne-eqb, eqb-true, eqb-false}
 use lib.Dec.{eqb}
-use lib.IntN.{pos, negℤ, natAbs, _+ℤ_}
+use lib.IntN.{ℤ, pos, negℤ, natAbs, _+ℤ_}
 use lib.ListN.{getD}
 use Rattle.tiles.specs.Below.{any, count, allBelow}
 use Rattle.tiles.specs.laws.Below.{every-at}
@@ -20,22 +20,23 @@ use Rattle.hand_record.specs.laws.Bounds.{Bounds, other-seat, read-bounds}
 use Rattle.reading.specs.declared.Reading.{Reading}
 use Rattle.yaku_basics.specs.Tests.{winds}
 use Rattle.points.specs.declared.Seats.{Seats}
-use Rattle.points.specs.Points.{hundreds, share, pays, changes}
+use Rattle.points.specs.Points.{hundreds, timesA, pays, changes}
 use Rattle.points.specs.laws.Balance.{below-four}
 use Rattle.score.specs.Named.{groupsOf, seatsOf, worth, scoredAs}
 use Rattle.position.specs.declared.Position.{Position}
-use Rattle.position.specs.Booking.{result, draw, chombo}
+use Rattle.position.specs.Booking.{result, win, draw, chombo}
 use Rattle.position.specs.Ledger.{isDeclared, notOpen, handFor, feederAt, feederIndex, isReady, readySeats, paidByOthers, Liable, nobody, theFeeder, owes}
-use Rattle.position.specs.Ledger.{liableBy, liableIn, wholeOf, isDealersWin, payments, shareOf, drawGives, chomboGives, effectOf}
-use Rattle.position.specs.Wins.{paidIn}
+use Rattle.position.specs.Ledger.{refusalFor, liableBy, liableIn, wholeOf, isDealersWin, payments, shareOf, drawGives, chomboGives, effectOf}
+use Rattle.position.specs.Wins.{paidIn, IsBest}
 use Rattle.position.specs.Article67.{Article67}
 use Rattle.position.specs.laws.Form.{InForm, open-of}
 use Rattle.position.specs.laws.PaidByOthers.{even-zero, paid-by-others-even}
-use Rattle.position.specs.laws.Owed.{IsOther, whole-even, all-owed, other-size}
+use Rattle.position.specs.laws.Owed.{IsOther, whole-even, all-owed, other-size, changes-paid}
 use Rattle.position.specs.laws.Pao.{feeder-seat}
+use Rattle.position.specs.laws.Tiles.{winner-won, win-booked}
 use Rattle.position.specs.laws.Winds.{not-both}
 use Rattle.position.specs.laws.Fines.{fined-at}
-use Rattle.game_rules.specs.Payments.{IsLiable, NoneLiable, WhoPays, declaredNotReady, bitsBy, DrawPays, FinePays}
+use Rattle.game_rules.specs.Payments.{IsLiable, NoneLiable, WhoPays, declaredNotReady, bitsBy, DrawPays}
 
 -- ---- one payment of the four: w wins, d deals, x discards, a is A
 
@@ -43,26 +44,27 @@ module _ (w d x a : ℕ) where
   abbrev seats : Seats
   seats = record { winner = w; dealer = d; discarder = x }
 
-  discarder-pays : (x ≡ w → ⊥) → pays seats true a x ≡ hundreds (cond (eqb w d) 6 4 * a)
-  unfolding pays share
-  discarder-pays o = rw (ne-eqb w x (λ e. o (sym e)), eq-eqb x x refl)
-
   module _ (i : ℕ) (o : i ≡ w → ⊥) where
-    others-pay-nothing : (i ≡ x → ⊥) → pays seats true a i ≡ 0
-    unfolding pays share hundreds
-    others-pay-nothing k = rw (ne-eqb w i (λ e. o (sym e)), ne-eqb x i (λ e. k (sym e)), zero-mul a)
+    -- by ron the discarder pays, with m for the counters, and nobody else
+    by-discarder : (n : ℕ) → pays seats true a i + cond (eqb i x) (300 * n) 0 ≡ cond (eqb i x) (hundreds (cond (eqb w d) 6 4 * a) + 300 * n) 0
+    unfolding pays timesA hundreds
+    by-discarder n = go (eqb i x) refl
+      where
+        go : (b : Bool) → eqb i x ≡ b → pays seats true a i + cond b (300 * n) 0 ≡ cond b (hundreds (cond (eqb w d) 6 4 * a) + 300 * n) 0
+        go true e = rw (ne-eqb w i (λ z. o (sym z)), eq-eqb x i (sym (eqb-true i x e)))
+        go false e = rw (ne-eqb w i (λ z. o (sym z)), ne-eqb x i (λ z. eqb-false i x e (sym z)), zero-mul a)
 
     to-dealer : w ≡ d → pays seats false a i ≡ hundreds (2 * a)
-    unfolding pays share
+    unfolding pays timesA
     to-dealer e = rw (ne-eqb w i (λ z. o (sym z)), eq-eqb w d e)
 
-    by-dealer : (w ≡ d → ⊥) → i ≡ d → pays seats false a i ≡ hundreds (2 * a)
-    unfolding pays share
-    by-dealer k e = rw (ne-eqb w i (λ z. o (sym z)), ne-eqb w d k, eq-eqb d i (sym e))
-
-    by-child : (w ≡ d → ⊥) → (i ≡ d → ⊥) → pays seats false a i ≡ hundreds a
-    unfolding pays share
-    by-child k e = rw (ne-eqb w i (λ z. o (sym z)), ne-eqb w d k, ne-eqb d i (λ z. e (sym z)), one-mul a)
+    to-child : (w ≡ d → ⊥) → pays seats false a i ≡ hundreds (cond (eqb i d) 2 1 * a)
+    unfolding pays timesA
+    to-child k = go (eqb i d) refl
+      where
+        go : (b : Bool) → eqb i d ≡ b → pays seats false a i ≡ hundreds (cond b 2 1 * a)
+        go true e = rw (ne-eqb w i (λ z. o (sym z)), ne-eqb w d k, eq-eqb d i (sym (eqb-true i d e)))
+        go false e = rw (ne-eqb w i (λ z. o (sym z)), ne-eqb w d k, ne-eqb d i (λ z. eqb-false i d e (sym z)))
 
 -- ---- by article 67
 
@@ -222,22 +224,56 @@ module _ (l : Position) (s : List ℕ) (r : Reading) where
     pub who-pays : WhoPays l s r n (paidIn l s r n)
     unfolding payments
     who-pays = record {
-      ron = λ none e.
-          let x : ℕ = f .discarder in
-          let o = from-other e in
-          by-ron none x (omega (arith, bounds .discarder)) o e ∙ rw (discarder-pays (f .winner) (l .dealer) x a o, eq-eqb x x refl);
-      ron-others = λ none e j h k x.
-          by-ron none j h k e ∙ rw (others-pay-nothing (f .winner) (l .dealer) (f .discarder) a j k x, ne-eqb j (f .discarder) x);
+      ron = λ none e j h k. by-ron none j h k e ∙ ap (λ (p : ℕ). negℤ (pos p)) (by-discarder (f .winner) (l .dealer) (f .discarder) a j k n);
       dealers-tsumo = λ none e d j h k. by-tsumo none j h k e ∙ rw (to-dealer (f .winner) (l .dealer) (f .discarder) a j k d);
-      childs-tsumo = λ none e d.
-          let o : l .dealer ≡ f .winner → ⊥ = λ z. d (sym z) in (
-            by-tsumo none (l .dealer) (omega (arith, form .dealer)) o e
-                ∙ rw (by-dealer (f .winner) (l .dealer) (f .discarder) a (l .dealer) o d refl),
-            λ j h k x. by-tsumo none j h k e ∙ rw (by-child (f .winner) (l .dealer) (f .discarder) a j k d x),
-          );
+      childs-tsumo = λ none e d j h k. by-tsumo none j h k e ∙ rw (to-child (f .winner) (l .dealer) (f .discarder) a j k d);
       with-pao = by-feeder;
       zero = even-zero (paidIn l s r n) (paid-by-others-even (owedBy liable) (f .winner) (omega (arith, bounds .winner)));
     }
+
+-- ---- without counters
+
+paid-cong : (w : ℕ) (p q : ℕ → ℕ) → ((j : ℕ) → p j ≡ q j) → (i : ℕ) → paidByOthers w p i ≡ paidByOthers w q i
+unfolding paidByOthers
+paid-cong w p q e i = rw (e 0, e 1, e 2, e 3, e i)
+
+none-more : (taken : ℕ → ℕ) (d whole : ℕ) (ron : Bool) (i : ℕ) → owes taken d whole 0 nobody ron i ≡ taken i
+unfolding owes
+none-more taken d whole true i = go (eqb i d)
+  where
+    go : (b : Bool) → taken i + cond b (300 * 0) 0 ≡ taken i
+    go true = omega arith
+    go false = omega arith
+none-more taken d whole false i = omega arith
+
+module _ (l : Position) (s : List ℕ) (r : Reading) (o : notOpen l ≡ false) (y : IsSound s) where
+  abbrev change : ℕ → ℤ
+  change i = getD (scoredAs (handFor s) (l .dealer) (l .wind) r .changes) i (pos 0)
+
+  by-none : NoneLiable l s r → (i : ℕ) → paidIn l s r 0 i ≡ change i
+  unfolding payments
+  by-none none i =
+      let h = handFor s in
+      let took : ℕ → ℕ = λ j. natAbs (change j) in
+      let owed : Liable → ℕ → ℕ = λ who. owes took (h .fields .discarder) (wholeOf (isDealersWin l s)) 0 who (isRon (h .fields)) in
+      ap (λ (who : Liable). paidByOthers (h .fields .winner) (owed who) i) (none-liable l s r none)
+      ∙ paid-cong (h .fields .winner) (owed nobody) took (none-more took (h .fields .discarder) (wholeOf (isDealersWin l s)) (isRon (h .fields))) i
+      ∙ changes-paid (seatsOf h (l .dealer)) (isRon (h .fields)) (worth h (l .dealer) (l .wind) r .basic .0)
+      (omega (arith, read-bounds s (sound s .0 y) .winner)) i
+
+  pub as-scored : (i : ℕ) → NoneLiable l s r ⊎ (i ≡ handFor s .fields .winner) → paidIn l s r 0 i ≡ change i
+  as-scored i (inl none) = by-none none i
+  as-scored i (inr e) = rw e (winner-won l s o (sound s .0 y) r)
+
+-- ---- the sticks
+
+pub win-takes-sticks : (l : Position) (s : List ℕ) → refusalFor l (result (win s)) ≡ 0 → (r : Reading) × IsBest l s r
+    × ((i : ℕ) → effectOf l (result (win s)) .gives i
+    ≡ paidIn l s r (l .counter) i +ℤ cond (eqb i (handFor s .fields .winner)) (pos (1000 * l .sticks)) (pos 0))
+unfolding effectOf
+win-takes-sticks l s e =
+    let p = win-booked l s 0 (sym e) .paid refl .0 in
+    (p .0, p .1, p .2 (l .counter) (l .sticks))
 
 -- ---- a draw
 
@@ -250,29 +286,36 @@ none-paid : (r : ℕ) (ready : Bool) → (r ≡ 0) ⊎ (r ≡ 4) → shareOf r r
 none-paid r ready (inl e) = rw e
 none-paid r ready (inr e) = rw e
 
+-- what a fine gives seat i, by which are at fault and how many
+abbrev finedIn : Position → (ℕ → Bool) → ℕ → ℤ
+finedIn l fined i =
+    let n = count 4 fined in
+    cond (fined i) (negℤ (pos (3000 * (4 - n)))) (pos (3000 * n)) +ℤ cond (isDeclared l i) (pos 1000) (pos 0)
+
 module _ (l : Position) (bits : ℕ) where
-  pub draw-pays : any 4 (declaredNotReady l bits) ≡ false → DrawPays bits (effectOf l (result (draw bits)) .gives)
+  pub draw-pays : (i : ℕ) → any 4 (declaredNotReady l bits) ≡ false → DrawPays bits i (effectOf l (result (draw bits)) .gives i)
   unfolding effectOf drawGives
-  draw-pays e = record {
-    one = λ n i h. rw (e, n);
-    two = λ n i h. rw (e, n);
-    three = λ n i h. rw (e, n);
-    else = λ n i h. rw e (none-paid (readySeats bits) (isReady bits i) n);
+  draw-pays i e = record {
+    one = λ n. rw (e, n);
+    two = λ n. rw (e, n);
+    three = λ n. rw (e, n);
+    else = λ n. rw e (none-paid (readySeats bits) (isReady bits i) n);
   }
 
   -- ---- a chombo
 
-  pub draw-at-fault-pays : any 4 (declaredNotReady l bits) ≡ true → FinePays l (declaredNotReady l bits) (effectOf l (result (draw bits)) .gives)
+  pub draw-at-fault-pays : (i : ℕ) → i < 4 → any 4 (declaredNotReady l bits) ≡ true
+      → effectOf l (result (draw bits)) .gives i ≡ finedIn l (declaredNotReady l bits) i
   unfolding effectOf chomboGives
-  draw-at-fault-pays e i h = rw (e, ← fined-at (declaredNotReady l bits) i h)
+  draw-at-fault-pays i h e = rw (e, ← fined-at (declaredNotReady l bits) i h)
 
-pub chombo-pays : (l : Position) (seat : ℕ) → seat < 4 → FinePays l (λ i. eqb i seat) (effectOf l (result (chombo seat)) .gives)
+chombo-pays : (l : Position) (seat i : ℕ) → i < 4 → effectOf l (result (chombo seat)) .gives i ≡ finedIn l (λ j. eqb j seat) i
 unfolding effectOf chomboGives
-chombo-pays l seat g i h = rw (← fined-at (λ j. eqb j seat) i h)
+chombo-pays l seat i h = rw (← fined-at (λ j. eqb j seat) i h)
 
-pub chombo-costs-9000 : (l : Position) (seat : ℕ) → seat < 4 → (i : ℕ) → i < 4
+pub chombo-costs-9000 : (l : Position) (seat i : ℕ) → seat < 4 → i < 4
     → effectOf l (result (chombo seat)) .gives i ≡ cond (eqb i seat) (negℤ (pos 9000)) (pos 3000) +ℤ cond (isDeclared l i) (pos 1000) (pos 0)
-chombo-costs-9000 l seat g i h = chombo-pays l seat g i h ∙ rw (one-seat seat g)
+chombo-costs-9000 l seat i g h = chombo-pays l seat i h ∙ rw (one-seat seat g)
   where
     one-seat : (k : ℕ) → k < 4 → count 4 (λ j. eqb j k) ≡ 1
     one-seat = below-four (λ k. count 4 (λ j. eqb j k) ≡ 1) refl refl refl refl

@@ -13,7 +13,7 @@ use Rattle.hand_rons.specs.laws.OneTile.{AllRead, own-zero, winnerOf}
 use Rattle.position.specs.declared.Position.{Position}
 use Rattle.position.specs.Booking.{Booking, result, riichi, win, draw, chombo, pao, multiRon}
 use Rattle.position.specs.Ledger.{handFor, isDeclared, scoredFor, riichiMismatch, refusalFor, recordRefusals}
-use Rattle.position.specs.laws.First.{winRefusal, firstRefused}
+use Rattle.position.specs.search.First.{winRefusal, firstRefused}
 use Rattle.position.specs.laws.Accepted.{cond-zero, win-accepted}
 use Rattle.position.specs.laws.MultiRon.{multi-ron-accepted}
 use Rattle.game_rules.specs.History.{History, RiichiAgrees, RiichiDeclared}

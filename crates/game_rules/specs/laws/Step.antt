@@ -11,14 +11,14 @@ use Rattle.points.specs.laws.Balance.{below-four}
 use Rattle.position.specs.declared.Position.{Position}
 use Rattle.position.specs.Booking.{Booking}
 use Rattle.position.specs.Ledger.{fresh, isSet, isDeclared, notOpen, refusalFor, effectOf, applied, after, ledgerFrom, ledger}
-use Rattle.position.specs.laws.After.{overAfter, handsAfter}
+use Rattle.position.specs.search.After.{overAfter, handsAfter}
 use Rattle.position.specs.laws.Form.{of-form}
 use Rattle.position.specs.laws.Effect.{is-mark, declared-applied, Kept}
 use Rattle.position.specs.laws.Kept.{fresh-kept, kept-form, after-kept}
 use Rattle.position.specs.laws.Refusals.{accepted-moves}
 use Rattle.game.specs.Game.{Entry, freshGame, gameFrom, standing}
 use Rattle.game.specs.laws.Standing.{AllIn, standing-in, game-standing}
-use Rattle.game_rules.specs.Past.{sumSince, hasDeclared, handsIn, passes, dealerIn}
+use Rattle.game_rules.specs.Past.{sumSince, hasDeclared, handsIn, passesIn, dealerIn}
 use Rattle.game_rules.specs.History.{History, EachWithPast, RiichiDeclared}
 use Rattle.game_rules.specs.laws.Accepted.{few-passes, deals}
 use Rattle.game_rules.specs.laws.Deal.{passes-more, same-passing, dealt, stayed, over-now}
@@ -32,10 +32,10 @@ abbrev pub Holds : List Booking → Position → Type 0
 Holds past l = History past l × Eight (l .feeders) × Kept l
 
 -- not open: marked over, as at 200 hands
-same-shut : (past : List Booking) (l : Position) → Kept l → isSet (l .over) ≡ leb 8 (passes past) || leb 200 (handsIn past) → l .hands ≡ handsIn past
-    → notOpen l ≡ leb 8 (passes past) || leb 200 (handsIn past)
+same-shut : (past : List Booking) (l : Position) → Kept l → isSet (l .over) ≡ leb 8 (passesIn past) || leb 200 (handsIn past) → l .hands ≡ handsIn past
+    → notOpen l ≡ leb 8 (passesIn past) || leb 200 (handsIn past)
 unfolding notOpen
-same-shut past l k e n = rw (of-form l (kept-form l k), e) (go (leb 8 (passes past)) (eqb (l .hands) 200) (leb 200 (handsIn past)) refl refl)
+same-shut past l k e n = rw (of-form l (kept-form l k), e) (go (leb 8 (passesIn past)) (eqb (l .hands) 200) (leb 200 (handsIn past)) refl refl)
   where
     go : (a b c : Bool) → eqb (l .hands) 200 ≡ b → leb 200 (handsIn past) ≡ c → ((a || c) || b) || false ≡ a || c
     go true b c p q = refl
@@ -53,7 +53,7 @@ unfolding fresh sumSince
 first-named holder feeder yaku m n z = lapsed (replicate 8 0) refl holder feeder yaku m z
 
 pub at-first : Holds [] fresh
-unfolding fresh sumSince passes
+unfolding fresh sumSince passesIn
 at-first = (
   record {
     deal = λ m. (refl, refl);
@@ -77,29 +77,29 @@ module _ (past : List Booking) (l : Position) (h : History past l) (n : Eight (l
   abbrev passed : Bool
   passed = effectOf l b .passes
 
-  passes-now : passes (b ∷ past) ≡ passes past + cond passed 1 0
-  passes-now = passes-more b past ∙ ap (λ (t : Bool). passes past + cond t 1 0) (sym (same-passing past l h b e))
+  passes-now : passesIn (b ∷ past) ≡ passesIn past + cond passed 1 0
+  passes-now = passes-more b past ∙ ap (λ (t : Bool). passesIn past + cond t 1 0) (sym (same-passing past l h b e))
 
-  step-deal : passes (b ∷ past) < 8 → (new .dealer ≡ dealerIn (b ∷ past)) × (new .wind ≡ passes (b ∷ past) / 4)
+  step-deal : passesIn (b ∷ past) < 8 → (new .dealer ≡ dealerIn (b ∷ past)) × (new .wind ≡ passesIn (b ∷ past) / 4)
   unfolding applied
   step-deal m =
       let d = deals past l h b e in
-      rw passes-now (dealt l (passes past) (few-passes past l h b e) (d .0) (d .1) passed (omega (arith, passes-now)))
+      rw passes-now (dealt l (passesIn past) (few-passes past l h b e) (d .0) (d .1) passed (omega (arith, passes-now)))
 
-  step-stays : 8 ≤ passes (b ∷ past) → (new .dealer ≡ 3) × (new .wind ≡ 1)
+  step-stays : 8 ≤ passesIn (b ∷ past) → (new .dealer ≡ 3) × (new .wind ≡ 1)
   unfolding applied
   step-stays m =
       let d = deals past l h b e in
-      stayed l (passes past) (few-passes past l h b e) (d .0) (d .1) passed (omega (arith, passes-now))
+      stayed l (passesIn past) (few-passes past l h b e) (d .0) (d .1) passed (omega (arith, passes-now))
 
-  step-over : isSet (new .over) ≡ leb 8 (passes (b ∷ past)) || leb 200 (handsIn (b ∷ past))
+  step-over : isSet (new .over) ≡ leb 8 (passesIn (b ∷ past)) || leb 200 (handsIn (b ∷ past))
   unfolding applied
   step-over =
       let d = deals past l h b e in
       is-mark (overAfter l (effectOf l b))
-      ∙ over-now l (passes past) (few-passes past l h b e) (d .0) (d .1) (effectOf l b) (hands-few l b e)
+      ∙ over-now l (passesIn past) (few-passes past l h b e) (d .0) (d .1) (effectOf l b) (hands-few l b e)
       ∙ ap (λ (m : ℕ). leb 8 m || leb 200 (handsAfter l (effectOf l b .finishes))) (sym passes-now)
-      ∙ ap (λ (m : ℕ). leb 8 (passes (b ∷ past)) || leb 200 m) (hands-more past l h b)
+      ∙ ap (λ (m : ℕ). leb 8 (passesIn (b ∷ past)) || leb 200 m) (hands-more past l h b)
 
   new-kept : Kept new
   new-kept = subst Kept (sym (accepted-moves l b new e refl .1)) (after-kept l b k)

@@ -32,32 +32,36 @@ add-meld-spec =
     omega (arith, room (a .args .t) (c .add .result) (a .args .b % 64) 240 (search needs) (search needs) (c .add .ensures) (a .pre) (a .args .b % 64 + 1)))
     (λ c. search needs)
     (λ c κs.
-    let a = c .before .before .before in
+    let add = c .before in
+    let a = add .before .before in
     omega (
       arith,
-      room (c .before .add .result) (c .add2 .result) (a .args .b % 64 + 1) 241 (search needs) (search needs) (c .add2 .ensures)
-          (room (a .args .t) (c .before .add .result) (a .args .b % 64) 240 (search needs) (search needs) (c .before .add .ensures) (a .pre))
+      room (add .add .result) (c .add2 .result) (a .args .b % 64 + 1) 241 (search needs) (search needs) (c .add2 .ensures)
+          (room (a .args .t) (add .add .result) (a .args .b % 64) 240 (search needs) (search needs) (add .add .ensures) (a .pre))
           (a .args .b % 64 + 2),
     ))
-    (λ c κs. omega (arith, c .before .before .pre (c .before .before .args .b % 64)))
-    (λ c κs. omega (arith, c .before .before .pre (c .before .before .args .b % 64)))
+    (λ c κs. let s = c .before .before in omega (arith, s .pre (s .args .b % 64)))
+    (λ c κs. let s = c .before .before in omega (arith, s .pre (s .args .b % 64)))
     (λ c k g.
-    let a = c .before .before .before .before .args in
+    let add = c .before .before in
+    let then1 = add .before in
+    let a = then1 .before .args in
     let x = a .b % 64 in
-    let u = one (a .t) (c .before .before .add .result) (λ j. getD (a .t) j 0) x 1 (search needs) (c .before .before .add .ensures) (λ j _. refl) in
-    let v = one (c .before .before .add .result) (c .before .add2 .result) (λ j. getD (a .t) j 0 + atKind x 1 j) (x + 1) 1 (search needs)
-    (c .before .add2 .ensures) u in
-    rw (eq-eqb _ _ (c .before .before .before .if1 .taken))
+    let u = one (a .t) (add .add .result) (λ j. getD (a .t) j 0) x 1 (search needs) (add .add .ensures) (λ j _. refl) in
+    let v = one (add .add .result) (c .before .add2 .result) (λ j. getD (a .t) j 0 + atKind x 1 j) (x + 1) 1 (search needs) (c .before .add2 .ensures) u in
+    rw (eq-eqb _ _ (then1 .if1 .taken))
     (omega (
       arith,
       one (c .before .add2 .result) (c .add3 .result) (λ j. getD (a .t) j 0 + atKind x 1 j + atKind (x + 1) 1 j) (x + 2) 1 (search needs)
           (c .add3 .ensures) v k g,
     )))
     (λ c k g.
-    let a = c .before .before .before .args in
-    rw (ne-eqb _ _ (c .before .before .if1 .left), eq-eqb _ _ (c .before .if2 .taken))
+    let else1 = c .before .before in
+    let a = else1 .before .args in
+    rw (ne-eqb _ _ (else1 .if1 .left), eq-eqb _ _ (c .before .if2 .taken))
     (one (a .t) (c .add4 .result) (λ j. getD (a .t) j 0) (a .b % 64) 3 (search needs) (c .add4 .ensures) (λ j _. refl) k g))
     (λ c k g.
-    let a = c .before .before .before .args in
-    rw (ne-eqb _ _ (c .before .before .if1 .left), ne-eqb _ _ (c .before .if2 .left))
+    let else1 = c .before .before in
+    let a = else1 .before .args in
+    rw (ne-eqb _ _ (else1 .if1 .left), ne-eqb _ _ (c .before .if2 .left))
     (one (a .t) (c .add5 .result) (λ j. getD (a .t) j 0) (a .b % 64) 4 (search needs) (c .add5 .ensures) (λ j _. refl) k g)))

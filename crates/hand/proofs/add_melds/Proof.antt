@@ -51,13 +51,13 @@ add-melds-spec =
     (λ c. search needs) (λ c κs k. omega (arith, le2 c k))
     (λ c. search needs) (λ c κs k. omega (arith, le3 c k))
     (λ c k g.
-    let p3 = c .before in
-    let p2 = p3 .before in
-    let p1 = p2 .before in
+    let third = c .before in
+    let second = third .before in
+    let first = second .before in
     omega (
       arith,
       c .add-meld-if4 .ensures k g,
-      p3 .add-meld-if3 .ensures k g,
-      p2 .add-meld-if2 .ensures k g,
-      p1 .add-meld-if .ensures k g,
+      third .add-meld-if3 .ensures k g,
+      second .add-meld-if2 .ensures k g,
+      first .add-meld-if .ensures k g,
     )))

@@ -50,24 +50,27 @@ unfolding more
 more-long t a l = simp length-set l
 
 module _ (c : tie.Joined1 Inv-loop μ-loop) where
+  abbrev loop : tie.At-loop Inv-loop μ-loop
+  loop = c .before .before
+
   abbrev a : List ℕ
-  a = c .before .before .before .args .t1
+  a = loop .before .args .t1
 
   abbrev i : ℕ
-  i = c .before .before .loop .i
+  i = loop .loop .i
 
   abbrev t : List ℕ
-  t = c .before .before .loop .t
+  t = loop .loop .t
 
   abbrev long : length t ≡ 34
-  long = c .before .before .loop .inv .1
+  long = loop .loop .inv .1
 
   added : c .if1 .t ≡ more t (getD a i 0) 1
   added = ⊎-elim (λ w. w .1 ∙ stored t (getD a i 0)) (λ w. w .1 ∙ kept t (getD a i 0) long (w .0 .left)) (c .if1 .came)
 
   one-more : (k : ℕ) → k < 34 → getD (c .if1 .t) k 0 ≡ among a (i + 1) k
   one-more =
-      let known = c .before .before .loop .inv .2 in
+      let known = loop .loop .inv .2 in
       turn a i t (c .if1 .t) long known (more-adds t long (c .if1 .t) (among a i) (getD a i 0) 1 added known)
 
 pub tally-of-spec : {M : Type 1} → statement M
@@ -79,15 +82,13 @@ tally-of-spec =
     (λ c. search needs)
     (λ c. c .if1 .taken)
     (λ c.
-    let l = c .before .before .loop in
-    omega (
-      arith,
-      room (c .before .before .before .args .t1) (l .t) (l .i) (l .inv .1) (search needs) (l .inv .2)
-          (getD (c .before .before .before .args .t1) (l .i) 0),
-    ))
+    let at-loop = c .before .before in
+    let tiles = at-loop .before .args .t1 in
+    let l = at-loop .loop in
+    omega (arith, room tiles (l .t) (l .i) (l .inv .1) (search needs) (l .inv .2) (getD tiles (l .i) 0)))
     (λ c. c .if1 .taken)
     (λ c. search needs) (λ c. search needs)
-    (λ c. (search needs, ap length (added c) ∙ more-long _ _ (c .before .before .loop .inv .1), one-more c))
+    (λ c. (search needs, ap length (added c) ∙ more-long _ _ (long c), one-more c))
     (λ c.
     let l = c .before .loop in
     let n : l .i ≡ c .before .before .args .n = omega arith in

@@ -1,34 +1,29 @@
--- The fields of a hand that was read are within their ranges, and a ron is from another seat.
+-- The fields of a hand that was read are within their ranges, and a ron is from another seat; Read's refusals are 5 at most.
 use Prim.Native.Nat.{ℕ, zero, suc, _≤_, _<_}
 use native.Mathlib.Omega.{arith}
 use mathlib.Core.Path.{_≡_, ap, sym, _∙_, subst}
-use mathlib.Core.Bool.{Bool, true, false, _||_}
+use mathlib.Core.Bool.{Bool, true, false, _||_, cond}
 use mathlib.Core.List.{List}
 use borrow.Author.Tests.{ltb-false, eqb-false}
 use lib.Dec.{ltb, eqb}
-use Rattle.tiles.specs.laws.Below.{or-both}
+use lib.ListN.{length}
+use Rattle.tiles.specs.laws.Below.{or-both, cond-le}
 use Rattle.bits.specs.Bits.{bitsOf}
 use Rattle.hand.specs.declared.Fields.{Fields}
 use Rattle.hand.specs.declared.Hand.{Hand}
-use Rattle.hand.specs.Held.{wrongHeld}
+use Rattle.hand.specs.Held.{wrongHeld, descends, overFour}
 use Rattle.hand.specs.Hand.{isRon}
-use Rattle.hand.specs.Refusals.{fieldOver33, fieldOver, wrongDiscarder, wrongFields}
+use Rattle.hand.specs.Refusals.{fieldOver33, fieldOver, wrongDiscarder, wrongFields, inRecord, wrongSituation, refusalOf}
 use Rattle.hand_record.specs.declared.Answer.{Answer}
 use Rattle.hand_record.specs.declared.Answer.the-variants.{Sound, Refused}
 use Rattle.hand_record.specs.declared.HandRead.{HandRead}
 use Rattle.hand_record.specs.declared.ReadHand.{ReadHand}
-use Rattle.hand_record.specs.Record.{refusalIn, fieldsOf, handOf, countIn, handIn, readOf, readHandOf}
+use Rattle.hand_record.specs.Record.{refusalIn, fieldsOf, handOf, wrongLength, countIn, paddingOf, handIn, refusedWith, soundAs}
+use Rattle.hand_record.specs.Record.{answerBy, answerIn, readOf, readHandOf}
 use Rattle.hand_record.specs.laws.Clean.{kinds-of, Accepted, accepted-of}
 use Rattle.hand_record.specs.laws.Round.{as-read, accepted-back}
 use Rattle.hand_record.specs.laws.Claims.{is-read}
-
-pub record Bounds (h : Hand) : Type 0 where
-  pub few : h .held .m ≤ 4
-  pub winner : h .fields .winner ≤ 3
-  pub discarder : h .fields .discarder ≤ 3
-  pub winning : h .fields .winning ≤ 33
-  pub indicator : h .fields .indicator ≤ 33
-  pub other : wrongDiscarder (h .fields) ≡ false
+pub use Rattle.hand_record.specs.search.Bounds.{Bounds}
 
 -- "ron with discarder equal to winner" is refused
 pub other-seat : (f : Fields) → wrongDiscarder f ≡ false → isRon f ≡ true → f .winner ≡ f .discarder → ⊥
@@ -95,3 +90,28 @@ refused-number s zero e =
     let z : _≡_ {A = ℕ} 0 1 = cc in
     absurd (omega arith)
 refused-number s (suc n) e = omega arith
+
+-- ---- Read's refusals are 5 at most
+
+refusal-le : (h : Hand) (padding : ℕ) → refusalOf h padding ≤ 5
+unfolding refusalOf
+refusal-le h padding =
+    cond-le (wrongFields h padding) 2 _ 5 (omega arith)
+    (cond-le (descends (h .held)) 3 _ 5 (omega arith)
+    (cond-le (overFour (inRecord h)) 4 _ 5 (omega arith) (cond-le (wrongSituation h) 5 0 5 (omega arith) (omega arith))))
+
+answer-le : (h : Hand) (j : ℕ) → j ≤ 5 → refusalIn (answerBy h j .answer) ≤ 5
+unfolding answerBy
+answer-le h j l = go (ltb 0 j)
+  where
+    go : (b : Bool) → refusalIn (cond b (refusedWith j) (soundAs h) .answer) ≤ 5
+    go true = l
+    go false = omega arith
+
+pub read-le : (s : List ℕ) → refusalIn (readOf s .answer) ≤ 5
+unfolding readOf answerIn
+read-le s = go (wrongLength (length s) (countIn s))
+  where
+    go : (b : Bool) → refusalIn (cond b (refusedWith 1) (answerIn (countIn s) (bitsOf s)) .answer) ≤ 5
+    go true = omega arith
+    go false = answer-le (handIn (countIn s) (bitsOf s)) _ (refusal-le (handIn (countIn s) (bitsOf s)) (paddingOf (countIn s) (bitsOf s)))

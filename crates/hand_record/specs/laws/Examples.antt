@@ -16,7 +16,10 @@ use Rattle.hand_record.specs.Record.{recordOf}
 -- "indicator North, no riichi, ordinary": how (0 tsumo, 1 ron), winner, discarder, winning tile, m, melds, other concealed tiles
 abbrev pub won : ℕ → ℕ → ℕ → ℕ → ℕ → List ℕ → List ℕ → Hand
 won how winner discarder winning m melds concealed =
-    record { fields = record { how = how; winner = winner; discarder = discarder; riichi = 0; situation = 0; indicator = 30; winning = winning }; held = record { m = m; melds = melds; concealed = concealed } }
+    record {
+      fields = record { how = how; winner = winner; discarder = discarder; riichi = 0; situation = 0; indicator = 30; winning = winning };
+      held = record { m = m; melds = melds; concealed = concealed };
+    }
 
 -- a record, and the hand that it is
 pub record Row : Type 0 where
@@ -126,8 +129,8 @@ Table =
 
 -- each row reads and writes back
 pub table : Table
-unfolding allBelow anyBelow countBelow atKind meldHolds inMelds inOthers inHeld inHand tileOver33 wrongHeld wrongFields descends inRecord overFour wrongSituation
-    refusalOf headOf heldBy handIn paddingOf answerBy answerIn readOf widths valuesOf recordOf
+unfolding allBelow anyBelow countBelow atKind meldHolds inMelds inOthers inHeld inHand tileOver33 wrongHeld wrongFields descends inRecord overFour
+    wrongSituation refusalOf headOf heldBy handIn paddingOf answerBy answerIn readOf widths valuesOf recordOf
 table = (
   record { read = refl; write = refl },
   record { read = refl; write = refl },

@@ -246,7 +246,8 @@ fit-head h y =
         let q1 = or-both a b (q2 .0) in
         (q1 .0, q1 .1, q2 .1, q3 .1, q4 .1, q5 .1)
 
-module _ (h : Hand) (e : unwritable h ≡ 0) (lm : length (h .held .melds) ≡ 4) (lc : length (h .held .concealed) ≡ 13) (bm : EachBelow 256 (h .held .melds)) where
+module _ (h : Hand) (e : unwritable h ≡ 0) (lm : length (h .held .melds) ≡ 4) (lc : length (h .held .concealed) ≡ 13)
+    (bm : EachBelow 256 (h .held .melds)) where
   y : Accepted h
   y = accepted-of h e
 

@@ -25,7 +25,7 @@ same-discarder f g e =
     (or-both a b (or-both (a || b) c (or-both (a || b || c) d (or-both (a || b || c || d) (not (eqb (f .situation) (g .situation))) e .0) .0) .0) .1))
 
 -- the others have the first one's discarder
-next-discarder : (f : Fields) (s : List ℕ) (ss : List (List ℕ)) → conflicts f (s ∷ ss) ≡ false → f .discarder ≡ discarderOf (s ∷ ss)
+pub next-discarder : (f : Fields) (s : List ℕ) (ss : List (List ℕ)) → conflicts f (s ∷ ss) ≡ false → f .discarder ≡ discarderOf (s ∷ ss)
 unfolding conflicts
 next-discarder f s ss e = same-discarder f (handFor s .fields) (or-both (conflict f (handFor s .fields)) (conflicts f ss) e .0)
 

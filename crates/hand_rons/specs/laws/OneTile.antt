@@ -16,15 +16,9 @@ use Rattle.hand_record.specs.Record.{lengthOf, countIn, refusalIn, readOf}
 use Rattle.hand_record.specs.laws.Bounds.{answer-is, other-seat, read-bounds, refused-number}
 use Rattle.hand_rons.specs.Records.{handFor, recordsOf, firstUnreadable, conflict, conflicts, notOnOneTile, isWinner, discarderOf, firstAfter}
 use Rattle.hand_rons.specs.Records.{firstWinner}
+pub use Rattle.hand_rons.specs.search.Read.{Read, AllRead}
 
 -- ---- records that read
-
-abbrev pub Read : List ℕ → Type 0
-Read s = refusalIn (readOf s .answer) ≡ 0
-
-abbrev pub AllRead : List (List ℕ) → Type 0
-AllRead [] = Unit {0}
-AllRead (s ∷ ss) = Read s × AllRead ss
 
 -- as a reader sees one that does not: r is what Read gave, w its refusal
 pub refused-read : (s : List ℕ) (r : HandRead) → r ≡ readOf s → (m w : ℕ) → r .answer ≡ Refused m → w ≡ refusalIn (r .answer)

@@ -42,10 +42,11 @@ some log at part kind argument letter e h k a l =
 
 returns-2 : tie.Need-returns-2
 returns-2 c =
-    let k = c .before .before in
-    let n = k .before .before .before in
-    let a = n .before .before .args in
-    some (a .s .now) (a .at) _ _ _ _ (n .next-entry .ensures) (k .before .before .if1 .left) (k .kind .ensures) (c .before .argument .ensures)
+    let kind = c .before .before in
+    let else1 = kind .before .before in
+    let next-entry = else1 .before in
+    let a = next-entry .before .before .args in
+    some (a .s .now) (a .at) _ _ _ _ (next-entry .next-entry .ensures) (else1 .if1 .left) (kind .kind .ensures) (c .before .argument .ensures)
     (c .letter .ensures .0)
 
 pub hb-log-next-spec : {M : Type 1} → statement M
@@ -54,8 +55,10 @@ hb-log-next-spec =
     (tie.spec
     (λ c κs. search needs)
     (λ c κs. search needs)
-    (λ c. none (c .before .before .before .before .args .s .now) (c .before .before .before .before .args .at) _ _ (c .before .before .next-entry .ensures)
-    (c .refusal-at .ensures) (c .before .if1 .taken))
+    (λ c.
+    let next-entry = c .before .before in
+    let a = next-entry .before .before .args in
+    none (a .s .now) (a .at) _ _ (next-entry .next-entry .ensures) (c .refusal-at .ensures) (c .before .if1 .taken))
     (λ c. search needs)
     (λ c κs. search needs)
     (λ c κs. search needs)

@@ -1,48 +1,42 @@
 -- `log::next_entry` meets its contract: an entry lies inside the log.
 use mathlib.Core.Path.{_≡_, sym, ap, _∙_}
 use mathlib.Core.List.{List}
-use Prim.Native.Nat.{ℕ}
+use Prim.Native.Nat.{ℕ, _+_, _≤_}
 use native.Mathlib.Omega.{arith}
-use lib.ListN.{drop, length-drop}
+use lib.ListN.{length, drop, length-drop}
 use borrow.Author.Needs.{needs}
 use Rattle.log.specs.search.Lengths.{entryLength}
 use Rattle.log.specs.laws.Parts.{from-on, length-inside}
-use Rattle.log.specs.laws.Next.{part-past, part-is}
+use Rattle.log.specs.laws.Next.{part-at-end, part-is}
 use Rattle.log.proofs.next_entry.Statement.{statement}
 use Rattle.log.proofs.next_entry.Tie as tie
 
--- the bytes from the offset on, and how long their entry is
-abbrev left : tie.After-entry-length → List ℕ
-left k = drop (k .before .before .before .before .args .at) (k .before .before .before .before .args .log .now)
+-- the start, from after `entry_length`
+abbrev start-of : tie.After-entry-length → tie.Start
+start-of c = let else1 = c .before .before in else1 .before .before
 
-length-is : (k : tie.After-entry-length) → k .entry-length .result ≡ entryLength (left k)
-length-is k =
-    k .entry-length .ensures ∙ ap entryLength (from-on (k .before .before .before .before .args .at) (k .before .before .before .before .args .log .now))
+-- the bytes from the offset on, how long their entry is, and that it ends inside the log
+abbrev left : tie.After-entry-length → List ℕ
+left c = drop (start-of c .args .at) (start-of c .args .log .now)
+
+length-is : (c : tie.After-entry-length) → c .entry-length .result ≡ entryLength (left c)
+length-is c = c .entry-length .ensures ∙ ap entryLength (from-on (start-of c .args .at) (start-of c .args .log .now))
+
+inside : (c : tie.After-entry-length) → start-of c .args .at + c .entry-length .result ≤ length (start-of c .args .log .now)
+inside c = omega (arith, length-is c, length-inside (left c), length-drop (start-of c .args .at) (start-of c .args .log .now))
 
 pub next-entry-spec : {M : Type 1} → statement M
 next-entry-spec =
     tie.close
     (tie.spec
     (λ c. search needs)
-    (λ c. sym (part-past (c .before .before .before .args .log .now) (c .before .before .before .args .at) (c .before .if1 .taken)))
+    (λ c. let then1 = c .before in let a = then1 .before .before .args in sym (part-at-end (a .log .now) (a .at) (then1 .if1 .taken)))
     (λ c. search needs)
     (λ c. search needs)
     (λ c. search needs)
     (λ c κs. search needs)
-    (λ c. omega (
-      arith,
-      length-is c,
-      length-inside (left c),
-      length-drop (c .before .before .before .before .args .at)
-          (c .before .before .before .before .args .log .now),
-    ))
+    (λ c. omega (arith, inside c))
     (λ c. search needs)
     (λ c. search needs)
-    (λ c. omega (
-      arith,
-      length-is c,
-      length-inside (left c),
-      length-drop (c .before .before .before .before .args .at)
-          (c .before .before .before .before .args .log .now),
-    ))
-    (λ c. part-is (c .before .before .before .before .before .args .log .now) (c .before .before .before .before .before .args .at) _ (length-is (c .before))))
+    (λ c. omega (arith, inside c))
+    (λ c. let a = start-of (c .before) .args in part-is (a .log .now) (a .at) _ (length-is (c .before))))

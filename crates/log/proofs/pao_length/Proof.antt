@@ -8,12 +8,14 @@ use Rattle.log.proofs.pao_length.Tie as tie
 
 returns-3 : tie.Need-returns-3
 returns-3 c =
-    let a = c .before .before .before .before .args in
+    let else2 = c .before .before in
+    let a = else2 .before .before .args in
     sym (pao-bits-set (a .argument) (a .rest .now) (omega arith) (omega arith) (c .if3 .taken))
 
 returns-4 : tie.Need-returns-4
 returns-4 c =
-    let a = c .before .before .before .before .args in
+    let else2 = c .before .before in
+    let a = else2 .before .before .args in
     sym (pao-whole (a .argument) (a .rest .now) (omega arith) (omega arith) (c .if3 .left))
 
 pub pao-length-spec : {M : Type 1} → statement M

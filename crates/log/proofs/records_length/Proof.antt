@@ -21,7 +21,7 @@ abbrev μ-loop : tie.MeasureT-loop
 
 -- within a turn: the loop's head, the bytes, and how long the record at hand is
 abbrev head : (k : tie.After-record-length Inv-loop μ-loop) → tie.At-loop Inv-loop μ-loop
-head k = k .before .before .before
+head k = let turn = k .before .before in turn .before
 
 abbrev bytes : (k : tie.After-record-length Inv-loop μ-loop) → List ℕ
 bytes k = head k .before .before .args .s .now
@@ -48,9 +48,10 @@ loop-again c =
 
 returns-2 : tie.Need-returns-2 Inv-loop μ-loop
 returns-2 c =
-    let h = c .before .loop in
+    let loop = c .before in
+    let h = loop .loop in
     let z : h .left ≡ 0 = omega (arith, c .loop-test .left) in
-    sym (from-end (h .at) (h .left) (drop (h .at) (c .before .before .before .args .s .now)) z) ∙ h .inv .1
+    sym (from-end (h .at) (h .left) (drop (h .at) (loop .before .before .args .s .now)) z) ∙ h .inv .1
 
 pub records-length-spec : {M : Type 1} → statement M
 records-length-spec =

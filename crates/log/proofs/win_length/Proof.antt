@@ -21,5 +21,5 @@ win-length-spec =
     (tie.spec
     (λ c. sym (win-argument (c .before .before .args .argument) (c .before .before .args .rest .now) (c .if1 .taken)))
     (λ c κs. search needs)
-    (λ c. omega (arith, c .record-length .ensures, record-inside (c .before .before .before .args .rest .now)))
+    (λ c. let else1 = c .before in omega (arith, c .record-length .ensures, record-inside (else1 .before .before .args .rest .now)))
     returns-2)

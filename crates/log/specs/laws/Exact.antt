@@ -16,10 +16,10 @@ use Rattle.position.specs.Booking as Booking
 use Rattle.game.specs.Game as Game
 use Rattle.log.specs.Entry.{IsResult, IsEntry}
 use Rattle.log.specs.Entry as Entry
-use Rattle.log.specs.Next.{LogEntry, Starts, Next, end, entry, bad, IsNext, past, starts, none}
+use Rattle.log.specs.Next.{LogEntry, Starts, Next, end, entry, bad, IsNext, atEnd, starts, none}
 use Rattle.log.specs.search.Lengths.{kindIn, spanOf, recordsLength, lengthBy, entryLength}
 use Rattle.log.specs.search.Found.{entryOf, foundBy, foundAt}
-use Rattle.log.specs.laws.Records.{records-whole, record-before, span-before}
+use Rattle.log.specs.laws.Records.{records-their-length, record-before, span-before}
 use Rattle.log.specs.laws.Lengths as lengths
 use Rattle.log.specs.laws.Lengths.{Told}
 use Rattle.log.specs.laws.Parts.{firstPart, none-empty, length-inside, part-length}
@@ -53,7 +53,7 @@ result-found (x ∷ l) low high p = go (lengths.told (x ∷ l) (omega arith))
     go (lengths.bad e) = absurd (omega (arith, e, p))
     go (lengths.won k a u e) = as-result _ _ _ (part-of x 16 (lengthOf (countIn l)) l e (omega (arith, k, a))) (Entry.win _ (record-length l u))
     go (lengths.multiRon k q o u e) =
-        as-result _ _ _ (part-of x (64 + x % 16) (spanOf (x % 16) l) l e (omega (arith, k))) (Entry.multiRon (x % 16) _ q o (records-whole (x % 16) l u))
+        as-result _ _ _ (part-of x (64 + x % 16) (spanOf (x % 16) l) l e (omega (arith, k))) (Entry.multiRon (x % 16) _ q o (records-their-length (x % 16) l u))
     go (lengths.pao k a u e) = absurd (omega (arith, k, high))
     go (lengths.plain k h e) = single e k h (eqb (x / 16) 2) refl
     go (lengths.corrected k a lo hi q e) = absurd (omega (arith, k, high))
@@ -204,12 +204,12 @@ module _ (log : List ℕ) (at : ℕ) where
 
   pub found-is : IsNext log at (foundAt log at)
   found-is =
-      by-place (λ h. rw (found-end h) (past h))
+      by-place (λ h. rw (found-end h) (atEnd h))
       (λ h e. rw (found-bad h e) (none h (λ x s. let l = starts-length left x s in omega (arith, e, l .0, l .1))))
       (λ h. rw (found-entry h) (starts _ (first-starts h)))
 
   pub only-found : (y : Next) → IsNext log at y → y ≡ foundAt log at
-  only-found y (past h) = sym (found-end h)
+  only-found y (atEnd h) = sym (found-end h)
   only-found y (none h n) =
       by-place (λ g. absurd (omega (arith, g, h))) (λ g e. sym (found-bad g e)) (λ g. absurd (n _ (first-starts g)))
   only-found y (starts x s) =

@@ -68,9 +68,9 @@ module _ (log : List ℕ) (at : ℕ) where
   part-inside = omega (arith, length-part, length-inside left, length-drop at log)
 
   -- empty past the end; the stretch that the code cuts
-  pub part-past : length log ≤ at → partAt log at ≡ []
+  pub part-at-end : length log ≤ at → partAt log at ≡ []
   unfolding partAt
-  part-past h = ap partIn (next-end h)
+  part-at-end h = ap partIn (next-end h)
 
   pub part-is : (n : ℕ) → n ≡ entryLength left → take (at + n - at) left ≡ partAt log at
   part-is n e =

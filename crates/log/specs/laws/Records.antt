@@ -14,7 +14,7 @@ use Rattle.hand_record.specs.laws.Read.{length-of}
 use Rattle.hand_record.specs.laws.Lengths.{unbroken, record-whole, length-zero, length-some, count-take, record-length}
 use Rattle.hand_rons.specs.Records.{recordsOf}
 use Rattle.reading.specs.All.{Each, none, also}
-use Rattle.log.specs.Entry.{IsWhole}
+use Rattle.log.specs.Entry.{HasLength}
 use Rattle.log.specs.search.Lengths.{hasBroken, spanOf, recordsLength}
 
 -- ---- how long they are
@@ -98,19 +98,19 @@ first-and-rest zero s e = let z : L 0 s e + 0 ≡ L 0 s e = omega arith in ap (�
 first-and-rest (suc n) s e = rw (same-count (suc n) s e, take-take (L (suc n) s e) (L (suc n) s e + m (suc n) s e) s (omega arith), the-rest (suc n) s e)
 
 -- those found: each is whole
-pub records-whole : (n : ℕ) (s : List ℕ) → hasBroken n s ≡ false → Each IsWhole (recordsOf n (take (spanOf n s) s))
+pub records-their-length : (n : ℕ) (s : List ℕ) → hasBroken n s ≡ false → Each HasLength (recordsOf n (take (spanOf n s) s))
 unfolding hasBroken spanOf recordsOf
-records-whole zero s e = none
-records-whole (suc n) s e =
+records-their-length zero s e = none
+records-their-length (suc n) s e =
     let L = lengthOf (countIn s) in
     let p = or-both (isBroken s) (hasBroken n (drop L s)) e in
-    subst (Each IsWhole) (sym (first-and-rest n s (p .0))) (also (record-length s (p .0)) (records-whole n (drop L s) (p .1)))
+    subst (Each HasLength) (sym (first-and-rest n s (p .0))) (also (record-length s (p .0)) (records-their-length n (drop L s) (p .1)))
 
 -- ---- whole ones, with bytes after them
 
 -- one
-pub whole-before : (s rest : List ℕ) → IsWhole s → (isBroken (s ++ rest) ≡ false) × (lengthOf (countIn (s ++ rest)) ≡ length s)
-whole-before s rest w =
+pub length-before : (s rest : List ℕ) → HasLength s → (isBroken (s ++ rest) ≡ false) × (lengthOf (countIn (s ++ rest)) ≡ length s)
+length-before s rest w =
     let f = length-of (length s) (countIn s) w in
     let four = f .four in
     let few = f .few in
@@ -121,12 +121,12 @@ whole-before s rest w =
     let whole = record-whole (s ++ rest) (omega (arith, l, four)) (omega (arith, c, few)) (omega (arith, n, l)) in
     (length-some (s ++ rest) (λ z. omega (arith, z, whole, n, four)) .0, n)
 
-pub record-before : (s rest : List ℕ) → IsWhole s → (recordLength (s ++ rest) ≡ length s) × (4 ≤ length s)
+pub record-before : (s rest : List ℕ) → HasLength s → (recordLength (s ++ rest) ≡ length s) × (4 ≤ length s)
 unfolding recordLength
-record-before s rest w = let b = whole-before s rest w in (rw (b .0) (b .1), length-of (length s) (countIn s) w .four)
+record-before s rest w = let b = length-before s rest w in (rw (b .0) (b .1), length-of (length s) (countIn s) w .four)
 
 -- the first of several, as long as its m says
-first-before : (s rest : List ℕ) → let L = lengthOf (countIn s) in IsWhole (take L s)
+first-before : (s rest : List ℕ) → let L = lengthOf (countIn s) in HasLength (take L s)
     → (L ≤ length s) × (isBroken (s ++ rest) ≡ false) × (lengthOf (countIn (s ++ rest)) ≡ L)
 first-before s rest w =
     let L = lengthOf (countIn s) in
@@ -135,16 +135,16 @@ first-before s rest w =
     let t = length-take L s in
     let c : countIn (take L s) ≡ countIn s = count-take s L (omega (arith, t, four)) (omega (arith, t, four)) in
     let n : length (take L s) ≡ L = f .right ∙ ap lengthOf c in
-    let b = whole-before (take L s) (drop L s ++ rest) w in
+    let b = length-before (take L s) (drop L s ++ rest) w in
     let a : take L s ++ (drop L s ++ rest) ≡ s ++ rest = sym (append-assoc (take L s) (drop L s) rest)
     ∙ ap (λ (x : List ℕ). x ++ rest) (take-append-drop L s) in
     (omega (arith, t, n), ap isBroken (sym a) ∙ b .0, ap (λ (x : List ℕ). lengthOf (countIn x)) (sym a) ∙ b .1 ∙ n)
 
 -- n + 1 of them
-pub records-before : (n : ℕ) (s rest : List ℕ) → Each IsWhole (recordsOf (suc n) s)
+pub records-before : (n : ℕ) (s rest : List ℕ) → Each HasLength (recordsOf (suc n) s)
     → (hasBroken (suc n) (s ++ rest) ≡ false) × (spanOf (suc n) (s ++ rest) ≡ length s)
 unfolding hasBroken spanOf recordsOf
-records-before zero s rest (also w o) = let b = whole-before s rest w in (rw (b .0), rw (b .1) (omega arith))
+records-before zero s rest (also w o) = let b = length-before s rest w in (rw (b .0), rw (b .1) (omega arith))
 records-before (suc n) s rest (also w o) =
     let L = lengthOf (countIn s) in
     let b = first-before s rest w in
@@ -152,7 +152,7 @@ records-before (suc n) s rest (also w o) =
     let r = records-before n (drop L s) rest o in
     (rw (b .1, b .2, d) (r .0), rw (b .2, d, r .1) (omega (arith, b .0, length-drop L s)))
 
-pub span-before : (n : ℕ) (s rest : List ℕ) → 0 < n → Each IsWhole (recordsOf n s) → (recordsLength n (s ++ rest) ≡ length s) × (4 ≤ length s)
+pub span-before : (n : ℕ) (s rest : List ℕ) → 0 < n → Each HasLength (recordsOf n s) → (recordsLength n (s ++ rest) ≡ length s) × (4 ≤ length s)
 unfolding recordsLength
 span-before zero s rest h o = absurd (omega arith)
 span-before (suc n) s rest h o =

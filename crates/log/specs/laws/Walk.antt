@@ -11,7 +11,7 @@ use Rattle.log.specs.Log.{nextOf, partAt, refusalAt, entriesBy, entriesF
 use Rattle.log.specs.search.Lengths.{entryLength}
 use Rattle.log.specs.laws.Parts.{firstPart, none-empty, length-inside, part-length}
 use Rattle.log.specs.laws.Exact.{by-place}
-use Rattle.log.specs.laws.Next.{firstEntry, next-end, next-bad, next-entry, refusal-end, refusal-bad, length-part, part-past, entryAt, next-part}
+use Rattle.log.specs.laws.Next.{firstEntry, next-end, next-bad, next-entry, refusal-end, refusal-bad, length-part, part-at-end, entryAt, next-part}
 
 -- what holds where no entry stands, and at an entry whenever after it, holds of all bytes
 module _ (P : List ℕ → Type 0) (none : (s : List ℕ) → entryLength s ≡ 0 → P s) (entry : (s : List ℕ) → 0 < entryLength s → P (drop (entryLength s) s) → P s) where
@@ -160,7 +160,7 @@ module _ (log : List ℕ) (at : ℕ) where
   pub end-exactly : ((length (partAt log at) ≡ 0) × (refusalAt log at ≡ 0)) ↔ (length log ≤ at)
   end-exactly = (
     λ h. by-place log at (λ g. g) (λ l e. absurd (omega (arith, h .1, refusal-bad log at l e))) (λ l. absurd (omega (arith, l, length-part log at, h .0))),
-    λ g. (ap length (part-past log at g), refusal-end log at g),
+    λ g. (ap length (part-at-end log at g), refusal-end log at g),
   )
 
 -- where the walk ends

@@ -13,10 +13,11 @@ use Rattle.log_walk.proofs.book_at.Tie as tie
 
 returns : tie.Need-returns
 returns c =
-    let n = c .before .before .before in
+    let then1 = c .before .before in
+    let n = then1 .before in
     let a = n .before .before .args in
     c .no-entry .ensures ∙ rw (c .before .refusal-at .ensures)
-    (sym (step-none (a .g) (a .s .now) (a .at) (ap length (sym (n .next-entry .ensures)) ∙ c .before .before .if1 .taken)))
+    (sym (step-none (a .g) (a .s .now) (a .at) (ap length (sym (n .next-entry .ensures)) ∙ then1 .if1 .taken)))
 
 -- the part is not empty, and of a correction it holds the entry inside
 book-part-requires : tie.Need-book-part-requires

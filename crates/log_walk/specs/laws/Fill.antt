@@ -275,7 +275,8 @@ module _ (log : List ℕ) (w : Walk) (old : List ℕ) where
                     ∙ ap (λ (j : ℕ). filled (length old) (n + j) (walkNext (length old) n v p rest) rest) (sym (m-is ∙ ap length line-is))
 
         -- as the code has it: the part from n on is lent, and comes back as o
-        module _ (m : ℕ) (o : List ℕ) (em : m ≡ lengthIn (take (length buf - n) (drop n buf)) line) (eo : o ≡ bufferWith (take (length buf - n) (drop n buf)) line) where
+        module _ (m : ℕ) (o : List ℕ) (em : m ≡ lengthIn (take (length buf - n) (drop n buf)) line)
+            (eo : o ≡ bufferWith (take (length buf - n) (drop n buf)) line) where
           lent-length : m ≡ lengthIn (drop n buf) line
           lent-length = em ∙ ap (λ (x : List ℕ). lengthIn x line) (from-on n buf)
 

@@ -21,6 +21,6 @@ pub change-spec : {M : Type 1} → statement M
 change-spec =
     tie.close
     (tie.spec (λ c. search needs) (λ c. search needs)
-    (λ c. rw (plus (c .before .before .args .paid .0) (omega arith)) (minus-fits _ (c .before .before .pre .1)))
+    (λ c. let s = c .before .before in rw (plus (s .args .paid .0) (omega arith)) (minus-fits _ (s .pre .1)))
     (λ c. rw (plus _ (c .before .before .pre .0), c .before .if1 .taken))
-    (λ c. rw (plus (c .before .before .args .paid .0) (omega arith), toZ-ofZ w32 _ (minus-fits _ (c .before .before .pre .1)), c .before .if1 .left)))
+    (λ c. let s = c .before .before in rw (plus (s .args .paid .0) (omega arith), toZ-ofZ w32 _ (minus-fits _ (s .pre .1)), c .before .if1 .left)))

@@ -8,20 +8,22 @@ use Rattle.points.proofs.changes.Tie as tie
 returns : tie.Need-returns
 unfolding change changes
 returns c =
-    let d = c .before .before .before .before in
-    let z0 = back (d .before .before .change .result) _ (d .before .before .change .ok) (d .before .before .change .ensures) in
-    let z1 = back (d .change2 .result) _ (d .change2 .ok) (d .change2 .ensures) in
-    let z2 = back (c .before .before .change3 .result) _ (c .before .before .change3 .ok) (c .before .before .change3 .ensures) in
+    let third = c .before .before in
+    let second = third .before .before in
+    let first = second .before .before in
+    let z0 = back (first .change .result) _ (first .change .ok) (first .change .ensures) in
+    let z1 = back (second .change2 .result) _ (second .change2 .ok) (second .change2 .ensures) in
+    let z2 = back (third .change3 .result) _ (third .change3 .ok) (third .change3 .ensures) in
     let z3 = back (c .change4 .result) _ (c .change4 .ok) (c .change4 .ensures) in
     rw (
       z0,
       z1,
       z2,
       z3,
-      d .before .before .before .before .gain .ensures .0,
-      d .before .before .before .pays .ensures .0,
-      d .before .pays2 .ensures .0,
-      c .before .before .before .pays3 .ensures .0,
+      first .before .before .gain .ensures .0,
+      first .before .pays .ensures .0,
+      second .before .pays2 .ensures .0,
+      third .before .pays3 .ensures .0,
       c .before .pays4 .ensures .0,
     )
 

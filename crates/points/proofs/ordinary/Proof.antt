@@ -14,9 +14,9 @@ ordinary-spec =
     (λ c κs. search needs)
     (λ c. (rw (le-leb 5 _ (c .before .if1 .taken)) (c .limit .ensures .0), c .limit .ensures .1))
     (λ c κs. search needs) (λ c κs. search needs)
-    (λ c. (
-      rw (lt-leb 5 _ (c .before .before .before .if1 .left), ← c .before .before .plain .ensures, lt-ltb _ _ (c .before .if2 .taken))
-          (c .limit2 .ensures .0),
+    (λ c.
+    let plain = c .before .before in (
+      rw (lt-leb 5 _ (plain .before .if1 .left), ← plain .plain .ensures, lt-ltb _ _ (c .before .if2 .taken)) (c .limit2 .ensures .0),
       c .limit2 .ensures .1,
     ))
     (λ c. (rw (lt-leb 5 _ (c .before .before .if1 .left), ← c .before .plain .ensures, le-ltb _ _ (c .if2 .left)), omega arith)))

@@ -11,6 +11,6 @@ unfolding pays
 pays-spec =
     tie.close
     (tie.spec
-    (λ c κs. search needs) (λ c. omega (arith, mul-le-mul (c .share .ensures .1) (c .before .pre)))
-    (λ c κs. mul-le-mul (c .share .ensures .1) (c .before .pre))
-    (λ c. (rw (← c .before .share .ensures .0) (c .hundreds .ensures .0), c .hundreds .ensures .1)))
+    (λ c κs. search needs) (λ c. omega (arith, mul-le-mul (c .times-a .ensures .1) (c .before .pre)))
+    (λ c κs. mul-le-mul (c .times-a .ensures .1) (c .before .pre))
+    (λ c. (rw (← c .before .times-a .ensures .0) (c .hundreds .ensures .0), c .hundreds .ensures .1)))

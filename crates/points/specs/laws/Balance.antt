@@ -9,7 +9,7 @@ use lib.IntN.{ℤ, pos, negℤ, _+ℤ_, _-ℤ_, +ℤ-idl, +ℤ-comm, +ℤ-assoc,
 use lib.Dec.{eqb}
 use lib.ListN.{getD}
 use Rattle.tiles.specs.Below.{sum}
-use Rattle.points.specs.Points.{sumOfFour, share, hundreds, pays, gain, change, changes}
+use Rattle.points.specs.Points.{sumOfFour, timesA, hundreds, pays, gain, change, changes}
 use Rattle.points.specs.declared.Seats.{Seats}
 
 abbrev seats : ℕ → ℕ → ℕ → Seats
@@ -38,7 +38,7 @@ module _ (x y z g : ℕ) (e : g ≡ z + y + x) where
 
 -- the winner pays nothing
 pub winner-pays-nothing : (s : Seats) (ron : Bool) (a seat : ℕ) → s .winner ≡ seat → pays s ron a seat ≡ 0
-unfolding pays share hundreds
+unfolding pays timesA hundreds
 winner-pays-nothing s ron a seat e = rw (eq-eqb (s .winner) seat e, zero-mul a)
 
 -- so a seat pays what it pays as one of the others
@@ -98,11 +98,11 @@ module _ (s : Seats) (ron : Bool) (a : ℕ) where
 -- by ron the discarder alone pays
 module _ (w d a : ℕ) where
   discarder-pays : (x : ℕ) → (w ≡ x → ⊥) → pays (seats w d x) true a x ≡ hundreds (cond (eqb w d) 6 4 * a)
-  unfolding pays share
+  unfolding pays timesA
   discarder-pays x n = rw (ne-eqb w x n, eq-eqb x x refl)
 
   other-pays-nothing : (x seat : ℕ) → eqb x seat ≡ false → pays (seats w d x) true a seat ≡ 0
-  unfolding pays share hundreds
+  unfolding pays timesA hundreds
   other-pays-nothing x seat e = rw (e, same (eqb w seat), zero-mul a)
     where
       same : (b : Bool) → cond b 0 0 ≡ zero
@@ -131,7 +131,7 @@ module _ (x a : ℕ) where
   Tsumo w d = gain (seats w d x) false a ≡ cond (eqb w d) (3 * hundreds (2 * a)) (2 * hundreds a + hundreds (2 * a))
 
   pub tsumo-payments : (w : ℕ) → w < 4 → (d : ℕ) → d < 4 → Tsumo w d
-  unfolding gain pays share
+  unfolding gain pays timesA
   tsumo-payments =
       let z = zero-times in
       let o = one-times in

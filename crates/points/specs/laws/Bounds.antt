@@ -9,37 +9,37 @@ use lib.Dec.{eqb}
 use Rattle.tiles.specs.Below.{sum}
 use Rattle.tiles.specs.laws.Below.{cond-le}
 use Rattle.points.specs.declared.Seats.{Seats}
-use Rattle.points.specs.Points.{hundreds, share, pays, gain}
+use Rattle.points.specs.Points.{hundreds, timesA, pays, gain}
 use Rattle.points.specs.laws.Balance.{winner-pays-nothing}
 
 hundreds-le : (x n : ℕ) → x ≤ 100 * n → hundreds x ≤ 100 * n
 unfolding hundreds
 hundreds-le x n h = omega arith
 
-share-le : (s : Seats) (ron : Bool) (seat : ℕ) → share s ron seat ≤ 6
-unfolding share
-share-le s ron seat =
+times-le : (s : Seats) (ron : Bool) (seat : ℕ) → timesA s ron seat ≤ 6
+unfolding timesA
+times-le s ron seat =
     cond-le (eqb (s .winner) seat) _ _ 6 (omega arith)
     (cond-le ron _ _ 6 (cond-le (eqb (s .discarder) seat) _ _ 6 (cond-le (eqb (s .winner) (s .dealer)) _ _ 6 (omega arith) (omega arith)) (omega arith))
     (cond-le (eqb (s .winner) (s .dealer) || eqb (s .dealer) seat) _ _ 6 (omega arith) (omega arith)))
 
-tsumo-share-le : (s : Seats) (seat : ℕ) → share s false seat ≤ 2
-unfolding share
-tsumo-share-le s seat =
+tsumo-times-le : (s : Seats) (seat : ℕ) → timesA s false seat ≤ 2
+unfolding timesA
+tsumo-times-le s seat =
     cond-le (eqb (s .winner) seat) _ _ 2 (omega arith) (cond-le (eqb (s .winner) (s .dealer) || eqb (s .dealer) seat) _ _ 2 (omega arith) (omega arith))
 
 module _ (s : Seats) (a : ℕ) (h : a ≤ 8000) where
   pub pays-le : (ron : Bool) (seat : ℕ) → pays s ron a seat ≤ 48000
   unfolding pays
-  pays-le ron seat = hundreds-le (share s ron seat * a) 480 (mul-le-mul (share-le s ron seat) h)
+  pays-le ron seat = hundreds-le (timesA s ron seat * a) 480 (mul-le-mul (times-le s ron seat) h)
 
   tsumo-pays-le : (seat : ℕ) → pays s false a seat ≤ 16000
   unfolding pays
-  tsumo-pays-le seat = hundreds-le (share s false seat * a) 160 (mul-le-mul (tsumo-share-le s seat) h)
+  tsumo-pays-le seat = hundreds-le (timesA s false seat * a) 160 (mul-le-mul (tsumo-times-le s seat) h)
 
   -- who did not discard pays nothing on ron
   ron-pays-nothing : (seat : ℕ) → (s .discarder ≡ seat → ⊥) → pays s true a seat ≡ 0
-  unfolding pays share hundreds
+  unfolding pays timesA hundreds
   ron-pays-nothing seat n = go (eqb (s .winner) seat)
     where
       go : (b : Bool) → (cond b 0 (cond (eqb (s .discarder) seat) (cond (eqb (s .winner) (s .dealer)) 6 4) 0) * a + 99) / 100 * 100 ≡ 0

@@ -23,13 +23,14 @@ few p l e = rw e (groups-few p)
 returns : tie.Need-returns
 unfolding groupTestsOf placeTestsOf earned added
 returns c =
-    let c3 = c .before .before .before in
-    let c4 = c3 .before in
-    let c5 = c4 .before in
-    let start = c5 .before .before in
-    let ron = c5 .fu-if .ensures in
-    let pair = c4 .fu-if2 .ensures in
-    let wait = c3 .fu-if3 .ensures in
+    let known = c .before in
+    let at-wait = known .before .before in
+    let at-pair = at-wait .before in
+    let at-ron = at-pair .before in
+    let start = at-ron .before .before in
+    let ron = at-ron .fu-if .ensures in
+    let pair = at-pair .fu-if2 .ensures in
+    let wait = at-wait .fu-if3 .ensures in
     let tsumo = c .fu-if4 .ensures in (
       rw (
         ron .0,

@@ -14,26 +14,27 @@ group-fu-spec =
     (λ c. (rw (lt-leb 34 _ (c .if1 .taken)), search needs)) (λ c κs. search needs) (λ c κs. search needs)
     (λ c. search needs)
     (λ c.
-    let c3 = c .before in
-    let t = c3 .before .before .before in (
+    let yaochu = c .before .before in
+    let then2 = yaochu .before in
+    let t = then2 .before in (
       rw (
         le-leb 34 _ (t .before .if1 .left),
-        lt-ltb _ _
-            (c3 .before .before .if2 .taken),
-        ← c3 .before .is-yaochu .ensures,
-        c3 .if3 .taken,
+        lt-ltb _ _ (then2 .if2 .taken),
+        ← yaochu .is-yaochu .ensures,
+        c .before .if3 .taken,
         ← t .triplet-fu .ensures .0,
       ),
       omega arith,
     ))
-    (λ c. (
+    (λ c.
+    let then2 = c .before .before in
+    let t = then2 .before in (
       rw (
-        le-leb 34 _ (c .before .before .before .before .if1 .left),
-        lt-ltb _ _
-            (c .before .before .if2 .taken),
+        le-leb 34 _ (t .before .if1 .left),
+        lt-ltb _ _ (then2 .if2 .taken),
         ← c .before .is-yaochu .ensures,
         c .if3 .left,
-        ← c .before .before .before .triplet-fu .ensures .0,
+        ← t .triplet-fu .ensures .0,
       ),
       omega arith,
     ))

@@ -12,5 +12,5 @@ group-items-spec =
     (λ c. search needs) (λ c. search needs) (λ c κs. search needs) (λ c. search needs) (λ c. search needs) (λ c κs. search needs)
     (λ c. search needs) (λ c. search needs) (λ c κs. search needs) (λ c. search needs) (λ c. search needs) (λ c κs. search needs)
     (λ c.
-    let c2 = c .before .before in
-    rw (c2 .before .group-fu .ensures .0, c2 .group-fu2 .ensures .0, c .before .group-fu3 .ensures .0, c .group-fu4 .ensures .0)))
+    let second = c .before .before in
+    rw (second .before .group-fu .ensures .0, second .group-fu2 .ensures .0, c .before .group-fu3 .ensures .0, c .group-fu4 .ensures .0)))

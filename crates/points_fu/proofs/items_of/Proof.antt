@@ -33,21 +33,21 @@ listed c = yakuman-placed (c .args .w) (c .args .p) (c .args .q) (c .pre .1 .0)
 returns-3 : tie.Need-returns-3
 unfolding itemsOf earned
 returns-3 c =
-    let c2 = c .before .before in
-    let c3 = c2 .before in
-    let c4 = c3 .before in
-    let c5 = c4 .before in
-    let start = c5 .before .before in (
+    let at-rounded = c .before .before in
+    let at-added = at-rounded .before in
+    let at-earned = at-added .before in
+    let else2 = at-earned .before in
+    let start = else2 .before .before in (
       rw (
         regular-rounded (start .args .w) (start .args .p),
         ← listed start,
-        c5 .before .if1 .left,
-        ne-eqb _ _ (c5 .if2 .left),
-        c2 .rounded .ensures .0,
-        c3 .added .ensures,
-        c4 .earned .ensures .0,
+        else2 .before .if1 .left,
+        ne-eqb _ _ (else2 .if2 .left),
+        at-rounded .rounded .ensures .0,
+        at-added .added .ensures,
+        at-earned .earned .ensures .0,
       ),
-      within _ _ _ (c3 .added .ensures) (c2 .rounded .ensures .1 .0) (c2 .rounded .ensures .1 .1),
+      within _ _ _ (at-added .added .ensures) (at-rounded .rounded .ensures .1 .0) (at-rounded .rounded .ensures .1 .1),
     )
 
 pub items-of-spec : {M : Type 1} → statement M
@@ -58,8 +58,9 @@ items-of-spec =
     (λ c κs. search needs)
     (λ c. (rw (← listed (c .before .before), c .before .if1 .taken) (c .base-alone .ensures), rw (c .base-alone .ensures) (omega (arith, added-alone 0))))
     (λ c κs. search needs)
-    (λ c. (
-      rw (← listed (c .before .before .before), c .before .before .if1 .left, eq-eqb _ _ (c .before .if2 .taken)) (c .base-alone2 .ensures),
+    (λ c.
+    let else1 = c .before .before in (
+      rw (← listed (else1 .before), else1 .if1 .left, eq-eqb _ _ (c .before .if2 .taken)) (c .base-alone2 .ensures),
       rw (c .base-alone2 .ensures) (omega (arith, added-alone 25)),
     ))
     (λ c κs. search needs) (λ c κs. search needs) (λ c κs. search needs) (λ c. search needs)

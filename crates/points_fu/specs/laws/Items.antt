@@ -59,8 +59,8 @@ module _ (w : Won) (p : FullReading) where
   whole : ℕ
   whole = added (earned w p 0)
 
-  abbrev nine : ℕ
-  nine =
+  abbrev items-sum : ℕ
+  items-sum =
       20
       + cond (w .closed && w .ron) 10 0
       + cond (isValue (w .round) (w .own) (p .pair)) 2 0
@@ -70,7 +70,7 @@ module _ (w : Won) (p : FullReading) where
 
   pub regular-rounded : regularItems w p ≡ earned w p (rounded (w .closed) (added (earned w p 0)) - added (earned w p 0))
   unfolding regularItems earned added itemsBy
-  regular-rounded = rw (add-zero nine)
+  regular-rounded = rw (add-zero items-sum)
 
   regular : added (regularItems w p) ≡ rounded (w .closed) whole
   unfolding whole

@@ -8,14 +8,16 @@ use Rattle.points_value.proofs.common_of.Tie as tie
 returns : tie.Need-returns
 unfolding hanBefore
 returns c =
-    let h = c .before .before .before in
-    let tests = h .before .before .before .group-tests .ensures .0 in
+    let concealed = c .before .before in
+    let h = concealed .before in
+    let han-of = h .before in
+    let tests = han-of .before .before .group-tests .ensures .0 in
     record {
       groups = refl;
       tests = tests;
-      han = rw (h .han .ensures .0, h .before .han-of .ensures .0, tests);
+      han = rw (h .han .ensures .0, han-of .han-of .ensures .0, tests);
       few = h .han .ensures .1;
-      ankou = c .before .before .concealed .ensures;
+      ankou = concealed .concealed .ensures;
       kan = c .before .kans .ensures;
       items = c .group-items .ensures;
     }

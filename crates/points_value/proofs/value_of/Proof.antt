@@ -37,28 +37,35 @@ module _ (w : Won) (p : FullReading) (q : PlaceTests) (e : q ≡ placeTestsOf w 
 earned-is : (p : FullReading) (ways : List ℕ) (l : List Fu) → p .ways ≡ ways → l ≡ itemsBy (p .groups) ways → l ≡ itemsBy (p .groups) (p .ways)
 earned-is p ways l ew el = rw (el, ← ew)
 
+-- the start, from after kans_at, and from after place_tests
+abbrev from-kans : tie.After-kans-at → tie.Start
+from-kans c = let concealed-at = c .before in let gs = concealed-at .before in gs .before .before
+
+abbrev start : tie.After-place-tests → tie.Start
+start c = let items-at = c .before in from-kans (items-at .before .before)
+
 returns : tie.Need-returns
 unfolding valueOf fuOf
 returns c =
-    let c1 = c .before in
-    let c2 = c1 .before in
-    let c3 = c2 .before in
-    let c4 = c3 .before in
-    let c5 = c4 .before in
-    let q = c5 .before .place-tests in
-    let s = c5 .before .before .before .before .before .before .before .before in
+    let at-gain = c .before in
+    let at-basic = at-gain .before in
+    let at-added = at-basic .before in
+    let at-items = at-added .before in
+    let at-han = at-items .before in
+    let q = at-han .before .place-tests in
+    let s = start (at-han .before) in
     let m = yakuman-placed (s .args .w) (s .args .p) (q .result) (q .ensures) in
     let a = s .args in
     let h =
-    han-is (a .w) (a .p) (q .result) (q .ensures) (a .dora) (a .k .han .0) (c5 .hand-han .result .0) (s .pre .0 .han) (c5 .hand-han .ensures .0) in (
+    han-is (a .w) (a .p) (q .result) (q .ensures) (a .dora) (a .k .han .0) (at-han .hand-han .result .0) (s .pre .0 .han) (at-han .hand-han .ensures .0) in (
       rw (
         ← m,
         ← c .yaku-of .ensures,
         ← h,
-        ← c4 .items-of .ensures .0,
-        ← c3 .added .ensures,
-        ← c2 .basic .ensures .0,
-        ← c1 .gain .ensures .0,
+        ← at-items .items-of .ensures .0,
+        ← at-added .added .ensures,
+        ← at-basic .basic .ensures .0,
+        ← at-gain .gain .ensures .0,
       ),
       (m, any-is (s .args .w) (s .args .p) (q .result) (q .ensures)),
     )
@@ -68,22 +75,24 @@ value-of-spec =
     tie.close
     (tie.spec
     (λ c κs. let s = c .before .before in (s .pre .0 .ankou, s .pre .1 .1))
-    (λ c κs. let s = c .before .before .before in (s .pre .0 .kan, s .pre .1 .1))
-    (λ c κs. let s = c .before .before .before .before .before in (s .pre .0 .items, s .pre .1 .1))
+    (λ c κs. let gs = c .before in let s = gs .before .before in (s .pre .0 .kan, s .pre .1 .1))
+    (λ c κs. let s = from-kans (c .before) in (s .pre .0 .items, s .pre .1 .1))
     (λ c κs.
     let k = c .before .before in
     let h = k .before in
-    let s = h .before .before .before in
+    let s = from-kans k in
     let w = sym (s .pre .1 .0) in
     (s .pre .0 .tests, (h .concealed-at .ensures ∙ ap (concealed (s .args .p .groups)) w, k .kans-at .ensures ∙ ap kans w, s .pre .1 .1)))
-    (λ c κs. c .before .before .before .before .before .before .before .pre .0 .few)
+    (λ c κs. start c .pre .0 .few)
     (λ c κs.
     let q = c .before in
     let i = q .before in
-    let s = i .before .before .before .before .before .before in
+    let s = start q in
     (s .pre .0 .tests, (q .place-tests .ensures, earned-is (s .args .p) _ (i .items-at .result) (s .pre .1 .0) (i .items-at .ensures))))
     (λ c κs. search needs) (λ c κs. search needs) (λ c κs. search needs)
     (λ c κs.
-    let q = c .before .before .before .before .before in
-    (q .before .before .before .before .before .before .before .pre .0 .tests, q .place-tests .ensures))
+    let at-added = c .before .before in
+    let at-han = at-added .before .before in
+    let q = at-han .before in
+    (start q .pre .0 .tests, q .place-tests .ensures))
     returns)

@@ -76,7 +76,8 @@ module _ (w : Won) (p : FullReading) where
 
   -- h, from that of the pair and the groups
   pub han-with : (dora : ℕ)
-      → cond (isYakuman y) 0 (hanBefore w dora (p .shape) (p .pair) (p .groups) + cond (getD y 4 false) 1 0 + cond (getD y 18 false) 2 0 + cond (getD y 19 false) 2 0)
+      → cond (isYakuman y) 0
+      (hanBefore w dora (p .shape) (p .pair) (p .groups) + cond (getD y 4 false) 1 0 + cond (getD y 18 false) 2 0 + cond (getD y 19 false) 2 0)
       ≡ hanOf w p dora
   unfolding hanOf
   han-with dora = rw (yakuman-tested w p) (by-yakuman dora (isYakuman y) refl)

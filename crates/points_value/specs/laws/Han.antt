@@ -10,14 +10,8 @@ use lib.ListN.{getD}
 use Rattle.tiles.specs.Below.{tabulate, allBelow, sumBelow}
 use Rattle.tiles.specs.laws.Below.{every-at, and-true}
 use Rattle.points_value.specs.Han.{hanFor, yakuHan}
-
--- the han of each yaku but 3
-abbrev pub fixedHan : Bool → List ℕ
-fixedHan closed = hanFor closed 0
-
--- their sum over the listed ones
-unfoldable pub hanBy : List Bool → List ℕ → ℕ
-hanBy y han = sumBelow 37 (λ n. cond (getD y n false) (getD han n 0) 0)
+pub use Rattle.points_value.specs.search.Han.{fixedHan}
+unfoldable pub use Rattle.points_value.specs.search.Han.{hanBy}
 
 pub none : (b : Bool) → cond b 0 0 ≡ zero
 none true = refl

@@ -4,12 +4,10 @@ use Prim.Native.Nat.{ℕ, zero, suc, _+_, _-_, _*_, _≤_}
 use native.Mathlib.Omega.{arith}
 use Rattle.score.specs.laws.Z.{up, dn}
 use Rattle.position.specs.Ledger.{startingScore, lastHand, floor}
+pub use Rattle.position.specs.search.Amounts.{amount, mostChange, mostSticks, mostGift}
+pub use Rattle.position.specs.search.Form.{depth}
 
 -- ---- the floor
-
--- how deep the floor is
-abbrev pub depth : ℕ
-depth = dn floor
 
 -- the most that a seat pays in the hand that follows h finished ones, its stick left out: "One discarder may now pay 112,000 in a hand" (02, S-6), with h
 -- counters
@@ -42,20 +40,3 @@ pub worst-low : (h d : ℕ) → h + d ≤ lastHand → d ≤ 1 → worst h + 100
 worst-low h zero l m = omega (arith, worst-le h lastHand (omega arith), worst-all)
 worst-low h (suc zero) l m = omega (arith, worst-le (h + 1) lastHand (omega arith), worst-step h, worst-all)
 worst-low h (suc (suc d)) l m = absurd (omega arith)
-
--- ---- room: two amounts add up within 32 bits, and no score, no three wins' gifts and no 1,000 times the sticks is more than one
-
-abbrev pub amount : ℕ
-amount = 1000000000
-
--- more than the most that a win's changes, or its counters, give or take
-abbrev pub mostChange : ℕ
-mostChange = 200000
-
--- more sticks than a game in form has
-abbrev pub mostSticks : ℕ
-mostSticks = 200000
-
--- more than the most that a win gives or takes, its sticks too
-abbrev pub mostGift : ℕ
-mostGift = 300000000

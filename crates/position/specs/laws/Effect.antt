@@ -14,7 +14,7 @@ use Rattle.score.specs.laws.Z.{up, dn, add-law, eq-parts}
 use Rattle.position.specs.declared.Position.{Position}
 use Rattle.position.specs.Ledger.{startingScore, pointsInPlay, lastHand, isSet, mark, scoreAt, isDeclared, declarations, feederAt, totalOf, wrongFeeder}
 use Rattle.position.specs.Ledger.{Effect, finishing, isLast, applied}
-use Rattle.position.specs.laws.After.{dealerAfter, windAfter, handsAfter}
+use Rattle.position.specs.search.After.{dealerAfter, windAfter, handsAfter}
 use Rattle.position.specs.laws.Bounds.{costs, worst, worst-step}
 use Rattle.position.specs.laws.Form.{sum-law}
 

@@ -9,6 +9,7 @@ use Rattle.points.specs.laws.Balance.{below-four}
 use Rattle.score.specs.laws.Z.{up, dn, add-law, neg-law, eq-parts}
 use Rattle.position.specs.Ledger.{finePaid, fineOf}
 use Rattle.position.specs.laws.PaidByOthers.{Even, even-zero}
+pub use Rattle.position.specs.search.Fines.{finedBy}
 
 -- ---- what the seats pay is what they get
 
@@ -39,10 +40,6 @@ module _ (at : ℕ → Bool) where
       (omega (arith, fine-law 2, thousands (at 2))) (omega (arith, fine-law 3, thousands (at 3)))
 
 -- ---- by how many are at fault
-
--- one of n seats at fault pays 3,000 to each that is not, and one that is not gets 3,000 of each of the n
-abbrev pub finedBy : ℕ → Bool → ℤ
-finedBy n pays = cond pays (negℤ (pos (3000 * (4 - n)))) (pos (3000 * n))
 
 by-count : (pays : Bool) (n got paid : ℕ) → n ≤ 4 → got + 3000 * cond pays 1 0 ≡ 3000 * n → paid ≡ 9000 * cond pays 1 0
     → finedBy n pays ≡ pos got +ℤ negℤ (pos paid)

@@ -15,6 +15,7 @@ use Rattle.position.specs.declared.Position.{Position}
 use Rattle.position.specs.Ledger.{pointsInPlay, lastHand, floor, isSet, scoreAt, declarations, feederAt, totalOf, eqZ, isOver, wrongFeeder, outOfForm}
 use Rattle.position.specs.Ledger.{notOpen}
 use Rattle.position.specs.laws.Bounds.{depth, amount, mostSticks}
+pub use Rattle.position.specs.search.Form.{InForm, Open, sumOf}
 
 -- ---- tests of integers
 
@@ -49,16 +50,6 @@ eq-eqZ (negsuc a) (pos b) h = absurd (omega (arith, parts-eq (negsuc a) (pos b) 
 eq-eqZ (negsuc a) (negsuc b) h = same-leb b a ∙ eq-eqb b a (omega (arith, parts-eq (negsuc a) (negsuc b) h))
 
 -- ---- in form
-
-pub record InForm (g : Position) : Type 0 where
-  pub dealer : g .dealer ≤ 3
-  pub wind : g .wind ≤ 1
-  pub hands : g .hands ≤ lastHand
-  pub sticks : declarations g ≤ g .sticks
-  pub counter : g .counter ≤ g .hands
-  pub feeders : (i : ℕ) → i < 8 → wrongFeeder i (feederAt g i) ≡ false
-  pub low : (i : ℕ) → i < 4 → dn (scoreAt g i) ≤ depth
-  pub total : totalOf g ≡ pointsInPlay
 
 not-low : (z : ℤ) → ltZ z floor ≡ false → dn z ≤ depth
 not-low z h = ⊎-elim (λ (e : up z ≡ 0). omega (arith, ltZ-false z floor h)) (λ (e : dn z ≡ 0). omega arith) (part-law z)
@@ -119,11 +110,6 @@ module _ (g : Position) where
 
 -- ---- open
 
-pub record Open (g : Position) : Type 0 where
-  pub form : InForm g
-  pub over : isSet (g .over) ≡ false
-  pub hands : g .hands < lastHand
-
 pub open-of : (g : Position) → notOpen g ≡ false → Open g
 unfolding notOpen
 open-of g h =
@@ -136,10 +122,7 @@ open-of g h =
 -- ---- the total, as one linear equation of the parts
 
 module _ (a b c d : ℤ) (k : ℕ) where
-  abbrev pub sumOf : ℤ
-  sumOf = a +ℤ b +ℤ c +ℤ d +ℤ pos (1000 * k)
-
-  pub sum-law : up sumOf + dn a + dn b + dn c + dn d ≡ up a + up b + up c + up d + 1000 * k + dn sumOf
+  pub sum-law : up (sumOf a b c d k) + dn a + dn b + dn c + dn d ≡ up a + up b + up c + up d + 1000 * k + dn (sumOf a b c d k)
   sum-law = omega (arith, add-law a b, add-law (a +ℤ b) c, add-law (a +ℤ b +ℤ c) d, add-law (a +ℤ b +ℤ c +ℤ d) (pos (1000 * k)))
 
 module _ (g : Position) (f : InForm g) where

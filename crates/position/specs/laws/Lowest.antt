@@ -18,7 +18,7 @@ use Rattle.position.specs.declared.Position.{Position}
 use Rattle.position.specs.Booking.{Booking, result, riichi, win, draw, chombo, pao, multiRon}
 use Rattle.position.specs.Ledger.{lastHand, mark, fresh, scoreAt, isDeclared, notOpen, refusalFor, Effect, riichiGives}
 use Rattle.position.specs.Ledger.{isDealersWin, chomboOf, drawOf, isAtFault, effectOf, applied, after, ledgerFrom, ledger}
-use Rattle.position.specs.laws.After.{handsAfter}
+use Rattle.position.specs.search.After.{handsAfter}
 use Rattle.position.specs.laws.Bounds.{costs}
 use Rattle.position.specs.laws.Form.{open-of}
 use Rattle.position.specs.laws.Accepted.{riichi-accepted, win-accepted}

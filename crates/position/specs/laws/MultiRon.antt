@@ -17,7 +17,7 @@ use Rattle.score.specs.laws.Z.{up, dn, add-law}
 use Rattle.position.specs.declared.Position.{Position}
 use Rattle.position.specs.Booking.{result, multiRon}
 use Rattle.position.specs.Ledger.{notOpen, refusalFor, refusalsOf, isDealersWin, winGives, multiRonGives, effectOf, recordRefusals}
-use Rattle.position.specs.laws.First.{firstRefused}
+use Rattle.position.specs.search.First.{firstRefused}
 use Rattle.position.specs.laws.Form.{open-of}
 use Rattle.position.specs.laws.Accepted.{cond-zero}
 use Rattle.position.specs.laws.Effect.{Fair, finishing-fair}

@@ -5,13 +5,9 @@ use mathlib.Core.List.{List, [], _∷_}
 use Prim.Native.Nat.{ℕ, _≤_}
 use native.Mathlib.Omega.{arith}
 use lib.Dec.{ltb, eqb}
-use lib.ListN.{length}
-use Rattle.tiles.specs.laws.Below.{cond-le}
 use Rattle.hand.specs.declared.Hand.{Hand}
-use Rattle.hand.specs.Held.{descends, overFour}
-use Rattle.hand.specs.Refusals.{wrongFields, inRecord, wrongSituation, refusalOf}
-use Rattle.bits.specs.Bits.{bitsOf}
-use Rattle.hand_record.specs.Record.{refusedWith, soundAs, refusalIn, wrongLength, countIn, handIn, paddingOf, answerBy, answerIn, readOf}
+use Rattle.hand_record.specs.Record.{refusalIn, readOf}
+use Rattle.hand_record.specs.laws.Bounds.{read-le}
 use Rattle.score.specs.declared.Scored.{Scored}
 use Rattle.score.specs.Named.{Named, reported, six, seven}
 use Rattle.score.specs.IsScore.{IsScore, eight, unreadable, read}
@@ -21,33 +17,10 @@ use Rattle.position.specs.declared.Position.{Position}
 use Rattle.position.specs.Booking.{Booking, result, riichi, win, draw, chombo, pao, multiRon}
 use Rattle.hand_rons.specs.Records.{recordsOf, firstUnreadable, notOnOneTile}
 use Rattle.position.specs.Ledger.{isDeclared, notOpen, handFor, scoredFor, riichiMismatch, lacksStick, recordRefusals}
-use Rattle.position.specs.laws.First.{winRefusal, firstRefused}
+use Rattle.position.specs.search.First.{winRefusal, firstRefused}
 use Rattle.position.specs.Ledger.{wrongPao, refusalFor, refusalsOf}
 
--- ---- Read's refusals are 5 at most, Score's 8
-
-refusal-le : (h : Hand) (padding : ℕ) → refusalOf h padding ≤ 5
-unfolding refusalOf
-refusal-le h padding =
-    cond-le (wrongFields h padding) 2 _ 5 (omega arith)
-    (cond-le (descends (h .held)) 3 _ 5 (omega arith)
-    (cond-le (overFour (inRecord h)) 4 _ 5 (omega arith) (cond-le (wrongSituation h) 5 0 5 (omega arith) (omega arith))))
-
-answer-le : (h : Hand) (j : ℕ) → j ≤ 5 → refusalIn (answerBy h j .answer) ≤ 5
-unfolding answerBy
-answer-le h j l = go (ltb 0 j)
-  where
-    go : (b : Bool) → refusalIn (cond b (refusedWith j) (soundAs h) .answer) ≤ 5
-    go true = l
-    go false = omega arith
-
-read-le : (s : List ℕ) → refusalIn (readOf s .answer) ≤ 5
-unfolding readOf answerIn
-read-le s = go (wrongLength (length s) (countIn s))
-  where
-    go : (b : Bool) → refusalIn (cond b (refusedWith 1) (answerIn (countIn s) (bitsOf s)) .answer) ≤ 5
-    go true = omega arith
-    go false = answer-le (handIn (countIn s) (bitsOf s)) _ (refusal-le (handIn (countIn s) (bitsOf s)) (paddingOf (countIn s) (bitsOf s)))
+-- ---- Score's refusals are 8 at most
 
 module _ (s : List ℕ) (dealer wind : ℕ) where
   named-le : {h : Hand} {a : Scored} → Named h dealer wind a → a .refusal ≤ 8

@@ -16,7 +16,7 @@ use Rattle.hand_rons.specs.laws.OneTile.{first-wins}
 use Rattle.position.specs.declared.Position.{Position}
 use Rattle.position.specs.Booking.{result, win, multiRon}
 use Rattle.position.specs.Ledger.{refusalFor, refusalsOf, winGives, multiRonGives, effectOf, applied, after, recordRefusals}
-use Rattle.position.specs.laws.First.{winRefusal, firstRefused}
+use Rattle.position.specs.search.First.{winRefusal, firstRefused}
 
 either : (b : Bool) → b || false ≡ b
 either true = refl

@@ -1,4 +1,4 @@
--- Pao: the places of the feeders, and that a feeder who is found is a seat, and another than the winner.
+-- Pao: where the feeders stand, and that a feeder who is found is a seat, and another than the winner.
 use mathlib.Core.Path.{_≡_, refl, sym, ap, _∙_}
 use mathlib.Core.Bool.{Bool, true, false, _||_, not, false≢true}
 use mathlib.Core.List.{List, [], _∷_}
@@ -13,15 +13,15 @@ use Rattle.position.specs.Ledger.{isSet, feederAt, feederIndex, wrongFee
 use Rattle.position.specs.laws.Form.{InForm}
 use Rattle.position.specs.laws.Owed.{IsOther, liable-other}
 
--- ---- the places of the feeders
+-- ---- where the feeders stand
 
-pub place-28 : (w : ℕ) → feederIndex w 28 ≡ w
-place-28 w = omega arith
+pub index-28 : (w : ℕ) → feederIndex w 28 ≡ w
+index-28 w = omega arith
 
-pub place-29 : (w : ℕ) → feederIndex w 29 ≡ w + 4
-place-29 w = omega arith
+pub index-29 : (w : ℕ) → feederIndex w 29 ≡ w + 4
+index-29 w = omega arith
 
--- a property of what stands at i, after a place is set
+-- a property of what stands at i, after an element is set
 multi-ron-has : (Q : ℕ → Type 0) (l : List ℕ) (p v i : ℕ) → (i ≡ p → Q v) → Q (getD l i 0) → Q (getD (set l p v) i 0)
 multi-ron-has Q [] p v i new old = old
 multi-ron-has Q (x ∷ xs) zero v zero new old = new refl
@@ -63,23 +63,23 @@ right-pao g holder feeder yaku e =
 -- ---- a feeder that is found
 
 -- a feeder that is not wrong is a seat, and another than the holder
-module _ (place n : ℕ) (r : wrongFeeder place n ≡ false) where
+module _ (index n : ℕ) (r : wrongFeeder index n ≡ false) where
   pub feeder-small : n ≤ 4
-  feeder-small = ltb-false (1 + 3) n (or-both (ltb (1 + 3) n) (eqb n (1 + place % 4)) r .0)
+  feeder-small = ltb-false (1 + 3) n (or-both (ltb (1 + 3) n) (eqb n (1 + index % 4)) r .0)
 
-  pub feeder-other : n ≡ 1 + place % 4 → ⊥
-  feeder-other = eqb-false n (1 + place % 4) (or-both (ltb (1 + 3) n) (eqb n (1 + place % 4)) r .1)
+  pub feeder-other : n ≡ 1 + index % 4 → ⊥
+  feeder-other = eqb-false n (1 + index % 4) (or-both (ltb (1 + 3) n) (eqb n (1 + index % 4)) r .1)
 
 -- the feeder that is found for a winner is a seat, and another
 module _ (g : Position) (form : InForm g) (w : ℕ) (small : w ≤ 3) where
-  at-place : (yaku : ℕ) → yaku ≤ 29 → (feederAt g (feederIndex w yaku) ≤ 4) × (feederAt g (feederIndex w yaku) ≡ 1 + w → ⊥)
-  at-place yaku h =
-      let place : ℕ = feederIndex w yaku in
-      let r = form .feeders place (omega arith) in
-      let other = feeder-other place (feederAt g place) r in
-      (feeder-small place (feederAt g place) r, λ e. other (e ∙ ap (λ (k : ℕ). 1 + k) (omega arith)))
+  at-index : (yaku : ℕ) → yaku ≤ 29 → (feederAt g (feederIndex w yaku) ≤ 4) × (feederAt g (feederIndex w yaku) ≡ 1 + w → ⊥)
+  at-index yaku h =
+      let index : ℕ = feederIndex w yaku in
+      let r = form .feeders index (omega arith) in
+      let other = feeder-other index (feederAt g index) r in
+      (feeder-small index (feederAt g index) r, λ e. other (e ∙ ap (λ (k : ℕ). 1 + k) (omega arith)))
 
   pub feeder-seat : (dragons winds : Bool) → IsOther w (liableIn g w dragons winds)
-  feeder-seat true winds = let p = at-place 28 (omega arith) in liable-other w (feederAt g (feederIndex w 28)) (p .0) (p .1)
-  feeder-seat false true = let p = at-place 29 (omega arith) in liable-other w (feederAt g (feederIndex w 29)) (p .0) (p .1)
+  feeder-seat true winds = let p = at-index 28 (omega arith) in liable-other w (feederAt g (feederIndex w 28)) (p .0) (p .1)
+  feeder-seat false true = let p = at-index 29 (omega arith) in liable-other w (feederAt g (feederIndex w 29)) (p .0) (p .1)
   feeder-seat false false = tt

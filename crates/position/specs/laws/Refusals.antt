@@ -11,7 +11,7 @@ use Rattle.hand_rons.specs.Records.{recordsOf, firstUnreadable, notOnOneTile}
 use Rattle.position.specs.declared.Position.{Position}
 use Rattle.position.specs.Booking.{Booking, result, riichi, win, draw, chombo, pao, multiRon}
 use Rattle.position.specs.Ledger.{isDeclared, isOver, outOfForm, notOpen, lacksStick, wrongPao, firstOf, refusalsOf, refusalFor, recordRefusals}
-use Rattle.position.specs.laws.First.{winRefusal, firstRefused}
+use Rattle.position.specs.search.First.{winRefusal, firstRefused}
 use Rattle.position.specs.Ledger.{effectOf, applied, after, Moves}
 
 -- ---- any booking, by its refusal

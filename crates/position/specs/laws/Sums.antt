@@ -11,22 +11,7 @@ use mir.Facts.{toZ-ofZ, toZ-pos}
 use Rattle.tiles.specs.Below.{tabulate}
 use Rattle.score.specs.laws.Z.{Within, neg-law, within-add, parts-mag}
 use Rattle.position.specs.laws.Bounds.{amount, mostChange, mostGift}
-
--- each of four is an amount, so that a sum of two does not wrap
-abbrev pub Small : List ℤ → Type 0
-Small s = (i : ℕ) → i < 4 → Within (getD s i (pos 0)) amount
-
--- each is within what a win's changes, or its counters, give or take
-abbrev pub Changes : List ℤ → Type 0
-Changes c = (i : ℕ) → Within (getD c i (pos 0)) mostChange
-
--- each is within what a win gives or takes, its sticks too
-abbrev pub Gifts : List ℤ → Type 0
-Gifts c = (i : ℕ) → Within (getD c i (pos 0)) mostGift
-
--- four scores s with what each seat is given
-abbrev pub paid : List ℤ → List ℤ → List ℤ
-paid s by = tabulate 4 0 (λ i. getD s i (pos 0) +ℤ getD by i (pos 0))
+pub use Rattle.position.specs.search.Amounts.{Small, Changes, Gifts, paid}
 
 -- a number as it stands in 32 bits
 abbrev pub B32 : ℤ → ℤ

@@ -31,9 +31,9 @@ use Rattle.hand_rons.specs.Records.{recordsOf, firstUnreadable, notOnOneTile, f
 use Rattle.position.specs.Ledger.{scoreAt, notOpen, handFor, scoredFor, riichiMismatch, refusalFor, recordRefusals, paidByOthers}
 use Rattle.position.specs.Ledger.{Liable, nobody, theFeeder, owes, liableIn, wholeOf, isDealersWin, payments, holdsFourWinds, winGives}
 use Rattle.position.specs.Ledger.{multiRonGives, effectOf, after}
-use Rattle.position.specs.Wins.{HasYaku, IsWinning, paidIn, IsPaid, WinBooked, givenIn, MultiRonBooked}
+use Rattle.position.specs.Wins.{HasYaku, IsWinning, paidIn, IsPaid, WinBooked, MultiRonBooked}
 use Rattle.position.specs.laws.PaidByOthers.{sticksTo}
-use Rattle.position.specs.laws.First.{winRefusal, firstRefused}
+use Rattle.position.specs.search.First.{winRefusal, firstRefused}
 use Rattle.position.specs.laws.Form.{InForm, le-leZ, open-of}
 use Rattle.position.specs.laws.Accepted.{win-accepted}
 use Rattle.position.specs.laws.Refusals.{win-by, multi-ron-by}
@@ -236,19 +236,6 @@ module _ (l : Position) (o : notOpen l ≡ false) where
       let z : winRefusal l s ≡ 0 = sym (win-by l s o) ∙ win-accepted-when l s (refusalFor l (result (win s))) refl .1 (o, w) in
       (rw (sound s .0 (w .0)) (t .0), rw z (t .1))
 
--- what the first winner takes, and the others without it, is what the ledger's records give
-chosen : (f : ℕ → ℕ → ℤ) (b : Bool) (n k : ℕ) → cond b (f n k) (f 0 0) ≡ f (cond b n 0) (cond b k 0)
-chosen f true n k = refl
-chosen f false n k = refl
-
-given-in : (l : Position) (first : ℕ) (ss : List (List ℕ)) (i : ℕ) → givenIn l first ss i ≡ multiRonGives l first ss i
-unfolding multiRonGives
-given-in l first [] i = refl
-given-in l first (s ∷ ss) i =
-    ap (λ (x : ℤ). x +ℤ givenIn l first ss i) (chosen (λ n k. winGives l s n k i) (eqb (handFor s .fields .winner) first) (l .counter) (l .sticks))
-    ∙ ap (λ (x : ℤ). winGives l s (cond (eqb (handFor s .fields .winner) first) (l .counter) 0)
-    (cond (eqb (handFor s .fields .winner) first) (l .sticks) 0) i +ℤ x) (given-in l first ss i)
-
 module _ (l : Position) (number : ℕ) (s : List ℕ) (n : ℕ) (e : n ≡ refusalFor l (result (multiRon number s))) where
   abbrev ss : List (List ℕ)
   ss = recordsOf number s
@@ -264,12 +251,9 @@ module _ (l : Position) (number : ℕ) (s : List ℕ) (n : ℕ) (e : n ≡ refus
         e ∙ multi-ron-by l number s (y .0) (rw (ne-eqb number 0 (λ z. omega (arith, y .1)), le-ltb 3 number (y .2))) (t .0) false (y .4) ∙ t .1,
   )
 
-  moved : n ≡ 0 → (i : ℕ) → i < 4 → scoreAt (after l (result (multiRon number s))) i ≡ scoreAt l i +ℤ givenIn l (firstWinner ss) ss i
+  moved : n ≡ 0 → (i : ℕ) → i < 4 → scoreAt (after l (result (multiRon number s))) i ≡ scoreAt l i +ℤ multiRonGives l (firstWinner ss) ss i
   unfolding effectOf
-  moved z i h =
-      let m : scoreAt (after l (result (multiRon number s))) i ≡ scoreAt l i +ℤ multiRonGives l (firstWinner ss) ss i
-      = rw (sym e ∙ z) at (score-after l (result (multiRon number s)) i h) in
-      m ∙ ap (λ (x : ℤ). scoreAt l i +ℤ x) (sym (given-in l (firstWinner ss) ss i))
+  moved z i h = rw (sym e ∙ z) at (score-after l (result (multiRon number s)) i h)
 
   pub multi-ron-booked : MultiRonBooked l number s n
   multi-ron-booked = record {

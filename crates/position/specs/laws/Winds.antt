@@ -336,8 +336,8 @@ module _ (s : List ℕ) (e : refusalIn (readOf s .answer) ≡ 0) (dealer wind : 
     pub winds-by-tiles : IsReadingOf h r → lists h dealer wind r 29 ≡ true
         → all 4 (λ w. leb 3 (getD (handTally h) (27 + w) 0)) ≡ eqb (winds (groupsOf h r)) 4
     winds-by-tiles (regular x) l = four-by-tiles h (read-bounds s e .few) (read-is-hand s (read-sound s e) .melds) chi-runs r x
-    winds-by-tiles (pairs x) l = absurd (no-groups (x .closed) (x .reading) l)
-    winds-by-tiles (orphans x) l = absurd (no-groups (x .closed) (x .reading) l)
+    winds-by-tiles (pairs x) l = absurd (no-groups (x .meldless) (x .reading) l)
+    winds-by-tiles (orphans x) l = absurd (no-groups (x .meldless) (x .reading) l)
 
     module _ (d : dealer ≤ 3) (n : ℕ) (low : 26 ≤ n) (high : n ≤ 36) (l : lists h dealer wind r n ≡ true) where
       -- "ron, 4A to a child, 6A to the dealer", and as much by tsumo

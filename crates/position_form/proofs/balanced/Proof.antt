@@ -15,7 +15,7 @@ use Rattle.position_form.proofs.balanced.Statement.{statement}
 use Rattle.position_form.proofs.balanced.Tie as tie
 
 abbrev at : tie.After-s3 → tie.Start
-at c = c .before .before .before .before
+at c = let s1 = c .before .before in s1 .before .before
 
 abbrev sc : tie.After-s3 → ℕ → ℤ
 sc c i = toZ w32 (ofZ w32 (getD (at c .args .t1) i (pos 0)))

@@ -12,5 +12,6 @@ out-of-form-spec =
     (λ c.
     let low = c .before in
     let wrong = low .before in
-    let counted = wrong .before .before .before .before in
+    let known = wrong .before .before in
+    let counted = known .before .before in
     rw (counted .count-true .ensures .0, counted .before .set-marks .ensures, wrong .any-wrong .ensures, low .any-low .ensures, c .balanced .ensures)))

@@ -9,4 +9,6 @@ declare-spec =
     (tie.spec
     (λ c. search needs) (λ c κs. search needs) (λ c. search needs) (λ c κs. search needs) (λ c. search needs) (λ c κs. search needs) (λ c. search needs)
     (λ c κs. search needs)
-    (λ c. rw (c .before .before .before .mark .ensures .0, c .before .before .mark2 .ensures .0, c .before .mark3 .ensures .0, c .mark4 .ensures .0)))
+    (λ c.
+    let mark2 = c .before .before in
+    rw (mark2 .before .mark .ensures .0, mark2 .mark2 .ensures .0, c .before .mark3 .ensures .0, c .mark4 .ensures .0)))

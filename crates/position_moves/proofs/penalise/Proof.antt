@@ -10,9 +10,13 @@ penalise-spec =
     tie.close
     (tie.spec (λ c κs. search needs) (λ c κs. search needs) (λ c κs. search needs)
     (λ c.
-    let marks = c .before .before .before in
+    let paying = c .before .before in
+    let marks = paying .before in
     rw (c .before .count-true .ensures .0, marks .set-marks .ensures) (marks .before .before .pre .form .sticks))
-    (λ c κs. let paying = c .before .before in (paying .before .before .before .pre, paying .penalties .ensures .1))
+    (λ c κs.
+    let paying = c .before .before in
+    let marks = paying .before in
+    (marks .before .before .pre, paying .penalties .ensures .1))
     (λ c.
     let counting = c .before .before in
     let paying = counting .before in

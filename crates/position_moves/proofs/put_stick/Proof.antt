@@ -16,11 +16,14 @@ put-stick-spec =
     tie.close
     (tie.spec
     (λ c κs. search needs)
-    (λ c κs. let start = c .before .before in (λ i l. score-within (start .args .p) (start .pre .form) i l, c .stakes .ensures .1))
+    (λ c κs. let s = c .before .before in (λ i l. score-within (s .args .p) (s .pre .form) i l, c .stakes .ensures .1))
     (λ c κs. search needs)
-    (λ c. let start = c .before .before .before .before .before .before .before in let k = few-sticks (start .args .p) (start .pre .form) in search needs)
     (λ c.
-    let payed = c .before .before .before .before in
-    let start = payed .before .before .before in
-    riichi-applied (start .args .p) (start .args .seat) (start .pre) (payed .pay .result) (c .before .before .declare .result)
-    (payed .pay .ensures ∙ ap (λ (l : List ℤ). paid (start .args .p .scores) l) (payed .before .stakes .ensures .0)) (c .before .before .declare .ensures)))
+    let declare = c .before .before in let pay = declare .before .before in
+    let stakes = pay .before in let s = stakes .before .before in
+    let k = few-sticks (s .args .p) (s .pre .form) in search needs)
+    (λ c.
+    let declare = c .before .before in let pay = declare .before .before in
+    let stakes = pay .before in let s = stakes .before .before in
+    riichi-applied (s .args .p) (s .args .seat) (s .pre) (pay .pay .result) (declare .declare .result)
+    (pay .pay .ensures ∙ ap (λ (l : List ℤ). paid (s .args .p .scores) l) (stakes .stakes .ensures .0)) (declare .declare .ensures)))

@@ -16,10 +16,7 @@ use Rattle.position.specs.Ledger.{lastHand, mark, isDeclared, feederIndex, isRe
 use Rattle.position.specs.Ledger.{isAtFault, effectOf, applied}
 use Rattle.position.specs.laws.Form.{Open}
 use Rattle.position.specs.laws.Sums.{paid}
-
--- the game after a hand that gives `by`, leaves so many sticks and such a counter, and passes the deal or not
-unfoldable pub finished : Position → List ℤ → ℕ → Bool → ℕ → Position
-finished g by sticks passes counter = applied g (finishing (λ i. getD by i (pos 0)) sticks passes counter)
+unfoldable pub use Rattle.position_moves.specs.search.Finished.{finished}
 
 -- ---- riichi, pao, chombo, draw
 
@@ -48,8 +45,17 @@ module _ (g : Position) (holder feeder yaku : ℕ) where
   pub pao-applied : Open g → (s : List ℤ) (d f : List ℕ) → s ≡ paid (g .scores) (pos 0 ∷ pos 0 ∷ pos 0 ∷ pos 0 ∷ [])
       → d ≡ tabulate 4 0 (λ i. mark (isDeclared g i))
       → f ≡ set (g .feeders) (feederIndex holder yaku) (1 + feeder)
-      → record { scores = s; sticks = g .sticks; declared = d; dealer = g .dealer; wind = g .wind; hands = g .hands; over = 0; counter = g .counter; feeders = f }
-      ≡ applied g (effectOf g (pao holder feeder yaku))
+      → record {
+        scores = s;
+        sticks = g .sticks;
+        declared = d;
+        dealer = g .dealer;
+        wind = g .wind;
+        hands = g .hands;
+        over = 0;
+        counter = g .counter;
+        feeders = f;
+      } ≡ applied g (effectOf g (pao holder feeder yaku))
   unfolding applied effectOf
   pao-applied o s d f p q r =
       let n : eqb (g .hands) lastHand ≡ false = ne-eqb (g .hands) lastHand (λ e. omega (arith, o .hands)) in
@@ -69,7 +75,8 @@ module _ (g : Position) where
   same-chombo f at q = rw q
 
 -- r who is ready, f who has declared and is not
-module _ (g : Position) (bits : ℕ) (r f : List Bool) (q : r ≡ tabulate 4 0 (isReady bits)) (e : f ≡ tabulate 4 0 (λ i. isDeclared g i && not (getD r i false))) where
+module _ (g : Position) (bits : ℕ) (r f : List Bool) (q : r ≡ tabulate 4 0 (isReady bits))
+    (e : f ≡ tabulate 4 0 (λ i. isDeclared g i && not (getD r i false))) where
   faults : f ≡ tabulate 4 0 (isAtFault g bits)
   faults = e ∙ rw q
 

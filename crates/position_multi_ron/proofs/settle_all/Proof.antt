@@ -30,21 +30,26 @@ place : (c : tie.In-loop Inv-loop μ-loop) → c .before .loop .i < 3
 place c = omega (arith, c .loop-test .taken, c .before .before .pre .1)
 
 -- where it is settled
-abbrev on : tie.After-settle-hand Inv-loop μ-loop → tie.In-loop Inv-loop μ-loop
-on c = c .before .before .before .before .before
+abbrev turn : tie.After-to-foremost2 Inv-loop μ-loop → tie.In-loop Inv-loop μ-loop
+turn c = let to-foremost = c .before in let hand = to-foremost .before in hand .before .before
 
-abbrev start : tie.After-settle-hand Inv-loop μ-loop → tie.Start Inv-loop μ-loop
-start c = on c .before .before
+abbrev start : tie.After-to-foremost2 Inv-loop μ-loop → tie.Start Inv-loop μ-loop
+start c = turn c .before .before
 
 refused : (c : tie.After-settle-hand Inv-loop μ-loop) → 0 < c .settle-hand .result .refusal → (rs : List (List ℕ)) → AllRead rs
-    → map handFor rs ≡ take (start c .args .number) (start c .args .t4) → SettlesAll (start c .args .p) (start c .args .first) rs (c .settle-hand .result)
+    → let a = start (c .before) .args in map handFor rs ≡ take (a .number) (a .t4) → SettlesAll (a .p) (a .first) rs (c .settle-hand .result)
 refused c l rs r e =
-    let a = start c .args in
-    let w = on c .before .loop in
     let given = c .before in
-    given-refused (a .p) (a .first) (a .number) (a .t4) (w .by) (w .i) (start c .pre .1) (room (start c)) (w .inv)
-    (on c .loop-test .taken) (given .before .to-foremost .result) (given .to-foremost2 .result) (given .before .to-foremost .ensures .0)
+    let z = start given in
+    let a = z .args in
+    let w = turn given .before .loop in
+    given-refused (a .p) (a .first) (a .number) (a .t4) (w .by) (w .i) (z .pre .1) (room z) (w .inv)
+    (turn given .loop-test .taken) (given .before .to-foremost .result) (given .to-foremost2 .result) (given .before .to-foremost .ensures .0)
     (given .to-foremost2 .ensures .0) (c .settle-hand .result) (c .settle-hand .ensures .1) rs r e l
+
+-- and after it is paid
+abbrev settled : tie.After-pay Inv-loop μ-loop → tie.After-settle-hand Inv-loop μ-loop
+settled c = let else1 = c .before .before in else1 .before .before
 
 pub settle-all-spec : {M : Type 1} → statement M
 settle-all-spec =
@@ -58,31 +63,34 @@ settle-all-spec =
     (λ c κs. tt)
     (λ c κs. tt)
     (λ c κs.
-    let turn = c .before .before .before .before in
-    let z = turn .before .before in
+    let t = turn c in
+    let z = start c in
     let o = z .pre .0 in (
       o,
-      z .pre .2 (turn .before .loop .i) (turn .loop-test .taken),
+      z .pre .2 (t .before .loop .i) (t .loop-test .taken),
       omega (arith, c .before .to-foremost .ensures .1, o .form .counter, o .hands),
       omega (arith, c .to-foremost2 .ensures .1, few-sticks (z .args .p) (o .form)),
     ))
     (λ c. let t = c .before .before in (gifts-small (t .settle-hand .result .gives) (t .settle-hand .ensures .0), refused t (omega (arith, c .if1 .taken))))
     (λ c κs.
-    let t = c .before .before .before in
-    let a = start t .args in
-    let w = on t .before .loop in (
-      given-small (a .p) (a .first) (a .number) (a .t4) (w .by) (w .i) (start t .pre .1) (room (start t)) (w .inv),
+    let else1 = c .before in
+    let t = else1 .before .before in
+    let z = start (t .before) in
+    let a = z .args in
+    let w = turn (t .before) .before .loop in (
+      given-small (a .p) (a .first) (a .number) (a .t4) (w .by) (w .i) (z .pre .1) (room z) (w .inv),
       gifts-small (t .settle-hand .result .gives) (t .settle-hand .ensures .0),
     ))
-    (λ c. record { fits = omega (arith, place (on (c .before .before .before .before))) })
-    (λ c. omega (arith, on (c .before .before .before .before) .loop-test .taken))
+    (λ c. let t = settled c in record { fits = omega (arith, place (turn (t .before))) })
+    (λ c. let t = settled c in omega (arith, turn (t .before) .loop-test .taken))
     (λ c.
-    let t = c .before .before .before .before in
-    let a = start t .args in
-    let w = on t .before .loop in
+    let t = settled c in
     let given = t .before in
-    given-more (a .p) (a .first) (a .number) (a .t4) (w .by) (w .i) (start t .pre .1) (room (start t)) (w .inv)
-    (on t .loop-test .taken) (given .before .to-foremost .result) (given .to-foremost2 .result) (given .before .to-foremost .ensures .0)
+    let z = start given in
+    let a = z .args in
+    let w = turn given .before .loop in
+    given-more (a .p) (a .first) (a .number) (a .t4) (w .by) (w .i) (z .pre .1) (room z) (w .inv)
+    (turn given .loop-test .taken) (given .before .to-foremost .result) (given .to-foremost2 .result) (given .before .to-foremost .ensures .0)
     (given .to-foremost2 .ensures .0)
     (t .settle-hand .result) (t .settle-hand .ensures .1) (omega (arith, c .before .before .if1 .left)) (t .settle-hand .ensures .0)
     (c .pay .result) (c .pay .ensures))

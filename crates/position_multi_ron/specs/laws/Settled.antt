@@ -20,18 +20,15 @@ use Rattle.hand_rons.specs.laws.Hands.{blank, that-number, hand-at}
 use Rattle.position.specs.declared.Position.{Position}
 use Rattle.position.specs.Booking.{result, multiRon}
 use Rattle.position.specs.Ledger.{winGives, refusalFor, multiRonGives, effectOf, applied, after, Moves, recordRefusals}
-use Rattle.position.specs.laws.First.{winRefusal, firstRefused}
+use Rattle.position.specs.search.First.{winRefusal, firstRefused}
 use Rattle.position.specs.laws.Bounds.{mostGift}
 use Rattle.position.specs.laws.Sums.{Small, Gifts, paid, paid-within}
 use Rattle.position_moves.specs.laws.Steps.{finished}
 use Rattle.position_win.specs.declared.Settled.{Settled}
 use Rattle.position_win.specs.laws.Settling.{IsSettled}
+pub use Rattle.position_multi_ron.specs.search.Settled.{AllBounds, SettlesAll, RonsBooked, BooksHands}
 
 -- ---- hands of records that read
-
--- the first n of the hands hs are within Read's ranges
-abbrev pub AllBounds : ℕ → List Hand → Type 0
-AllBounds n hs = (i : ℕ) → i < n → Bounds (getD hs i blank)
 
 pub read-at : (rs : List (List ℕ)) → AllRead rs → (i : ℕ) → i < length rs → Read (getD rs i [])
 read-at [] r i l = absurd (omega arith)
@@ -72,10 +69,6 @@ paid-next l f h =
 -- ---- hands, one after the other
 
 module _ (g : Position) (x : ℕ) where
-  -- what records rs come to
-  abbrev pub SettlesAll : List (List ℕ) → Settled → Type 0
-  SettlesAll rs r = (r .refusal ≡ firstRefused g rs) × (r .refusal ≡ 0 → r .gives ≡ tabulate 4 0 (multiRonGives g x rs))
-
   -- after i of n hands, none refused, that give `by`
   pub record Given (n : ℕ) (hs : List Hand) (by : List ℤ) (i : ℕ) : Type 0 where
     pub inside : i ≤ n
@@ -107,7 +100,7 @@ module _ (g : Position) (x : ℕ) where
     given-small j l = let y = w .within j in let m = w .inside in (omega arith, omega arith)
 
     -- all are settled
-    pub given-all : n ≤ i → (rs : List (List ℕ)) → AllRead rs → map handFor rs ≡ take n hs → SettlesAll rs (record { refusal = 0; winner = x; gives = by })
+    pub given-all : n ≤ i → (rs : List (List ℕ)) → AllRead rs → map handFor rs ≡ take n hs → SettlesAll g x rs (record { refusal = 0; winner = x; gives = by })
     unfolding recordRefusals multiRonGives
     given-all l rs r e =
         let m : i ≡ length rs = omega (arith, w .inside, that-number n hs room rs e) in
@@ -133,7 +126,7 @@ module _ (g : Position) (x : ℕ) where
         settled = v (getD rs i []) (read-at rs r i inside-records) (hand-at n hs room rs e i l)
 
         -- it is refused
-        pub given-refused : 0 < t .refusal → SettlesAll rs t
+        pub given-refused : 0 < t .refusal → SettlesAll g x rs t
         unfolding recordRefusals
         given-refused p =
             let q : winRefusal g (getD rs i []) ≡ t .refusal = sym (settled .0) in
@@ -180,14 +173,10 @@ module _ (g : Position) (number : ℕ) (s : List ℕ) where
   abbrev rs : List (List ℕ)
   rs = recordsOf number s
 
-  -- of rons on one tile that read, in an open position
-  abbrev pub RonsBooked : ℕ → Position → Type 0
-  RonsBooked n k = (n ≡ firstRefused g rs) × (k ≡ cond (ltb 0 (firstRefused g rs)) g (applied g (effectOf g (result (multiRon number s)))))
-
-  pub rons-refused : (n : ℕ) → n ≡ firstRefused g rs → 0 < n → RonsBooked n g
+  pub rons-refused : (n : ℕ) → n ≡ firstRefused g rs → 0 < n → RonsBooked g number s n g
   rons-refused n e l = let t : ltb 0 (firstRefused g rs) ≡ true = lt-ltb 0 (firstRefused g rs) (omega arith) in (e, rw t)
 
-  pub rons-accepted : (k : Position) → firstRefused g rs ≡ 0 → k ≡ applied g (effectOf g (result (multiRon number s))) → RonsBooked 0 k
+  pub rons-accepted : (k : Position) → firstRefused g rs ≡ 0 → k ≡ applied g (effectOf g (result (multiRon number s))) → RonsBooked g number s 0 k
   rons-accepted k e q = (sym e, rw e q)
 
   -- x the first winner, dealers whether the dealer is one
@@ -200,15 +189,10 @@ module _ (g : Position) (number : ℕ) (s : List ℕ) where
       rw (c, b, w, z)
 
   -- rons that are booked are the booking
-  pub rons-booked : (n : ℕ) (k : Position) → refusalFor g (result (multiRon number s)) ≡ firstRefused g rs → RonsBooked n k
+  pub rons-booked : (n : ℕ) (k : Position) → refusalFor g (result (multiRon number s)) ≡ firstRefused g rs → RonsBooked g number s n k
       → Moves g (result (multiRon number s)) n k
   unfolding after
   rons-booked n k q w = rw q (w .0, w .1)
-
--- of each list of bytes whose records read as the hands hs
-abbrev pub BooksHands : Position → ℕ → List Hand → ℕ → Position → Type 0
-BooksHands g number hs n k =
-    (s : List ℕ) → firstUnreadable (recordsOf number s) ≡ 0 → map handFor (recordsOf number s) ≡ take number hs → RonsBooked g number s n k
 
 -- one to three
 pub some-few : (n : ℕ) → eqb n 0 || ltb 3 n ≡ false → (1 ≤ n) × (n ≤ 3)

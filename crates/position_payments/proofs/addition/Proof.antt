@@ -11,7 +11,7 @@ addition-spec =
     (tie.spec
     (λ c. search needs) (λ c κs. let p = c .before .pre in omega arith)
     (λ c. search needs) (λ c κs. search needs)
-    (λ c κs. let p = c .before .before .before .pre in omega (arith, c .due .ensures .1))
+    (λ c κs. let then2 = c .before in let p = then2 .before .before .pre in omega (arith, c .due .ensures .1))
     (λ c. search needs)
     (λ c κs. let p = c .before .before .pre in omega arith)
     (λ c.

@@ -12,7 +12,8 @@ owed-spec =
     (λ c.
     let second = c .before .before in
     let first = second .before in
-    let l = first .before .before .before .pre in
+    let then1 = first .before in
+    let l = then1 .before .before .pre in
     omega (arith, first .due .ensures .1, second .due2 .ensures .1))
     (λ c κs. search needs)
     (λ c.

@@ -28,10 +28,10 @@ share-spec =
     tie.close
     (tie.spec
     (λ c. (rw (c .if1 .taken), search needs))
-    (λ c. between (c .before .before .args .n) (c .before .before .pre) (c .before .if1 .left) .0)
+    (λ c. let s = c .before .before in between (s .args .n) (s .pre) (c .before .if1 .left) .0)
     (λ c κs. small (c .before .before .args .n))
     (λ c. search needs)
-    (λ c. omega (arith, between (c .before .before .args .n) (c .before .before .pre) (c .before .if1 .left)))
+    (λ c. let s = c .before .before in omega (arith, between (s .args .n) (s .pre) (c .before .if1 .left)))
     (λ c κs. small (4 - c .before .before .args .n))
     (λ c.
     let ready = c .before in

@@ -14,13 +14,14 @@ shares-spec =
     tie.close
     (tie.spec (λ c κs. search needs) (λ c. search needs) (λ c κs. search needs) (λ c. search needs) (λ c κs. search needs) (λ c. search needs)
     (λ c κs. search needs) (λ c. search needs) (λ c κs. search needs)
-    (λ c. four (c .before .before .before .share .result) (c .before .before .share2 .result) (c .before .share3 .result) (c .share4 .result)
-    (λ i. shareOf (count 4 (λ j. getD (c .before .before .before .before .before .args .t1) j false))
-    (getD (c .before .before .before .before .before .args .t1) i false)) (
-      c .before .before .before .share .ensures .0 ∙ rw
-          (c .before .before .before .before .count-true .ensures .0),
-      c .before .before .before .share .ensures .1,
-    )
-    (c .before .before .share2 .ensures .0 ∙ rw (c .before .before .before .before .count-true .ensures .0), c .before .before .share2 .ensures .1)
-    (c .before .share3 .ensures .0 ∙ rw (c .before .before .before .before .count-true .ensures .0), c .before .share3 .ensures .1)
-    (c .share4 .ensures .0 ∙ rw (c .before .before .before .before .count-true .ensures .0), c .share4 .ensures .1)))
+    (λ c.
+    let share2 = c .before .before in
+    let share = share2 .before in
+    let n = share .before .count-true .ensures .0 in
+    let ready = share .before .before .args .t1 in
+    four (share .share .result) (share2 .share2 .result) (c .before .share3 .result) (c .share4 .result)
+    (λ i. shareOf (count 4 (λ j. getD ready j false)) (getD ready i false))
+    (share .share .ensures .0 ∙ rw n, share .share .ensures .1)
+    (share2 .share2 .ensures .0 ∙ rw n, share2 .share2 .ensures .1)
+    (c .before .share3 .ensures .0 ∙ rw n, c .before .share3 .ensures .1)
+    (c .share4 .ensures .0 ∙ rw n, c .share4 .ensures .1)))

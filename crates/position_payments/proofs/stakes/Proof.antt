@@ -11,6 +11,9 @@ pub stakes-spec : {M : Type 1} → statement M
 stakes-spec =
     tie.close
     (tie.spec (λ c κs. search needs) (λ c κs. search needs) (λ c κs. search needs) (λ c κs. search needs)
-    (λ c. four (c .before .before .before .stake .result) (c .before .before .stake2 .result) (c .before .stake3 .result) (c .stake4 .result)
-    (λ i. cond (eqb i (c .before .before .before .before .args .seat)) (negℤ (pos 1000)) (pos 0))
-    (c .before .before .before .stake .ensures) (c .before .before .stake2 .ensures) (c .before .stake3 .ensures) (c .stake4 .ensures)))
+    (λ c.
+    let stake2 = c .before .before in
+    let stake = stake2 .before in
+    four (stake .stake .result) (stake2 .stake2 .result) (c .before .stake3 .result) (c .stake4 .result)
+    (λ i. cond (eqb i (stake .before .args .seat)) (negℤ (pos 1000)) (pos 0))
+    (stake .stake .ensures) (stake2 .stake2 .ensures) (c .before .stake3 .ensures) (c .stake4 .ensures)))

@@ -2,7 +2,6 @@
 use Prim.Native.Nat.{ℕ, _*_, _≤_}
 use mathlib.Core.Path.{_≡_, _∙_}
 use mathlib.Core.Bool.{cond}
-use mathlib.Core.List.{List}
 use native.Mathlib.Omega.{arith}
 use borrow.Author.Needs.{needs}
 use lib.Dec.{eqb}
@@ -10,7 +9,7 @@ use lib.IntN.{ℤ, pos, _+ℤ_}
 use lib.ListN.{getD}
 use Rattle.score.specs.laws.Z.{Within}
 use Rattle.position.specs.laws.Bounds.{mostChange, mostSticks, mostGift}
-use Rattle.position.specs.laws.Sums.{Changes, B32, held, four-within}
+use Rattle.position.specs.laws.Sums.{B32, held, four-within}
 use Rattle.position_payments.proofs.winnings.Statement.{statement}
 use Rattle.position_payments.proofs.winnings.Tie as tie
 
@@ -18,39 +17,50 @@ same : (z : ℤ) → Within z mostChange → B32 z ≡ z
 same z w = held z (omega arith, omega arith)
 
 -- what a call asks, and what it gives, of a change and an addition as they stand in 32 bits
-module _ (c a : List ℤ) (p : Changes c) (q : Changes a) (winner k : ℕ) where
-  asked : k ≤ mostSticks → (i : ℕ) → Within (B32 (getD c i (pos 0))) mostChange × Within (B32 (getD a i (pos 0))) mostChange × (k ≤ mostSticks)
-  asked l i = rw (same (getD c i (pos 0)) (p i), same (getD a i (pos 0)) (q i)) (p i, q i, l)
+module _ (c : tie.Start) (i : ℕ) where
+  abbrev change : ℤ
+  change = getD (c .args .t1) i (pos 0)
 
-  given : (i : ℕ) (y : ℤ) → y ≡ B32 (getD c i (pos 0)) +ℤ B32 (getD a i (pos 0)) +ℤ cond (eqb i winner) (pos (1000 * k)) (pos 0)
-      → y ≡ getD c i (pos 0) +ℤ getD a i (pos 0) +ℤ cond (eqb i winner) (pos (1000 * k)) (pos 0)
-  given i y e = e ∙ rw (same (getD c i (pos 0)) (p i), same (getD a i (pos 0)) (q i))
+  abbrev more : ℤ
+  more = getD (c .args .t2) i (pos 0)
+
+  abbrev sticks : ℤ
+  sticks = cond (eqb i (c .args .winner)) (pos (1000 * c .args .sticks)) (pos 0)
+
+  asked : Within (B32 change) mostChange × Within (B32 more) mostChange × (c .args .sticks ≤ mostSticks)
+  asked = rw (same change (c .pre .0 i), same more (c .pre .1 i)) (c .pre .0 i, c .pre .1 i, c .pre .2)
+
+  given : (y : ℤ) → y ≡ B32 change +ℤ B32 more +ℤ sticks → y ≡ change +ℤ more +ℤ sticks
+  given y e = e ∙ rw (same change (c .pre .0 i), same more (c .pre .1 i))
+
+-- from after the call for a seat
+abbrev start : tie.After-winning → tie.Start
+start c = let read = c .before in read .before .before
+
+abbrev first : tie.After-winning2 → tie.After-winning
+first c = let read = c .before in read .before .before
+
+abbrev second : tie.After-winning3 → tie.After-winning2
+second c = let read = c .before in read .before .before
 
 pub winnings-spec : {M : Type 1} → statement M
 winnings-spec =
     tie.close
     (tie.spec
     (λ c. search needs) (λ c. search needs)
-    (λ c κs. let start = c .before .before in
-    asked (start .args .t1) (start .args .t2) (start .pre .0) (start .pre .1) (start .args .winner) (start .args .sticks) (start .pre .2) 0)
+    (λ c κs. asked (c .before .before) 0)
     (λ c. search needs) (λ c. search needs)
-    (λ c κs. let start = c .before .before .before .before .before in
-    asked (start .args .t1) (start .args .t2) (start .pre .0) (start .pre .1) (start .args .winner) (start .args .sticks) (start .pre .2) 1)
+    (λ c κs. asked (start (c .before .before)) 1)
     (λ c. search needs) (λ c. search needs)
-    (λ c κs. let start = c .before .before .before .before .before .before .before .before in
-    asked (start .args .t1) (start .args .t2) (start .pre .0) (start .pre .1) (start .args .winner) (start .args .sticks) (start .pre .2) 2)
+    (λ c κs. asked (start (first (c .before .before))) 2)
     (λ c. search needs) (λ c. search needs)
-    (λ c κs. let start = c .before .before .before .before .before .before .before .before .before .before .before in
-    asked (start .args .t1) (start .args .t2) (start .pre .0) (start .pre .1) (start .args .winner) (start .args .sticks) (start .pre .2) 3)
+    (λ c κs. asked (start (first (second (c .before .before)))) 3)
     (λ c.
-    let third = c .before .before .before in
-    let second = third .before .before .before in
-    let first = second .before .before .before in
-    let start = first .before .before .before in
-    let seat = given (start .args .t1) (start .args .t2) (start .pre .0) (start .pre .1) (start .args .winner) (start .args .sticks) in
-    four-within mostGift (omega arith) (first .winning .result) (second .winning2 .result) (third .winning3 .result) (c .winning4 .result)
-    (λ i. getD (start .args .t1) i (pos 0) +ℤ getD (start .args .t2) i (pos 0) +ℤ cond (eqb i (start .args .winner)) (pos (1000 * start .args .sticks)) (pos 0))
-    (seat 0 (first .winning .result) (first .winning .ensures .0), first .winning .ensures .1)
-    (seat 1 (second .winning2 .result) (second .winning2 .ensures .0), second .winning2 .ensures .1)
-    (seat 2 (third .winning3 .result) (third .winning3 .ensures .0), third .winning3 .ensures .1)
-    (seat 3 (c .winning4 .result) (c .winning4 .ensures .0), c .winning4 .ensures .1)))
+    let read = c .before in let w3 = read .before .before in
+    let w2 = second w3 in let w1 = first w2 in let s = start w1 in
+    four-within mostGift (omega arith) (w1 .winning .result) (w2 .winning2 .result) (w3 .winning3 .result) (c .winning4 .result)
+    (λ i. change s i +ℤ more s i +ℤ sticks s i)
+    (given s 0 (w1 .winning .result) (w1 .winning .ensures .0), w1 .winning .ensures .1)
+    (given s 1 (w2 .winning2 .result) (w2 .winning2 .ensures .0), w2 .winning2 .ensures .1)
+    (given s 2 (w3 .winning3 .result) (w3 .winning3 .ensures .0), w3 .winning3 .ensures .1)
+    (given s 3 (c .winning4 .result) (c .winning4 .ensures .0), c .winning4 .ensures .1)))

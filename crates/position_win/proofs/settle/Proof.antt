@@ -14,19 +14,22 @@ settle-spec =
     (tie.spec
     (λ c κs. search needs) (λ c. search needs) (λ c. search needs) (λ c κs. search needs) (λ c κs. search needs)
     (λ c.
-    let r = c .before .before .before .before in
+    let told = c .before .before in
+    let r = told .before .before in
     let z = r .before .before in
     let a = z .args in
     let n = c .before .refusal .result in
-    let q = refused-read (a .s .now) (r .read .result) (r .read .ensures) _ n (c .before .before .enum-told .given .1) (c .before .refusal .ensures) in
+    let q = refused-read (a .s .now) (r .read .result) (r .read .ensures) _ n (told .enum-told .given .1) (c .before .refusal .ensures) in
     settled-unreadable (a .p) (a .s .now) (a .n) (a .k) (z .pre .0) (c .unsettled .result) n (c .unsettled .ensures) (q .0) (q .1))
     (λ c κs.
-    let r = c .before .before .before .before in
+    let sound = c .before .before in
+    let r = sound .before .before in
     let z = r .before .before in
-    (z .pre .0, hand-bounds (z .args .s .now) (r .read .result) (r .read .ensures) _ (c .before .before .a .given .1), z .pre .1, z .pre .2))
+    (z .pre .0, hand-bounds (z .args .s .now) (r .read .result) (r .read .ensures) _ (sound .a .given .1), z .pre .1, z .pre .2))
     (λ c.
-    let r = c .before .before .before .before .before in
+    let held = c .before in
+    let sound = held .before .before in
+    let r = sound .before .before in
     let s = r .before .before .args .s .now in
-    let sound = c .before .before .before .a .given .1 in
-    c .settle-hand .ensures .1 s (ap refusalIn (answer-is s (r .read .result) (r .read .ensures) sound))
-    (hand-is s (r .read .result) (r .read .ensures) _ sound)))
+    c .settle-hand .ensures .1 s (ap refusalIn (answer-is s (r .read .result) (r .read .ensures) (sound .a .given .1)))
+    (hand-is s (r .read .result) (r .read .ensures) _ (sound .a .given .1))))

@@ -10,13 +10,13 @@ use Rattle.position_win.proofs.settle_scored.Tie as tie
 
 -- where both tests are past
 abbrev scored : tie.Else2 → tie.Else1
-scored c = c .before .before .before
+scored c = let mismatch = c .before in mismatch .before .before
 
 abbrev start : tie.Else2 → tie.Start
 start c = scored c .before .before
 
 abbrev past : tie.After-won → tie.Else2
-past c = c .before .before .before
+past c = let changes = c .before in changes .before .before
 
 pub settle-scored-spec : {M : Type 1} → statement M
 settle-scored-spec =
@@ -31,10 +31,11 @@ settle-scored-spec =
     (λ c. search needs) (λ c. search needs) (λ c κs. search needs) (λ c κs. search needs)
     (λ c.
     let told = c .before in
-    let past = told .before .before .before in
-    let a = past .before .before .args in
+    let mismatch = told .before in
+    let else1 = mismatch .before .before in
+    let a = else1 .before .before .args in
     won-refused (a .p) (a .f) (a .v) (a .liable) (a .n) (a .k) (c .unsettled2 .result) 11 (c .unsettled2 .ensures)
-    (won-scored (a .p) (a .f) (a .v) (a .liable) (a .n) (a .k) (past .if1 .left) true (sym (told .before .mismatch .ensures) ∙ told .if2 .taken)) (omega arith))
+    (won-scored (a .p) (a .f) (a .v) (a .liable) (a .n) (a .k) (else1 .if1 .left) true (sym (mismatch .mismatch .ensures) ∙ told .if2 .taken)) (omega arith))
     (λ c κs.
     let s = start (c .before .before) in
     let p = s .pre in

@@ -20,7 +20,7 @@ use Rattle.position.specs.Booking.{result, win}
 use Rattle.position.specs.Ledger.{isSet, isDeclared, notOpen, handFor, scoredFor, paidByOthers, Liable, owes, liableBy, liableIn, wholeOf, isDealersWin}
 use Rattle.position.specs.Ledger.{payments, holdsFourWinds, winGives, effectOf, applied}
 use Rattle.position.specs.laws.PaidByOthers.{sticksTo}
-use Rattle.position.specs.laws.First.{winRefusal}
+use Rattle.position.specs.search.First.{winRefusal}
 use Rattle.position.specs.laws.Form.{Open}
 use Rattle.position.specs.laws.Owed.{score-paid}
 use Rattle.position.specs.laws.Sums.{Gifts, zeros-gifts}
@@ -28,10 +28,7 @@ use Rattle.position_moves.specs.laws.Steps.{finished}
 use Rattle.position_payments.specs.search.Parts.{paoPays, repeatPays}
 use Rattle.position_payments.specs.laws.Parts.{gainPays, in-parts}
 use Rattle.position_win.specs.declared.Settled.{Settled}
-
--- what a win with changes c and additions a gives each seat, the winner taking k sticks
-abbrev pub winningsOf : List ℤ → List ℤ → ℕ → ℕ → List ℤ
-winningsOf c a winner k = tabulate 4 0 (λ i. getD c i (pos 0) +ℤ getD a i (pos 0) +ℤ cond (eqb i winner) (pos (1000 * k)) (pos 0))
+pub use Rattle.position_win.specs.search.Settling.{winningsOf, nothing, mismatched, wonRefusal, paoGives, changesOf, additionsOf, SettledAs, IsSettled}
 
 -- c, or what `by` says of each seat where t: seat by seat
 seat-by-seat : (by : ℕ → ℤ) (c a : List ℤ) (winner k : ℕ) (t : Bool) →
@@ -39,10 +36,6 @@ seat-by-seat : (by : ℕ → ℤ) (c a : List ℤ) (winner k : ℕ) (t : Bool) �
     ≡ tabulate 4 0 (λ i. cond t (by i) (getD c i (pos 0)) +ℤ getD a i (pos 0) +ℤ cond (eqb i winner) (pos (1000 * k)) (pos 0))
 seat-by-seat by c a winner k true = refl
 seat-by-seat by c a winner k false = refl
-
--- nothing, with a refusal
-abbrev pub nothing : ℕ → Settled
-nothing n = record { refusal = n; winner = 0; gives = pos 0 ∷ pos 0 ∷ pos 0 ∷ pos 0 ∷ [] }
 
 -- who is liable for the yaku that is reported of record s
 abbrev pub liableOf : Position → List ℕ → Liable
@@ -54,52 +47,23 @@ liableOf g s =
 
 -- a win with the fields f that scores v; liable is 0, or 1 + the feeder of the yaku that is reported; the winner takes n counters and k sticks
 module _ (g : Position) (f : Fields) (v : Scored) (liable n k : ℕ) where
-  -- 11's condition
-  abbrev mismatched : Bool
-  mismatched = cond (ltb 0 (f .riichi)) (not (isDeclared g (f .winner))) (isDeclared g (f .winner))
-
-  abbrev pub wonRefusal : ℕ
-  wonRefusal = cond (ltb 0 (v .refusal)) (v .refusal) (cond mismatched 11 0)
-
-  -- what article 67 gives
-  abbrev pao-gives : ℕ → ℤ
-  pao-gives = paidByOthers (f .winner) (paoPays (f .discarder) (liable - 1) (isRon f) (wholeOf (eqb (f .winner) (g .dealer))))
-
-  -- the changes, or what article 67 gives
-  abbrev pub changesOf : List ℤ
-  changesOf = cond (isSet liable) (tabulate 4 0 pao-gives) (v .changes)
-
-  -- what the counters add
-  abbrev pub additionsOf : List ℤ
-  additionsOf = tabulate 4 0 (paidByOthers (f .winner) (repeatPays (cond (isRon f) (f .discarder) (liable - 1)) (isRon f || isSet liable) n))
-
-  -- what it comes to
-  abbrev pub SettledAs : Settled → Type 0
-  SettledAs r =
-      (r .refusal ≡ wonRefusal) × (r .refusal ≡ 0 → (r .winner ≡ f .winner) × (r .gives ≡ winningsOf changesOf additionsOf (f .winner) k)) × Gifts (r .gives)
-
-  pub won-refused : (r : Settled) (m : ℕ) → r ≡ nothing m → wonRefusal ≡ m → 0 < m → SettledAs r
+  pub won-refused : (r : Settled) (m : ℕ) → r ≡ nothing m → wonRefusal g f v ≡ m → 0 < m → SettledAs g f v liable n k r
   won-refused r m e q l = rw e (sym q, λ z. absurd (omega arith), zeros-gifts)
 
-  pub won-accepted : (c a by : List ℤ) → wonRefusal ≡ 0 → c ≡ changesOf → a ≡ additionsOf → by ≡ winningsOf c a (f .winner) k → Gifts by
-      → SettledAs (record { refusal = 0; winner = f .winner; gives = by })
+  pub won-accepted : (c a by : List ℤ) → wonRefusal g f v ≡ 0 → c ≡ changesOf g f v liable → a ≡ additionsOf f liable n
+      → by ≡ winningsOf c a (f .winner) k → Gifts by
+      → SettledAs g f v liable n k (record { refusal = 0; winner = f .winner; gives = by })
   won-accepted c a by q y x p w = (sym q, λ z. (refl, p ∙ rw (y, x)), w)
 
-  pub won-unscored : 0 < v .refusal → wonRefusal ≡ v .refusal
+  pub won-unscored : 0 < v .refusal → wonRefusal g f v ≡ v .refusal
   won-unscored l = rw (lt-ltb 0 (v .refusal) l)
 
-  pub won-scored : v .refusal ≤ 0 → (b : Bool) → mismatched ≡ b → wonRefusal ≡ cond b 11 0
+  pub won-scored : v .refusal ≤ 0 → (b : Bool) → mismatched g f ≡ b → wonRefusal g f v ≡ cond b 11 0
   won-scored l b q = rw (le-ltb 0 (v .refusal) l, q)
 
 -- ---- a record
 
 module _ (g : Position) (s : List ℕ) (n k : ℕ) where
-  -- what its settling comes to
-  abbrev pub IsSettled : Settled → Type 0
-  IsSettled r =
-      (r .refusal ≡ winRefusal g s) × (r .refusal ≡ 0 → (r .winner ≡ handFor s .fields .winner) × (r .gives ≡ tabulate 4 0 (winGives g s n k)))
-      × Gifts (r .gives)
-
   -- the code's parts are what the table says, liable being 0 or 1 + the feeder
   module _ (liable : ℕ) (e : liableBy liable ≡ liableOf g s) where
     abbrev f : Fields
@@ -115,12 +79,12 @@ module _ (g : Position) (s : List ℕ) (n k : ℕ) where
     whole = wholeOf (isDealersWin g s)
 
     abbrev change : ℕ → ℤ
-    change i = cond (isSet liable) (pao-gives g f v liable n k i) (getD (v .changes) i (pos 0))
+    change i = cond (isSet liable) (paoGives g f liable i) (getD (v .changes) i (pos 0))
 
     gain-part : (i : ℕ) → change i ≡ paidByOthers (f .winner) (gainPays taken (f .discarder) whole n liable (isRon f)) i
     gain-part i = go (isSet liable)
       where
-        go : (t : Bool) → cond t (pao-gives g f v liable n k i) (getD (v .changes) i (pos 0))
+        go : (t : Bool) → cond t (paoGives g f liable i) (getD (v .changes) i (pos 0))
             ≡ paidByOthers (f .winner) (λ j. cond t (paoPays (f .discarder) (liable - 1) (isRon f) whole j) (taken j)) i
         go true = refl
         go false = sym (score-paid s (g .dealer) (g .wind) i)
@@ -135,18 +99,18 @@ module _ (g : Position) (s : List ℕ) (n k : ℕ) where
         ∙ ap (λ (z : ℤ). z +ℤ sticksTo s k i) (sym (in-parts taken (f .discarder) whole n (f .winner) liable (isRon f) i))
         ∙ ap (λ (who : Liable). paidByOthers (f .winner) (owes taken (f .discarder) whole n who (isRon f)) i +ℤ sticksTo s k i) e
 
-    winnings-are : winningsOf (changesOf g f v liable n k) (additionsOf g f v liable n k) (f .winner) k ≡ tabulate 4 0 (winGives g s n k)
+    winnings-are : winningsOf (changesOf g f v liable) (additionsOf f liable n) (f .winner) k ≡ tabulate 4 0 (winGives g s n k)
     winnings-are =
-        seat-by-seat (pao-gives g f v liable n k) (v .changes) (additionsOf g f v liable n k) (f .winner) k (isSet liable)
+        seat-by-seat (paoGives g f liable) (v .changes) (additionsOf f liable n) (f .winner) k (isSet liable)
         ∙ rw (both-parts 0, both-parts 1, both-parts 2, both-parts 3)
 
   pub settled-read : (h : Hand) (v : Scored) (liable : ℕ) (r : Settled) → h ≡ handFor s → v ≡ scoredFor g s → liableBy liable ≡ liableOf g s
-      → SettledAs g (h .fields) v liable n k r → IsSettled r
+      → SettledAs g (h .fields) v liable n k r → IsSettled g s n k r
   settled-read h v liable r p q e w =
       let a = w .1 in
       (rw (p, q) at (w .0), (λ z. let y = rw (p, q) at (a z) in (y .0, y .1 ∙ winnings-are liable e)), w .2)
 
-  pub settled-unreadable : Open g → (r : Settled) (m : ℕ) → r ≡ nothing m → refusalIn (readOf s .answer) ≡ m → 0 < m → IsSettled r
+  pub settled-unreadable : Open g → (r : Settled) (m : ℕ) → r ≡ nothing m → refusalIn (readOf s .answer) ≡ m → 0 < m → IsSettled g s n k r
   settled-unreadable o r m e q l =
       let f = o .form in
       let c : winRefusal g s ≡ m = rw (score-unreadable s (g .dealer) (g .wind) (f .dealer) (f .wind) m q l, lt-ltb 0 m l) in

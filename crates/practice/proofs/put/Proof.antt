@@ -8,5 +8,5 @@ use Rattle.practice.proofs.put.Tie as tie
 pub put-spec : {M : Type 1} → statement M
 put-spec =
     tie.close
-    (tie.spec (λ c. sym (length-take-le (c .before .before .before .args .n) (c .before .before .before .args .line .now) (c .before .if1 .taken)))
+    (tie.spec (λ c. let then1 = c .before in let s = then1 .before .before .args in sym (length-take-le (s .n) (s .line .now) (then1 .if1 .taken)))
     (λ c κs. search needs) (λ c. search needs) (λ c. search needs))

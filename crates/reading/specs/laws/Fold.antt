@@ -23,6 +23,7 @@ use Rattle.reading.specs.laws.Splits.{splits-sound}
 use Rattle.reading.specs.search.Pairs.{Among, OnlyPairs}
 use Rattle.reading.specs.laws.Pairs.{no-splits}
 use Rattle.reading.specs.laws.Found.{Stored, behind, behind-three}
+unfoldable pub use Rattle.reading.specs.search.Folded.{ranged}
 
 drop-replicate : (a j m n : ℕ) → j + m ≡ n → drop j (replicate n a) ≡ replicate m a
 drop-replicate a zero m n e = let q : m ≡ n = omega arith in rw q
@@ -71,40 +72,38 @@ module _ {B : Type 0} (keeper : B → Reading → B) where
   folded-none b f e h = rw h
 
   -- ---- a loop over numbers: what is left is that of i, i + 1, .., n - 1
-  unfoldable pub ranged : (ℕ → List Reading) → ℕ → ℕ → B → B
-  ranged f n i b = folded keeper b (concatMap f (tabulate (n - i) i (λ k. k)))
-
-  pub ranged-turn : (f : ℕ → List Reading) (n i : ℕ) (b x : B) → i < n → x ≡ folded keeper b (f i) → ranged f n (i + 1) x ≡ ranged f n i b
+  pub ranged-turn : (f : ℕ → List Reading) (n i : ℕ) (b x : B) → i < n → x ≡ folded keeper b (f i) → ranged keeper f n (i + 1) x ≡ ranged keeper f n i b
   unfolding ranged concatMap
   ranged-turn f n i b x h e =
       let s : n - i ≡ suc (n - suc i) = omega arith in
       rw (add-one, s, e) (sym (folded-append b (f i) (concatMap f (tabulate (n - suc i) (suc i) (λ k. k)))))
 
-  pub ranged-done : (f : ℕ → List Reading) (n i : ℕ) (b : B) → n ≤ i → b ≡ ranged f n i b
+  pub ranged-done : (f : ℕ → List Reading) (n i : ℕ) (b : B) → n ≤ i → b ≡ ranged keeper f n i b
   unfolding ranged concatMap folded
   ranged-done f n i b h = let s : n - i ≡ 0 = omega arith in rw s
 
-  pub ranged-still : (f : ℕ → List Reading) (n i : ℕ) (b : B) → Still b → b ≡ ranged f n i b
+  pub ranged-still : (f : ℕ → List Reading) (n i : ℕ) (b : B) → Still b → b ≡ ranged keeper f n i b
   unfolding ranged
   ranged-still f n i b s = folded-still b s (concatMap f (tabulate (n - i) i (λ k. k)))
 
-  ranged-next : (f : ℕ → List Reading) (n i : ℕ) (b : B) → (i < n → b ≡ folded keeper b (f i)) → ranged f n (i + 1) b ≡ ranged f n i b
+  ranged-next : (f : ℕ → List Reading) (n i : ℕ) (b : B) → (i < n → b ≡ folded keeper b (f i)) → ranged keeper f n (i + 1) b ≡ ranged keeper f n i b
   ranged-next f n i b h = go (ltb i n) refl
     where
-      go : (e : Bool) → ltb i n ≡ e → ranged f n (i + 1) b ≡ ranged f n i b
+      go : (e : Bool) → ltb i n ≡ e → ranged keeper f n (i + 1) b ≡ ranged keeper f n i b
       go true e = let l = ltb-true i n e in ranged-turn f n i b b l (h l)
       go false e = let l = ltb-false i n e in sym (ranged-done f n (i + 1) b (omega arith)) ∙ ranged-done f n i b l
 
   -- the numbers from i to j give nothing
-  pub ranged-skip : (f : ℕ → List Reading) (n i j : ℕ) (b : B) → i ≤ j → ((k : ℕ) → i ≤ k → k < j → b ≡ folded keeper b (f k)) → ranged f n j b ≡ ranged f n i b
+  pub ranged-skip : (f : ℕ → List Reading) (n i j : ℕ) (b : B) → i ≤ j → ((k : ℕ) → i ≤ k → k < j → b ≡ folded keeper b (f k))
+      → ranged keeper f n j b ≡ ranged keeper f n i b
   ranged-skip f n i j b l h = go (j - i) i (omega arith) h
     where
-      go : (d i : ℕ) → i + d ≡ j → ((k : ℕ) → i ≤ k → k < j → b ≡ folded keeper b (f k)) → ranged f n j b ≡ ranged f n i b
-      go zero i e h = let q : j ≡ i = omega arith in ap (λ (x : ℕ). ranged f n x b) q
+      go : (d i : ℕ) → i + d ≡ j → ((k : ℕ) → i ≤ k → k < j → b ≡ folded keeper b (f k)) → ranged keeper f n j b ≡ ranged keeper f n i b
+      go zero i e h = let q : j ≡ i = omega arith in ap (λ (x : ℕ). ranged keeper f n x b) q
       go (suc d) i e h = go d (i + 1) (omega arith) (λ k u v. h k (omega arith) v) ∙ ranged-next f n i b (λ u. h i (omega arith) (omega arith))
 
   -- ---- the places of a pair and groups
-  pub placed-all : (n win pair : ℕ) (gs : List ℕ) (b : B) → ranged (placedAt win pair gs) (n + 1) 0 b ≡ folded keeper b (placed n win pair gs)
+  pub placed-all : (n win pair : ℕ) (gs : List ℕ) (b : B) → ranged keeper (placedAt win pair gs) (n + 1) 0 b ≡ folded keeper b (placed n win pair gs)
   unfolding ranged placed
   placed-all n win pair gs b = let s : n + 1 - 0 ≡ suc n = omega arith in rw s
 
@@ -113,7 +112,7 @@ module _ {B : Type 0} (keeper : B → Reading → B) where
     -- each of the splittings that are stored
     pub paired-with : (u : List ℕ) (old out : List (List ℕ)) (n : ℕ) (b x : B) → length t ≡ 34 → m ≤ 4 → 2 ≤ getD t k 0 → u ≡ less t k 2 → length old ≡ 3 →
         Stored old 0 (behind (4 - m) (68 ∷ 68 ∷ 68 ∷ 68 ∷ []) (4 - m) 0 u) out n →
-        x ≡ ranged (λ i. placed (4 - m) win k (getD out i [])) n 0 b → x ≡ folded keeper b (paired t m win k)
+        x ≡ ranged keeper (λ i. placed (4 - m) win k (getD out i [])) n 0 b → x ≡ folded keeper b (paired t m win k)
     unfolding paired ranged behind
     paired-with u old out n b x l h two e long s q =
         let v = less t k 2 in
@@ -157,6 +156,7 @@ module _ {B : Type 0} (keeper : B → Reading → B) where
     unfolding shaped
     shaped-none b h = folded-none b _ (eqb m 0) (ne-eqb m 0 h)
 
-    pub readings-with : (win : ℕ) (b x y : B) → x ≡ ranged (paired t m win) 34 0 b → y ≡ folded keeper x (shaped t m) → y ≡ folded keeper b (readings t m win)
+    pub readings-with : (win : ℕ) (b x y : B) → x ≡ ranged keeper (paired t m win) 34 0 b → y ≡ folded keeper x (shaped t m)
+        → y ≡ folded keeper b (readings t m win)
     unfolding ranged readings
     readings-with win b x y e f = rw (f, e) (sym (folded-append b (concatMap (paired t m win) (tabulate 34 0 (λ k. k))) (shaped t m)))

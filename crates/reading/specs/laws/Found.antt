@@ -9,11 +9,10 @@ use lib.ListN.{length, set, length-append, length-map}
 use lib.Seq.{sets}
 use Rattle.reading.specs.search.Readings.{when, isEmpty, fits, without, passes, step, splits}
 use Rattle.reading.specs.laws.Three.{splits-three}
+pub use Rattle.reading.specs.search.Stored.{Stored}
+unfoldable pub use Rattle.reading.specs.search.Stored.{behind}
 
--- ---- items stored from the place n on, and the place after them
-pub record Stored {A : Type 0} (old : List A) (n : ℕ) (xs new : List A) (next : ℕ) : Type 0 where
-  pub place : next ≡ n + length xs
-  pub items : new ≡ sets old n xs
+-- ---- what is left to store
 
 -- what is left to store gives the whole
 pub record Left {A : Type 0} (old : List A) (n : ℕ) (whole now : List A) (next : ℕ) (rest : List A) : Type 0 where
@@ -60,9 +59,7 @@ module _ {A : Type 0} where
       let v : length y ≡ length x = ap length i in
       omega (arith, s .place)
 
--- ---- the splittings of t into n groups from the code c on, each stored behind the size - n groups that so has
-unfoldable pub behind : ℕ → List ℕ → ℕ → ℕ → List ℕ → List (List ℕ)
-behind size prefix n c t = map (sets prefix (size - n)) (splits n (68 - c) c t)
+-- ---- splittings, each behind groups that are stored
 
 module _ (size : ℕ) where
   pub behind-three : (prefix : List ℕ) (n c : ℕ) (t : List ℕ) → n ≤ 4 → length t ≡ 34 → length (behind size prefix n c t) ≤ 3

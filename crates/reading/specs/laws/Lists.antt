@@ -60,7 +60,8 @@ module _ {A : Type 0} {R : A → A → Type 0} where
   pairwise-map f h (first {x = x} p r) = first (each-map f (h x) p) (pairwise-map f h r)
 
 -- the elements of f x have Q x: where S holds of x and y, R holds between what has Q x and what has Q y
-module _ {A B : Type 0} {R : B → B → Type 0} {S : A → A → Type 0} (f : A → List B) (Q : A → B → Type 0) (q : (x : A) → Each (Q x) (f x)) (s : (x : A) → Pairwise R (f x)) (r : (x y : A) (a b : B) → S x y → Q x a → Q y b → R a b) where
+module _ {A B : Type 0} {R : B → B → Type 0} {S : A → A → Type 0} (f : A → List B) (Q : A → B → Type 0)
+    (q : (x : A) → Each (Q x) (f x)) (s : (x : A) → Pairwise R (f x)) (r : (x y : A) (a b : B) → S x y → Q x a → Q y b → R a b) where
   pub pairwise-concat : {xs : List A} → Pairwise S xs → Pairwise R (concatMap f xs)
   unfolding concatMap
   pairwise-concat ended = ended

@@ -19,10 +19,9 @@ use Rattle.reading.specs.search.Readings.{less, splits}
 use Rattle.reading.specs.laws.Groups.{run-in, run-or, at-same, at-other, less-at, less-long}
 use Rattle.reading.specs.laws.Splits.{Splits, splits-sound}
 use Rattle.reading.specs.laws.Suits.{nine, three-at, one, group-tiles}
+pub use Rattle.reading.specs.search.Pairs.{weighed}
 
--- ---- f below 9 with the weights 9, 8, .. 1: the sums up to each number, added up
-abbrev pub weighed : (ℕ → ℕ) → ℕ
-weighed f = sum 9 (λ i. sum (suc i) f)
+-- ---- weights
 
 weighed-cong : (f g : ℕ → ℕ) → ((i : ℕ) → i < 9 → f i ≡ g i) → weighed f ≡ weighed g
 weighed-cong f g h = sum-cong (λ i. sum (suc i) f) (λ i. sum (suc i) g) 9 (λ i l. sum-cong f g (suc i) (λ j m. h j (omega arith)))

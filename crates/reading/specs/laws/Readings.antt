@@ -53,8 +53,8 @@ module _ (t : List ℕ) (m win : ℕ) (l : length t ≡ 34) where
   shaped-sound =
       each-when (eqb m 0) _ (λ z.
       each-append
-      (each-when (isSevenPairs t) _ (λ e. also (pairs (record { closed = eqb-true m 0 z; kinds = e; reading = refl })) none))
-      (each-when (isOrphans t) _ (λ e. also (orphans (record { closed = eqb-true m 0 z; kinds = e; reading = refl })) none)))
+      (each-when (isSevenPairs t) _ (λ e. also (pairs (record { meldless = eqb-true m 0 z; kinds = e; reading = refl })) none))
+      (each-when (isOrphans t) _ (λ e. also (orphans (record { meldless = eqb-true m 0 z; kinds = e; reading = refl })) none)))
 
   pub readings-each : Each (IsReading t m win) (readings t m win)
   unfolding readings
@@ -102,9 +102,9 @@ module _ (t : List ℕ) (m win : ℕ) (r : Reading) (l : length t ≡ 34) where
   pub readings-has : IsReading t m win r → List·Memᴰ r (readings t m win)
   unfolding readings
   readings-has (regular s) = Memᴰ·append-left _ (mem-concat (paired t m win) (mem-range 34 0 (r .pair) (omega arith) (s .pair)) (paired-has s))
-  readings-has (pairs s) = shaped-has (s .closed) (Memᴰ·append-left _ (mem-when (isSevenPairs t) _ (s .kinds) (List·Memᴰ·head (s .reading))))
+  readings-has (pairs s) = shaped-has (s .meldless) (Memᴰ·append-left _ (mem-when (isSevenPairs t) _ (s .kinds) (List·Memᴰ·head (s .reading))))
   readings-has (orphans s) =
-      shaped-has (s .closed)
+      shaped-has (s .meldless)
       (Memᴰ·append-right (when (isSevenPairs t) (λ _. ofShape 1 ∷ [])) (mem-when (isOrphans t) _ (s .kinds) (List·Memᴰ·head (s .reading))))
 
 -- ---- the list ascends

@@ -2,8 +2,9 @@
 use mathlib.Core.Path.{_≡_}
 use mathlib.Core.Bool.{true}
 use mathlib.Core.List.{List}
-use Prim.Native.Nat.{ℕ, _+_, _%_, _≤_}
+use Prim.Native.Nat.{ℕ, suc, _+_, _%_, _≤_}
 use lib.ListN.{getD}
+use Rattle.tiles.specs.Below.{sum}
 use Rattle.tiles.specs.Groups.{isGroup, atKind}
 use Rattle.reading.specs.Reading.{usedBy}
 use Rattle.reading.specs.All.{Each}
@@ -20,3 +21,7 @@ Among first last k = (first ≤ k) × (k ≤ last) × (k % 3 ≡ first % 3)
 -- no other kind is the pair beside any groups
 abbrev pub OnlyPairs : List ℕ → ℕ → ℕ → Type 0
 OnlyPairs t first last = (k : ℕ) (gs : List ℕ) → PairBeside t k gs → Among first last k
+
+-- f below 9 with the weights 9, 8, .. 1: the sums up to each number, added up
+abbrev pub weighed : (ℕ → ℕ) → ℕ
+weighed f = sum 9 (λ i. sum (suc i) f)

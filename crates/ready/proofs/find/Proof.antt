@@ -20,5 +20,7 @@ find-spec =
     (tie.spec (λ c κs. search needs)
     (λ c. let u = c .before .before .read in told _ _ (answer-refused _ (u .result) (u .ensures) (c .if1 .taken)))
     (λ c κs. let u = c .before .before .read in same-melds-read _ (u .result) (u .ensures) (c .if1 .left))
-    (λ c. let u = c .before .before .before .read in
-    told _ _ (answer-found _ (u .result) (u .ensures) (c .before .if1 .left) _ (c .nearest-to .ensures .0) (c .nearest-to .ensures .1))))
+    (λ c.
+    let else1 = c .before in
+    let u = else1 .before .before .read in
+    told _ _ (answer-found _ (u .result) (u .ensures) (else1 .if1 .left) _ (c .nearest-to .ensures .0) (c .nearest-to .ensures .1))))

@@ -24,19 +24,18 @@ melds-tally-spec =
     (λ c. search needs)
     (λ c. search needs)
     (λ c.
-    let t = c .before .before .before .others-tally in
-    let w = c .before .before .held-tally in
-    omega (
-      arith,
-      melds-left (c .before .before .before .before .args .x) (t .result) (w .result) (t .ensures) (w .ensures) (c .before .loop .k)
-          (c .loop-test .taken),
-    ))
+    let held = c .before .before in
+    let others = held .before in
+    let t = others .others-tally in
+    let w = held .held-tally in
+    omega (arith, melds-left (others .before .args .x) (t .result) (w .result) (t .ensures) (w .ensures) (c .before .loop .k) (c .loop-test .taken)))
     (λ c. search needs)
     (λ c. search needs)
     (λ c. search needs)
     (λ c.
-    let t = c .before .before .before .others-tally .result in
-    let w = c .before .before .held-tally .result in
+    let held = c .before .before in
+    let t = held .before .others-tally .result in
+    let w = held .held-tally .result in
     let l = c .before .loop in (
       omega arith,
       search needs,
@@ -44,7 +43,8 @@ melds-tally-spec =
           (omega (arith, l .inv .1, c .loop-test .taken)) refl (l .inv .2),
     ))
     (λ c.
-    let t = c .before .before .before .others-tally in
-    let w = c .before .before .held-tally in
+    let held = c .before .before in
+    let t = held .before .others-tally in
+    let w = held .held-tally in
     let l = c .before .loop in
     melds-done _ (t .result) (w .result) (t .ensures) (w .ensures) (l .d) (l .k) (l .inv .1) (c .loop-test .left) (l .inv .2)))

@@ -16,7 +16,9 @@ abbrev μ-loop : tie.MeasureT-loop
 
 -- where a tile is written there is room
 room : (c : tie.Then1 Inv-loop μ-loop) → c .before .before .loop .i < 13
-room c = let l = c .before .before .loop in written-room _ _ _ _ _ (l .inv .3) (c .before .loop-test .taken) (c .if1 .taken) (c .before .before .before .pre)
+room c =
+    let loop = c .before .before in
+    written-room _ _ _ _ _ (loop .loop .inv .3) (c .before .loop-test .taken) (c .if1 .taken) (loop .before .pre)
 
 pub written-spec : {M : Type 1} → statement M
 written-spec =

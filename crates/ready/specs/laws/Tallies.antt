@@ -82,7 +82,8 @@ melds-few x =
       total-add (λ k. one x 0 k + one x 1 k + one x 2 k) (one x 3) 34,
       total-add (λ k. one x 0 k + one x 1 k) (one x 2) 34,
       total-add (one x 0) (one x 1) 34,
-      few (x .m) (sumBelow 34 (one x 0)) (sumBelow 34 (one x 1)) (sumBelow 34 (one x 2)) (sumBelow 34 (one x 3)) (one-few x 0) (one-few x 1) (one-few x 2) (one-few x 3),
+      few (x .m) (sumBelow 34 (one x 0)) (sumBelow 34 (one x 1)) (sumBelow 34 (one x 2)) (sumBelow 34 (one x 3))
+          (one-few x 0) (one-few x 1) (one-few x 2) (one-few x 3),
     )
   where
     few : (m a b c d : ℕ) → a ≤ cond (ltb 0 m) 4 0 → b ≤ cond (ltb 1 m) 4 0 → c ≤ cond (ltb 2 m) 4 0 → d ≤ cond (ltb 3 m) 4 0 → a + b + c + d ≤ 4 * m

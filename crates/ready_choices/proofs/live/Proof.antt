@@ -9,10 +9,8 @@ unfolding live
 live-spec =
     tie.close
     (tie.spec
-    (λ c. rw (
-      lt-ltb _ _ (c .before .before .if1 .taken),
-      c .before .before .before .pre .runs-a
-          (c .before .before .if1 .taken),
-      c .before .before .before .pre .runs-b (c .before .before .if1 .taken),
-    ))
+    (λ c.
+    let then1 = c .before .before in
+    let p = then1 .before .pre in
+    rw (lt-ltb _ _ (then1 .if1 .taken), p .runs-a (then1 .if1 .taken), p .runs-b (then1 .if1 .taken)))
     (λ c. rw (le-ltb _ _ (c .if1 .left))))

@@ -4,12 +4,16 @@ use Rattle.ready_choices.specs.laws.Makes.{regular-test, makes-read, mak
 use Rattle.ready_choices.proofs.regular.Statement.{statement}
 use Rattle.ready_choices.proofs.regular.Tie as tie
 
+-- after `pair`, from after `is_run_start`
+abbrev paired : tie.After-is-run-start → tie.After-pair
+paired c = let known = c .before in known .before .before
+
 pub regular-spec : {M : Type 1} → statement M
 regular-spec =
     tie.close
     (tie.spec (λ c κs. search needs) (λ c κs. search needs) (λ c κs. search needs) (λ c. search needs) (λ c κs. search needs)
     (λ c κs.
-    let z = c .before .before .before .before in
+    let z = paired (c .before) in
     let y = z .before in
     let x = y .before in
     let s = x .before in
@@ -17,7 +21,7 @@ regular-spec =
     (s .pre .2 .sum, a, y .triplets .ensures .1, b, s .pre .2 .one))
     (λ c.
     let i = c .before .before in
-    let z = i .before .before .before in
+    let z = paired i in
     let y = z .before in
     let x = y .before in
     let s = x .before in
@@ -25,7 +29,7 @@ regular-spec =
     (z .pair .ensures .0) (c .before .if1 .taken)))
     (λ c.
     let i = c .before in
-    let z = i .before .before .before in
+    let z = paired i in
     let y = z .before in
     let x = y .before in
     let s = x .before in

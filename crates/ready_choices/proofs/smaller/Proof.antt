@@ -11,25 +11,20 @@ pub smaller-spec : {M : Type 1} → statement M
 smaller-spec =
     tie.close
     (tie.spec (λ c κs. search needs)
-    (λ c. let q : c .before .before .args .n - c .before .before .args .y ≡ c .before .before .args .n = omega (arith, c .before .if1 .taken) in
+    (λ c.
+    let a = c .before .before .args in
+    let q : a .n - a .y ≡ a .n = omega (arith, c .before .if1 .taken) in
     (rw q (c .tetra .ensures .0), c .tetra .ensures .1))
     (λ c κs. search needs)
     (λ c κs. search needs)
-    (λ c. omega (
-      arith,
-      tetra-less (c .before .before .before .args .n) (c .before .before .before .pre .0)
-          (omega arith),
-      c .before .tetra2 .ensures .0,
-      c .triangle .ensures .0,
-    ))
     (λ c.
-    let q : c .before .before .before .args .y ≡ 1 = omega arith in (
-      rw q (omega (
-        arith,
-        tetra-less (c .before .before .before .args .n) (c .before .before .before .pre .0)
-            (omega arith),
-        c .before .tetra2 .ensures .0,
-        c .triangle .ensures .0,
-      )),
-      omega (arith, c .before .tetra2 .ensures .1),
+    let tetra2 = c .before in
+    let s = tetra2 .before .before in
+    omega (arith, tetra-less (s .args .n) (s .pre .0) (omega arith), tetra2 .tetra2 .ensures .0, c .triangle .ensures .0))
+    (λ c.
+    let tetra2 = c .before in
+    let s = tetra2 .before .before in
+    let q : s .args .y ≡ 1 = omega arith in (
+      rw q (omega (arith, tetra-less (s .args .n) (s .pre .0) (omega arith), tetra2 .tetra2 .ensures .0, c .triangle .ensures .0)),
+      omega (arith, tetra2 .tetra2 .ensures .1),
     )))

@@ -14,5 +14,6 @@ state-spec =
     (tie.spec (λ c κs. search needs) (λ c. search needs) (λ c κs. search needs) (λ c. search needs)
     (λ c. search needs) (λ c. search needs) (λ c. search needs)
     (λ c g h.
-    let q : c .before .before .args .a + c .before .before .args .b + g ≡ c .before .before .args .n - c .before .before .args .y = omega arith in
+    let a = c .before .before .args in
+    let q : a .a + a .b + g ≡ a .n - a .y = omega arith in
     rw (q, c .before .smaller .ensures .0, c .triangle .ensures .0)))

@@ -14,4 +14,8 @@ taking-spec =
     tie.close
     (tie.spec (λ c. search needs) (λ c. search needs) (λ c κs. search needs)
     (λ c. search needs) (λ c. search needs) (λ c. search needs) (λ c. search needs) (λ c. search needs) (λ c. search needs)
-    (λ c. let s = c .before .before .before .before in rw (c .before .state .ensures (s .args .q .g - (s .args .x + s .args .y)) (omega arith))))
+    (λ c.
+    let state = c .before in
+    let known = state .before in
+    let s = known .before .before in
+    rw (state .state .ensures (s .args .q .g - (s .args .x + s .args .y)) (omega arith))))

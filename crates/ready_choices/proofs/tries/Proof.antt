@@ -15,18 +15,19 @@ tries-spec =
     (λ c. (rw (le-ltb _ _ (c .if1 .taken)), omega arith))
     (λ c κs. search needs)
     (λ c κs. search needs)
-    (λ c. (
-      rw (lt-ltb _ _ (c .before .before .before .if1 .left), sym (c .before .is-run-start .ensures) ∙ c .if2 .taken)
-          (c .before .before .choices .ensures .0),
-      c .before .before .choices .ensures .1,
+    (λ c.
+    let choices = c .before .before in (
+      rw (lt-ltb _ _ (choices .before .if1 .left), sym (c .before .is-run-start .ensures) ∙ c .if2 .taken) (choices .choices .ensures .0),
+      choices .choices .ensures .1,
     ))
     (λ c κs. search needs)
-    (λ c. (
+    (λ c.
+    let starts = c .before .before in
+    let choices = starts .before in (
       rw (
-        lt-ltb _ _ (c .before .before .before .before .if1 .left),
-        sym (c .before .before .is-run-start .ensures)
-            ∙ c .before .if2 .left,
-        ← c .before .before .before .choices .ensures .0,
+        lt-ltb _ _ (choices .before .if1 .left),
+        sym (starts .is-run-start .ensures) ∙ c .before .if2 .left,
+        ← choices .choices .ensures .0,
       ) (c .least .ensures),
       omega (arith, c .least .ensures),
     )))

@@ -104,7 +104,8 @@ may-begun k s e l m =
     either i true q r = absurd (omega (arith, eqb-true (xOf e) 0 q))
     either i false q r = r
 
-module _ (G k s e r : ℕ) (d w : List ℕ) (kl : k < 34) (B : Built G k s w) (f : fine (4 - getD d k 0) k s e ≡ true) (u : getD w k 0 ≡ taken k s e) (n : r ≡ next s e) where
+module _ (G k s e r : ℕ) (d w : List ℕ) (kl : k < 34) (B : Built G k s w) (f : fine (4 - getD d k 0) k s e ≡ true)
+    (u : getD w k 0 ≡ taken k s e) (n : r ≡ next s e) where
   -- the new codes and pair
   codes' : List ℕ
   codes' = rep (xOf e) k (rep (yOf e) (34 + k) (B .codes))

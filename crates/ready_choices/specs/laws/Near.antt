@@ -103,7 +103,7 @@ reach-whole m d w s0 s h l (seven z q) r e =
     let k = reach-seven d w (rw i at r') in
     record {
       size = omega (arith, seven-total w k);
-      reads = λ win g. record { reading = ofShape 1; reads = pairs (record { closed = z; kinds = k; reading = refl }) };
+      reads = λ win g. record { reading = ofShape 1; reads = pairs (record { meldless = z; kinds = k; reading = refl }) };
     }
 reach-whole m d w s0 s h l (thirteen z q) r e =
     let r' : Reach 79 d w 34 s = rw q at r in
@@ -112,7 +112,7 @@ reach-whole m d w s0 s h l (thirteen z q) r e =
     let k = reach-orphans d w (rw i at r') in
     record {
       size = omega (arith, orphans-total w k);
-      reads = λ win g. record { reading = ofShape 2; reads = orphans (record { closed = z; kinds = k; reading = refl }) };
+      reads = λ win g. record { reading = ofShape 2; reads = orphans (record { meldless = z; kinds = k; reading = refl }) };
     }
 
 -- a hand with a reading comes of choices
@@ -136,9 +136,9 @@ reading-came m win d w r four (regular p) =
           (shape-reach (length (p .codes)) d w (omega arith) four h);
       done = refl;
     }
-reading-came m win d w r four (pairs p) = record { start = 77; from = seven (p .closed) refl; end = 70; reach = seven-reach d w four (p .kinds); done = refl }
+reading-came m win d w r four (pairs p) = record { start = 77; from = seven (p .meldless) refl; end = 70; reach = seven-reach d w four (p .kinds); done = refl }
 reading-came m win d w r four (orphans p) =
-    record { start = 79; from = thirteen (p .closed) refl; end = 78; reach = orphans-reach d w four (p .kinds); done = refl }
+    record { start = 79; from = thirteen (p .meldless) refl; end = 78; reach = orphans-reach d w four (p .kinds); done = refl }
 
 -- ---- swaps and tiles kept
 swaps-kept : (t u : List ℕ) → swapsOf t u + sumBelow 34 (both t u) ≡ sumBelow 34 (λ k. getD t k 0)

@@ -149,8 +149,8 @@ module _ (G : ℕ) (d w : List ℕ) (g4 : G ≤ 4) (four : (k : ℕ) → k < 34 
       let qp = q .pairs in
       let same : getD w k 0 ≡ taken k s e = omega arith in
       let fit : taken k s e ≤ 4 - getD d k 0 = under (taken k s e) (getD w k 0) (getD d k 0) same fw in
-      let (enough, left-g) = leaves G (sumBelow k (λ j. h .x j + h .y j)) (sumBelow (suc k) (λ j. h .x j + h .y j)) (gOf s) (xOf e + yOf e) (h .x k + h .y k) qg tg
-      (sum-cong ex ey) mg in
+      let (enough, left-g) = leaves G (sumBelow k (λ j. h .x j + h .y j)) (sumBelow (suc k) (λ j. h .x j + h .y j)) (gOf s) (xOf e + yOf e) (h .x k + h .y k)
+      qg tg (sum-cong ex ey) mg in
       let (paired, left-p) = leaves 1 (sumBelow k (h .z)) (sumBelow (suc k) (h .z)) (pOf s) (zOf e) (h .z k) qp ts ez mz in
       move r e (c .low)
       (fine-of (4 - getD d k 0) k s e (live-regular k s (q .low) (rw qa (allow-a k l)) (rw qb (allow-b k l)))

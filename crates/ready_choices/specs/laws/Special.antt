@@ -72,7 +72,8 @@ pair-two n true b e f o = let q : n ≡ 0 = eqb-true n 0 e in rw q (refl, omega 
 pair-two n false true e f o = let q : n ≡ 2 = eqb-true n 2 f in rw q (refl, omega arith)
 pair-two n false false e f o = absurd (mathlib.Core.Bool.false≢true o)
 
-module _ (d w : List ℕ) (four : (k : ℕ) → k < 34 → getD w k 0 + getD d k 0 ≤ 4) (each : (k : ℕ) → k < 34 → paired w k ≡ true) (seven : sumBelow 34 (held w) ≡ 7) where
+module _ (d w : List ℕ) (four : (k : ℕ) → k < 34 → getD w k 0 + getD d k 0 ≤ 4) (each : (k : ℕ) → k < 34 → paired w k ≡ true)
+    (seven : sumBelow 34 (held w) ≡ 7) where
   pairs-one : (k : ℕ) → k < 34 → Reach 77 d w k (77 - sumBelow k (held w)) → Reach 77 d w (suc k) (77 - sumBelow (suc k) (held w))
   pairs-one k l r =
       let t = total-suc k (held w) in
@@ -155,7 +156,8 @@ orphan-two n true false true e f o = let q : n ≡ 2 = eqb-true n 2 f in rw q (r
 orphan-two n true false false e f o = absurd (mathlib.Core.Bool.false≢true o)
 orphan-two n false a b e f o = let q : n ≡ 0 = eqb-true n 0 o in rw q (refl, omega arith, refl)
 
-module _ (d w : List ℕ) (four : (k : ℕ) → k < 34 → getD w k 0 + getD d k 0 ≤ 4) (each : (k : ℕ) → k < 34 → proper w k ≡ true) (one : sumBelow 34 (twice w) ≡ 1) where
+module _ (d w : List ℕ) (four : (k : ℕ) → k < 34 → getD w k 0 + getD d k 0 ≤ 4) (each : (k : ℕ) → k < 34 → proper w k ≡ true)
+    (one : sumBelow 34 (twice w) ≡ 1) where
   orphans-one : (k : ℕ) → k < 34 → Reach 79 d w k (79 - sumBelow k (twice w)) → Reach 79 d w (suc k) (79 - sumBelow (suc k) (twice w))
   orphans-one k l r =
       let t = total-suc k (twice w) in

@@ -13,7 +13,8 @@ use Rattle.tiles.specs.Kinds.{isRunStart, isYaochu}
 -- a + 5 b + 25 g
 abbrev pub begun : List ℕ
 begun =
-    0 ∷ 25 ∷ 5 ∷ 1 ∷ 50 ∷ 30 ∷ 26 ∷ 10 ∷ 6 ∷ 2 ∷ 75 ∷ 55 ∷ 51 ∷ 35 ∷ 31 ∷ 27 ∷ 15 ∷ 11 ∷ 7 ∷ 3 ∷ 100 ∷ 80 ∷ 76 ∷ 60 ∷ 56 ∷ 52 ∷ 40 ∷ 36 ∷ 32 ∷ 28 ∷ 20 ∷ 16 ∷ 12 ∷ 8 ∷ 4 ∷ []
+    0 ∷ 25 ∷ 5 ∷ 1 ∷ 50 ∷ 30 ∷ 26 ∷ 10 ∷ 6 ∷ 2 ∷ 75 ∷ 55 ∷ 51 ∷ 35 ∷ 31 ∷ 27 ∷ 15 ∷ 11 ∷ 7 ∷ 3
+    ∷ 100 ∷ 80 ∷ 76 ∷ 60 ∷ 56 ∷ 52 ∷ 40 ∷ 36 ∷ 32 ∷ 28 ∷ 20 ∷ 16 ∷ 12 ∷ 8 ∷ 4 ∷ []
 
 -- 0, 1, 4, 10, 20: how many a, b, g have a smaller sum
 unfoldable pub tetra : ℕ → ℕ

@@ -9,4 +9,6 @@ unfolding meldCodes
 meld-codes-spec =
     tie.close
     (tie.spec (λ c κs. search needs) (λ c κs. search needs) (λ c κs. search needs) (λ c κs. search needs)
-    (λ c. rw (c .code-at4 .ensures, c .before .code-at3 .ensures, c .before .before .code-at2 .ensures, c .before .before .before .code-at .ensures)))
+    (λ c.
+    let code-at2 = c .before .before in
+    rw (c .code-at4 .ensures, c .before .code-at3 .ensures, code-at2 .code-at2 .ensures, code-at2 .before .code-at .ensures)))

@@ -9,4 +9,6 @@ unfolding meldWays
 meld-ways-spec =
     tie.close
     (tie.spec (λ c κs. search needs) (λ c κs. search needs) (λ c κs. search needs) (λ c κs. search needs)
-    (λ c. rw (c .way-at4 .ensures, c .before .way-at3 .ensures, c .before .before .way-at2 .ensures, c .before .before .before .way-at .ensures)))
+    (λ c.
+    let way-at2 = c .before .before in
+    rw (c .way-at4 .ensures, c .before .way-at3 .ensures, way-at2 .way-at2 .ensures, way-at2 .before .way-at .ensures)))

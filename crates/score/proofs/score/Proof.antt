@@ -15,24 +15,24 @@ score-spec =
     tie.close
     (tie.spec (λ c κs. search needs)
     (λ c.
-    let a = c .before .before .before .args in
-    both (a .s .now) (a .dealer) (a .wind) _ (c .refused .ensures ∙ found-eight _ _ _ (c .before .if1 .taken)))
+    let then1 = c .before in let a = then1 .before .before .args in
+    both (a .s .now) (a .dealer) (a .wind) _ (c .refused .ensures ∙ found-eight _ _ _ (then1 .if1 .taken)))
     (λ c κs. search needs) (λ c. search needs) (λ c. search needs) (λ c κs. search needs) (λ c κs. search needs)
     (λ c.
-    let r = c .before .before .before .before in
-    let a = r .before .before .before .args in
+    let told = c .before .before in let r = told .before .before in
+    let else1 = r .before in let a = else1 .before .before .args in
     both (a .s .now) (a .dealer) (a .wind) _
-    (found-refused (a .s .now) (a .dealer) (a .wind) (r .read .result) (r .before .if1 .left) (r .read .ensures)
-    _ (c .before .refusal .result) (c .refused2 .result) (c .before .before .enum-told .given .1) (c .before .refusal .ensures) (c .refused2 .ensures)))
+    (found-refused (a .s .now) (a .dealer) (a .wind) (r .read .result) (else1 .if1 .left) (r .read .ensures)
+    _ (c .before .refusal .result) (c .refused2 .result) (told .enum-told .given .1) (c .before .refusal .ensures) (c .refused2 .ensures)))
     (λ c κs.
-    let r = c .before .before .before .before in
-    let a = r .before .before .before .args in
-    let q = or-both (ltb 3 (a .dealer)) (ltb 1 (a .wind)) (r .before .if1 .left) in
-    let b = hand-bounds (a .s .now) (r .read .result) (r .read .ensures) _ (c .before .before .a .given .1) in
+    let sound = c .before .before in let r = sound .before .before in
+    let else1 = r .before in let a = else1 .before .before .args in
+    let q = or-both (ltb 3 (a .dealer)) (ltb 1 (a .wind)) (else1 .if1 .left) in
+    let b = hand-bounds (a .s .now) (r .read .result) (r .read .ensures) _ (sound .a .given .1) in
     (b .few, b .winner, ltb-false 3 (a .dealer) (q .0), ltb-false 1 (a .wind) (q .1), b .discarder, b .other))
     (λ c.
-    let r = c .before .before .before .before .before in
-    let a = r .before .before .before .args in
+    let held = c .before in let sound = held .before .before in let r = sound .before .before in
+    let else1 = r .before in let a = else1 .before .before .args in
     both (a .s .now) (a .dealer) (a .wind) _
-    (found-sound (a .s .now) (a .dealer) (a .wind) (r .read .result) (r .before .if1 .left) (r .read .ensures)
-    _ (c .score-hand .result) (c .before .before .before .a .given .1) (c .score-hand .ensures .1))))
+    (found-sound (a .s .now) (a .dealer) (a .wind) (r .read .result) (else1 .if1 .left) (r .read .ensures)
+    _ (c .score-hand .result) (sound .a .given .1) (c .score-hand .ensures .1))))

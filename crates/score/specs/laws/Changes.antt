@@ -17,7 +17,7 @@ use Rattle.hand_record.specs.declared.Answer.the-variants.{Sound, Refused}
 use Rattle.hand_record.specs.Record.{refusalIn, handOf, readOf}
 use Rattle.hand_record.specs.laws.Bounds.{read-bounds}
 use Rattle.points.specs.declared.Seats.{Seats}
-use Rattle.points.specs.Points.{hundreds, share, pays, gain, change as changeOf, changes, sumOfFour}
+use Rattle.points.specs.Points.{hundreds, timesA, pays, gain, change as changeOf, changes, sumOfFour}
 use Rattle.points.specs.Claims.{changes-sum-zero}
 use Rattle.points.specs.laws.Bounds.{pays-le, gain-le}
 use Rattle.score.specs.declared.Scored.{Scored}
@@ -57,15 +57,15 @@ module _ (s : Seats) (ron : Bool) (a : ℕ) (h : a ≤ 8000) where
 
 -- where a child wins no seat pays over 32,000
 module _ (s : Seats) (ron : Bool) (a : ℕ) (h : a ≤ 8000) (child : eqb (s .winner) (s .dealer) ≡ false) where
-  child-share : (i : ℕ) → share s ron i ≤ 4
-  unfolding share
-  child-share i =
+  child-times : (i : ℕ) → timesA s ron i ≤ 4
+  unfolding timesA
+  child-times i =
       rw child (cond-le (eqb (s .winner) i) _ _ 4 (omega arith)
       (cond-le ron _ _ 4 (cond-le (eqb (s .discarder) i) _ _ 4 (omega arith) (omega arith)) (cond-le (eqb (s .dealer) i) _ _ 4 (omega arith) (omega arith))))
 
   child-pays : (i : ℕ) → pays s ron a i ≤ 32000
   unfolding pays hundreds
-  child-pays i = let l : share s ron i * a ≤ 4 * 8000 = mul-le-mul (child-share i) h in omega arith
+  child-pays i = let l : timesA s ron i * a ≤ 4 * 8000 = mul-le-mul (child-times i) h in omega arith
 
   child-one : (i : ℕ) → dn (changeOf s ron a i) ≤ 32000
   unfolding changeOf
@@ -99,7 +99,8 @@ zeros-none (suc (suc (suc (suc i)))) = omega arith
 
 -- ---- of a scored hand: zeros where it is refused, else its payments
 
-module _ (P : List ℤ → Type 0) (h : Hand) (dealer wind : ℕ) (none : P (replicate 4 (pos 0))) (paid : (a : ℕ) → a ≤ 8000 → P (changes (seatsOf h dealer) (isRon (h .fields)) a)) where
+module _ (P : List ℤ → Type 0) (h : Hand) (dealer wind : ℕ) (none : P (replicate 4 (pos 0)))
+    (paid : (a : ℕ) → a ≤ 8000 → P (changes (seatsOf h dealer) (isRon (h .fields)) a)) where
   of-changes : P (handScoreOf h dealer wind .changes)
   of-changes =
       let to : (x : Scored) → handScoreOf h dealer wind ≡ x → P (x .changes) → P (handScoreOf h dealer wind .changes) =

@@ -164,8 +164,8 @@ module _ (h : Hand) (few : h .held .m ≤ 4) (four : length (h .held .melds) ≡
       ∙ groups-then-melds m (i .codes) (h .held .melds) few (i .size) (i .order) four
       ∙ ap (λ (g : List ℕ). g ++ map meldCode (take m (h .held .melds)))
       (sym (ap (take (4 - m)) (i .groups) ∙ take-at (i .codes) (replicate m 68) (4 - m) (i .size)))
-  groups-in r (pairs i) = rw (i .reading) (none-joined (h .held .melds) m (i .closed))
-  groups-in r (orphans i) = rw (i .reading) (none-joined (h .held .melds) m (i .closed))
+  groups-in r (pairs i) = rw (i .reading) (none-joined (h .held .melds) m (i .meldless))
+  groups-in r (orphans i) = rw (i .reading) (none-joined (h .held .melds) m (i .meldless))
 
   place-in : (r : Reading) → IsReadingOf h r → r .place ≤ 4 - m
   place-in r (regular i) = i .place

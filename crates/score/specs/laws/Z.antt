@@ -9,14 +9,7 @@ use lib.Dec.{ltb}
 use lib.IntN.{ℤ, pos, negsuc, negℤ, subℕ, _+ℤ_, _-ℤ_}
 use lib.Signed.{mag, ltZ}
 use borrow.Author.Tests.{ltb-true, ltb-false, lt-ltb, le-ltb}
-
-abbrev pub up : ℤ → ℕ
-up (pos n) = n
-up (negsuc n) = 0
-
-abbrev pub dn : ℤ → ℕ
-dn (pos n) = 0
-dn (negsuc n) = suc n
+pub use Rattle.score.specs.search.Parts.{up, dn, Within}
 
 sub-go : (a b : ℕ) (t : Bool) → ltb a b ≡ t → up (cond t (negsuc (b - suc a)) (pos (a - b))) + b ≡ a + dn (cond t (negsuc (b - suc a)) (pos (a - b)))
 sub-go a b true e = omega (arith, ltb-true a b e)
@@ -87,10 +80,6 @@ mag-parts (negsuc n) h l = (omega arith, omega arith)
 pub parts-mag : (z : ℤ) (h : ℕ) → up z < h → dn z ≤ h → mag z < h
 parts-mag (pos n) h l k = l
 parts-mag (negsuc n) h l k = omega arith
-
--- what only asks that no sum wraps: both parts within a bound
-abbrev pub Within : ℤ → ℕ → Type 0
-Within z h = (up z ≤ h) × (dn z ≤ h)
 
 pub within-add : (a b : ℤ) (h k : ℕ) → Within a h → Within b k → Within (a +ℤ b) (h + k)
 within-add a b h k wa wb =

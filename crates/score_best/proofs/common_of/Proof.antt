@@ -7,5 +7,9 @@ pub common-of-spec : {M : Type 1} → statement M
 common-of-spec =
     tie.close
     (tie.spec (λ c κs. search needs)
-    (λ c κs. let r = c .before .before .before .before .before .before .pre in (r .tests, (r .round, r .own, r .dora)))
+    (λ c κs.
+    let mc = c .before .before in
+    let x = mc .before .before in
+    let r = x .before .before .pre in
+    (r .tests, (r .round, r .own, r .dora)))
     (λ c. rw (← c .before .joined .ensures) (c .common-of .ensures)))

@@ -6,4 +6,4 @@ use Rattle.score_best.proofs.full_reading.Tie as tie
 
 pub full-reading-spec : {M : Type 1} → statement M
 unfolding fullReadingIn
-full-reading-spec = tie.close (tie.spec (λ c κs. search needs) (λ c. rw (c .ways-at .ensures, c .before .before .before .pre .0)))
+full-reading-spec = tie.close (tie.spec (λ c κs. search needs) (λ c. let mw = c .before .before in rw (c .ways-at .ensures, mw .before .pre .0)))

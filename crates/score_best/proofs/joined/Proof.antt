@@ -10,4 +10,6 @@ joined-spec =
     tie.close
     (tie.spec (λ c. search needs) (λ c. search needs) (λ c κs. search needs) (λ c. search needs) (λ c. search needs) (λ c κs. search needs)
     (λ c. search needs) (λ c. search needs) (λ c κs. search needs) (λ c. search needs) (λ c. search needs) (λ c κs. search needs)
-    (λ c. rw (c .pick4 .ensures, c .before .pick3 .ensures, c .before .before .pick2 .ensures, c .before .before .before .pick .ensures)))
+    (λ c.
+    let pick2 = c .before .before in
+    rw (c .pick4 .ensures, c .before .pick3 .ensures, pick2 .pick2 .ensures, pick2 .before .pick .ensures)))

@@ -23,12 +23,12 @@ keep-spec =
     tie.close
     (tie.spec (λ c κs. search needs) (λ c κs. search needs)
     (λ c.
-    let y = c .before .before .before in
-    let n = y .before .before .before .before in
-    let a = n .before .before .before .args in
+    let known = c .before in let y = known .before .before in
+    let marked = y .before .before in let n = marked .before .before in
+    let worth = n .before in let a = worth .before .before .args in
     rw (by (a .b) (a .v) (y .beats .result) true (n .counted .result) (y .beats .ensures) (n .counted .ensures) (c .if1 .taken), n .counted .ensures))
     (λ c.
-    let y = c .before .before .before in
-    let n = y .before .before .before .before in
-    let a = n .before .before .before .args in
+    let known = c .before in let y = known .before .before in
+    let marked = y .before .before in let n = marked .before .before in
+    let worth = n .before in let a = worth .before .before .args in
     rw (by (a .b) (a .v) (y .beats .result) false (n .counted .result) (y .beats .ensures) (n .counted .ensures) (c .if1 .left), n .counted .ensures)))

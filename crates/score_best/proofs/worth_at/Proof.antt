@@ -26,14 +26,18 @@ worthy : (t : HandCommon) (r : Reading) (p : FullReading) (v : Worth) → p ≡ 
 unfolding worthIn valueOf
 worthy t r p v ep ev (em, ea) = rw (← ep) (ev, (em, ea))
 
+-- the start, from where the parts are copied
+abbrev start : tie.After-mw → tie.Start
+start c = let seats = c .before in seats .before .before
+
 pub worth-at-spec : {M : Type 1} → statement M
 worth-at-spec =
     tie.close
-    (tie.spec (λ c κs. let s = c .before .before .before in (s .pre .0 .groups, s .pre .1))
+    (tie.spec (λ c κs. let s = start c in (s .pre .0 .groups, s .pre .1))
     (λ c κs.
-    let s = c .before .before .before .before in
+    let s = start (c .before) in
     kept (s .args .t) (s .args .r) (s .args .k) (c .full-reading .result) (c .full-reading .ensures) (s .pre .0) (s .pre .1))
     (λ c.
-    let s = c .before .before .before .before .before in
+    let s = start (c .before .before) in
     worthy (s .args .t) (s .args .r) (c .before .full-reading .result) (c .value-of .result)
     (c .before .full-reading .ensures) (c .value-of .ensures .0) (c .value-of .ensures .1)))

@@ -17,7 +17,7 @@ use Rattle.yaku.specs.declared.Won.{Won}
 use Rattle.yaku.specs.declared.FullReading.{FullReading}
 use Rattle.yaku.specs.Yaku.{isYakuman, hasYaku, yakuman}
 use Rattle.points.specs.declared.Seats.{Seats}
-use Rattle.points.specs.Points.{plain, limit, ordinary, basic, hundreds, share, pays, gain}
+use Rattle.points.specs.Points.{plain, limit, ordinary, basic, hundreds, timesA, pays, gain}
 use Rattle.points_value.specs.declared.Value.{Value}
 use Rattle.points_value.specs.Value.{valueOf}
 use Rattle.points_value.specs.Claims.{yakuman-pays-as-one}
@@ -56,7 +56,7 @@ module _ (s : Seats) (ron : Bool) (a : ℕ) (h : a ≤ 6000) where
   pays-less : (seat : ℕ) → 4 * pays s ron a seat ≤ 3 * pays s ron 8000 seat
   unfolding pays
   pays-less seat =
-      let k = share s ron seat in
+      let k = timesA s ron seat in
       let p : k * a ≤ k * 6000 = mul-le-mul (omega arith) h in
       omega (arith, hundreds-le (k * a) (k * 60) (omega arith), le-hundreds (k * 8000))
 

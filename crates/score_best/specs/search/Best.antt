@@ -45,7 +45,8 @@ module _ (worth : Reading → Value) (ends : Reading → Bool) (b : Best) (r : R
 
 -- "the first": a later reading has to beat the one that is kept; past one that ends the search none is looked at
 unfoldable pub keepBetterBy : (Reading → Value) → (Reading → Bool) → Best → Reading → Best
-keepBetterBy worth ends b r = cond (b .done) b (cond (withYaku worth r && (not (b .valued) || beats (worth r) (b .value))) (taking worth ends b r) (passing worth ends b r))
+keepBetterBy worth ends b r = cond (b .done) b (cond (withYaku worth r && (not (b .valued) || beats (worth r) (b .value)))
+    (taking worth ends b r) (passing worth ends b r))
 
 -- the reading that is wanted by its number is taken, whatever it is worth, and nothing ends the search
 unfoldable pub keepNth : (Reading → Value) → Best → Reading → Best

@@ -9,4 +9,4 @@ pub dora-in-spec : {M : Type 1} → statement M
 dora-in-spec =
     tie.close
     (tie.spec (λ c. rw (c .if1 .taken)) (λ c. search needs) (λ c. search needs) (λ c κs. search needs)
-    (λ c. rw (c .before .before .before .if1 .left) (ap han (c .han-of .ensures .0))))
+    (λ c. let tally = c .before .before in rw (tally .before .if1 .left) (ap han (c .han-of .ensures .0))))

@@ -63,9 +63,12 @@ module _ (t : HandCommon) (b : Best) where
       ∙ ap (λ (z : Paid). given (hanEach (b .value .yaku) (t .won .closed) (valueHanOf (t .won) (fullReadingIn t (b .reading))))
       (han (cond (isYakuman (b .value .yaku)) 0 (getD (t .won .tally) (t .dora) 0))) z x) ep
 
--- the start, from where the items are copied
+-- the start, from where the items are copied, and from after han_each
 abbrev from-items : tie.After-items → tie.Start
-from-items c = c .before .before .before .before .before .before
+from-items c = let s = c .before .before in let v = s .before .before in v .before .before
+
+abbrev start : tie.After-han-each → tie.Start
+start c = let common = c .before .before in from-items (common .before)
 
 pub shown-spec : {M : Type 1} → statement M
 shown-spec =
@@ -74,15 +77,17 @@ shown-spec =
     (λ c κs. from-items c .pre .0)
     (λ c κs. search needs)
     (λ c κs. search needs)
-    (λ c κs. from-items (c .before .before .before .before) .pre .0 .dora)
-    (λ c κs. from-items (c .before .before .before .before .before) .pre .1)
+    (λ c κs. start (c .before) .pre .0 .dora)
+    (λ c κs. start (c .before .before) .pre .1)
     (λ c.
-    let p = c .before .before .before .before .before in
+    let changes = c .before .before in
+    let basic = changes .before .before in
+    let p = basic .before in
     let dora = p .before in
     let yakuman = dora .before in
     let each = yakuman .before in
     let common = each .before .before in
-    let a = from-items (common .before) .args in
+    let a = start each .args in
     put-together (a .t) (a .b) (a .reported) (each .han-each .result) (common .common-of .result .tests .values .0) (yakuman .is-yakuman .result)
     (dora .dora-in .result) (p .paid-of .result) (values-are (a .t) (a .b) (common .common-of .result) (common .common-of .ensures)) (each .han-each .ensures)
     (yakuman .is-yakuman .ensures) (dora .dora-in .ensures) (p .paid-of .ensures)))

@@ -55,25 +55,27 @@ claims t = (
 
 -- at a leaf with no tile left there is one splitting, and room for it
 module _ (t : ℕ) (c : split-lts.Then2 (claims t) (split-at t) split.Post Inv-loop μ-loop) where
-  abbrev leaf-args : split-lts.Args (claims t) (split-at t) split.Post Inv-loop μ-loop (c .before .before .before .κs)
-  leaf-args = c .before .before .before .args
+  abbrev entry : split-lts.Start (claims t) (split-at t) split.Post Inv-loop μ-loop
+  entry = let then1 = c .before .before in then1 .before
 
-  leaf : behind (leaf-args .size) (leaf-args .prefix) (leaf-args .left) (leaf-args .code) (leaf-args .t1) ≡ leaf-args .prefix ∷ []
+  leaf : let a = entry .args in behind (a .size) (a .prefix) (a .left) (a .code) (a .t1) ≡ a .prefix ∷ []
   leaf = behind-leaf _ _ _ _ _ (c .before .before .if1 .taken) (sym (c .before .is-empty .ensures) ∙ c .if2 .taken)
 
-  leaf-room : leaf-args .n < 3
-  leaf-room = omega (arith, c .before .before .before .pre .1 .2, ap length leaf)
+  leaf-room : entry .args .n < 3
+  leaf-room = omega (arith, entry .pre .1 .2, ap length leaf)
+
+-- past the first test, from the head of the loop
+module _ (t : ℕ) (c : split-lts.At-loop (claims t) (split-at t) split.Post Inv-loop μ-loop) where
+  abbrev else1 : split-lts.Else1 (claims t) (split-at t) split.Post Inv-loop μ-loop
+  else1 = let next-code = c .before in next-code .before .before
 
 -- what is stored once the code c is done with
 module _ (t : ℕ) (c : split-lts.Joined3 (claims t) (split-at t) split.Post Inv-loop μ-loop) where
   abbrev in-loop : split-lts.At-loop (claims t) (split-at t) split.Post Inv-loop μ-loop
-  in-loop = c .before .before .before
+  in-loop = let fits2 = c .before in fits2 .before .before
 
-  abbrev start : split-lts.Start (claims t) (split-at t) split.Post Inv-loop μ-loop
-  start = in-loop .before .before .before .before
-
-  stored : let a = start .args in Stored (in-loop .loop .out) (in-loop .loop .found) (taken (a .size) (a .prefix) (a .left) (in-loop .loop .c) (a .t1))
-      (c .if3 .out) (c .if3 .found)
+  stored : let a = else1 t in-loop .before .args in Stored (in-loop .loop .out) (in-loop .loop .found)
+      (taken (a .size) (a .prefix) (a .left) (in-loop .loop .c) (a .t1)) (c .if3 .out) (c .if3 .found)
   stored =
       ⊎-elim
       (λ w.
@@ -105,20 +107,19 @@ pub +split-spec : {M : Type 1} → statement M
     (λ c κs. sym (c .before .fits2 .ensures) ∙ c .if3 .taken)
     (λ c. omega arith)
     (λ c κs.
-    let on = c .before .before .before in
-    let l = on .before .before in
-    let s = l .before .before .before in
+    let then3 = c .before .before in let fits2 = then3 .before in let l = fits2 .before .before in
+    let s = else1 t l in
     let a = s .before .args in
     let p = s .before .pre .1 in
-    let e = taken-with (a .size) (a .prefix) (a .left) (l .loop .c) (a .t1) _ (sym (on .fits2 .ensures) ∙ c .before .before .if3 .taken)
+    let e = taken-with (a .size) (a .prefix) (a .left) (l .loop .c) (a .t1) _ (sym (fits2 .fits2 .ensures) ∙ then3 .if3 .taken)
     (c .before .without .ensures) in
     let r = behind-step (a .size) (a .prefix) (a .left) (l .loop .c) (a .t1) (s .if1 .left) (p .0) (omega arith) in
     (omega arith, (omega arith, p .1, left-room _ e r (l .loop .inv) (p .2))))
     (λ c κs. omega arith)
     (λ c.
     let j = c .before .before in
-    let l = j .before .before .before in
-    let s = l .before .before .before in
+    let l = in-loop t j in
+    let s = else1 t l in
     left-done refl
     (left-put (behind-stop _ _ _ _ _ (s .if1 .left) (s .before .pre .1 .0) (omega (arith, j .before .before .loop-test .taken))
     (sym (c .before .passes .ensures) ∙ not-true _ (c .if4 .taken)))
@@ -129,10 +130,10 @@ pub +split-spec : {M : Type 1} → statement M
     (λ c.
     let q = c .before .before in
     let j = q .before .before in
-    let l = j .before .before .before in
-    let s = l .before .before .before in
+    let l = in-loop t j in
+    let s = else1 t l in
     left-same (behind-skip _ _ _ _ (s .if1 .left) (s .before .pre .1 .0) _ _ (c .next-code2 .ensures))
     (left-put (behind-next _ _ _ _ _ (s .if1 .left) (s .before .pre .1 .0) (omega (arith, j .before .before .loop-test .taken))
     (sym (q .before .passes .ensures) ∙ not-false _ (q .if4 .left)))
     (l .loop .inv) (stored t j)))
-    (λ c. left-done (behind-end _ _ _ _ _ (c .before .before .before .before .if1 .left) (c .loop-test .left)) (c .before .loop .inv))
+    (λ c. left-done (behind-end _ _ _ _ _ (else1 t (c .before) .if1 .left) (c .loop-test .left)) (c .before .loop .inv))

@@ -31,17 +31,18 @@ each-spec =
     (λ c. omega arith)
     (λ c κs. let l = c .before .before in (l .before .pre .0, l .before .pre .2, l .loop .inv .1))
     (λ c.
-    let l = c .before .before .before .before in
+    let places = c .before in
+    let turn = places .before .before in
     ranged-still (keepBetter _) _ _ _ _ (done-still _ _ (c .if1 .taken))
-    ∙ ranged-turn (keepBetter _) _ _ _ _ _ (c .before .before .before .loop-test .taken) (c .before .places .ensures)
-    ∙ l .loop .inv .2)
+    ∙ ranged-turn (keepBetter _) _ _ _ _ _ (turn .loop-test .taken) (places .places .ensures)
+    ∙ turn .before .loop .inv .2)
     (λ c. omega arith)
     (λ c. omega arith)
     (λ c.
-    let l = c .before .before .before .before in (
+    let places = c .before in
+    let turn = places .before .before in (
       omega arith,
       c .if1 .left,
-      ranged-turn (keepBetter _) _ _ _ _ _ (c .before .before .before .loop-test .taken) (c .before .places .ensures)
-          ∙ l .loop .inv .2,
+      ranged-turn (keepBetter _) _ _ _ _ _ (turn .loop-test .taken) (places .places .ensures) ∙ turn .before .loop .inv .2,
     ))
     (λ c. ranged-done (keepBetter _) _ _ _ _ (c .loop-test .left) ∙ c .before .loop .inv .2))

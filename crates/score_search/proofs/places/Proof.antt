@@ -31,24 +31,26 @@ places-spec =
     (λ c. (search needs, c .before .pre .2, placed-all (keepBetter _) _ _ _ _ _))
     (λ c κs. omega arith)
     (λ c κs.
-    let on = c .before .before .before in
-    (on .before .common-of .ensures, omega (arith, on .before .before .pre .1), on .loop .inv .1))
+    let holds = c .before in let loop = holds .before .before in
+    let common-of = loop .before in
+    (common-of .common-of .ensures, omega (arith, common-of .before .pre .1), loop .loop .inv .1))
     (λ c.
-    let on = c .before .before .before in
+    let then1 = c .before .before in let holds = then1 .before in let loop = holds .before .before in
     ranged-still (keepBetter _) _ _ _ _ (done-still _ _ (c .if2 .taken))
     ∙ ranged-turn (keepBetter _) _ _ _ _ _ (omega arith)
-    (folded-with (keepBetter _) _ _ _ _ (sym (on .holds .ensures) ∙ c .before .before .if1 .taken) (c .before .keep-better-at .ensures))
-    ∙ on .before .before .loop .inv .2)
+    (folded-with (keepBetter _) _ _ _ _ (sym (holds .holds .ensures) ∙ then1 .if1 .taken) (c .before .keep-better-at .ensures))
+    ∙ loop .loop .inv .2)
     (λ c. omega arith)
     (λ c. omega arith)
-    (λ c. (
+    (λ c.
+    let holds = c .before in let loop = holds .before .before in (
       omega arith,
-      ⊎-elim (λ w. rw (w .3) (w .2 .left)) (λ w. rw (w .1) (c .before .before .before .loop .inv .1)) (c .if1 .came),
+      ⊎-elim (λ w. rw (w .3) (w .2 .left)) (λ w. rw (w .1) (loop .loop .inv .1)) (c .if1 .came),
       ranged-turn (keepBetter _) _ _ _ _ _ (omega arith)
           (⊎-elim
-          (λ w. w .3 ∙ folded-with (keepBetter _) _ _ _ _ (sym (c .before .holds .ensures) ∙ w .0 .taken) (w .1 .ensures))
-          (λ w. w .1 ∙ folded-none (keepBetter _) _ _ _ (sym (c .before .holds .ensures) ∙ w .0 .left))
+          (λ w. w .3 ∙ folded-with (keepBetter _) _ _ _ _ (sym (holds .holds .ensures) ∙ w .0 .taken) (w .1 .ensures))
+          (λ w. w .1 ∙ folded-none (keepBetter _) _ _ _ (sym (holds .holds .ensures) ∙ w .0 .left))
           (c .if1 .came))
-          ∙ c .before .before .before .loop .inv .2,
+          ∙ loop .loop .inv .2,
     ))
     (λ c. ranged-done (keepBetter _) _ _ _ _ (omega arith) ∙ c .before .loop .inv .2))

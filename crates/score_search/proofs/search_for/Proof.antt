@@ -36,25 +36,26 @@ long c = search needs
 
 -- the kinds from i to j are none that can be the pair
 module _ (c : tie.After-none Inv-loop μ-loop) where
-  abbrev s : tie.Start Inv-loop μ-loop
-  s = c .before .before .before
+  abbrev start : tie.Start Inv-loop μ-loop
+  start = let pairs-in = c .before in pairs-in .before .before
 
   skipped : (i j : ℕ) (b : Best) → i ≤ j → ((k : ℕ) → i ≤ k → k < j → Among (c .before .pairs-in .result .first) (c .before .pairs-in .result .last) k → ⊥)
-      → ranged (keepBetter (worthIn (s .args .h))) (paired (s .args .t2) (s .args .m) (s .args .win)) 34 j b
-      ≡ ranged (keepBetter (worthIn (s .args .h))) (paired (s .args .t2) (s .args .m) (s .args .win)) 34 i b
+      → let a = start .args in ranged (keepBetter (worthIn (a .h))) (paired (a .t2) (a .m) (a .win)) 34 j b
+      ≡ ranged (keepBetter (worthIn (a .h))) (paired (a .t2) (a .m) (a .win)) 34 i b
   skipped i j b l out =
-      ranged-skip (keepBetter _) _ 34 i j b l (λ k u v. paired-out (keepBetter _) _ _ _ k _ _ b (long s) (c .before .pairs-in .ensures .1) (out k u v))
+      ranged-skip (keepBetter _) _ 34 i j b l (λ k u v. paired-out (keepBetter _) _ _ _ k _ _ b (long start) (c .before .pairs-in .ensures .1) (out k u v))
 
 -- there is room for the splittings beside a pair
 module _ (c : tie.After-out Inv-loop μ-loop) where
-  abbrev first : tie.Start Inv-loop μ-loop
-  first = c .before .before .before .before .before .before .before .before .before
+  abbrev loop : tie.At-loop Inv-loop μ-loop
+  loop = let then2 = c .before .before in let then1 = then2 .before in then1 .before .before
 
-  few : 0 + length (behind (4 - first .args .m) (68 ∷ 68 ∷ 68 ∷ 68 ∷ []) (4 - first .args .m) 0 (c .before .without-pair .result)) ≤ 3
+  few : let m = start (loop .before) .args .m in 0 + length (behind (4 - m) (68 ∷ 68 ∷ 68 ∷ 68 ∷ []) (4 - m) 0 (c .before .without-pair .result)) ≤ 3
   few =
-      let m = first .args .m in
+      let s = start (loop .before) in
+      let m = s .args .m in
       let u = c .before .without-pair in
-      let l : length (u .result) ≡ 34 = rw (u .ensures) (less-long (first .args .t2) _ 2 (long first)) in
+      let l : length (u .result) ≡ 34 = rw (u .ensures) (less-long (s .args .t2) _ 2 (long s)) in
       omega (arith, behind-three (4 - m) (68 ∷ 68 ∷ 68 ∷ 68 ∷ []) (4 - m) 0 (u .result) (omega arith) l)
 
 pub search-for-spec : {M : Type 1} → statement M
@@ -79,28 +80,29 @@ search-for-spec =
     (λ c κs. (omega arith, omega arith, few c))
     (λ c. omega arith)
     (λ c κs.
-    let l = c .before .before .before .before .before .before in
-    (l .before .before .before .before .pre .0, omega (arith, c .split .ensures .place, few (c .before)), omega arith, l .loop .inv .3))
+    let l = loop (c .before) in
+    (start (l .before) .pre .0, omega (arith, c .split .ensures .place, few (c .before)), omega arith, l .loop .inv .3))
     (λ c.
-    let out = c .before .before .before in
-    let inside = out .before .before .before in
-    let l = inside .before .before in
-    let on = l .before in
-    let start = on .before .before .before in
+    let split = c .before .before in
+    let out = split .before in
+    let then2 = out .before .before in
+    let l = loop out in
+    let s = start (l .before) in
     let still = done-still _ _ (c .if3 .taken) in
-    rw (← on .none .ensures)
+    rw (← l .before .none .ensures)
     (readings-with (keepBetter _) _ _ _ _ _ _
     (ranged-still (keepBetter _) _ _ _ _ still
-    ∙ ranged-turn (keepBetter _) _ _ _ _ _ (omega (arith, inside .if1 .taken, l .loop .inv .0))
-    (paired-with (keepBetter _) _ _ _ _ _ _ _ _ _ _ (long start) (start .pre .1) (out .before .before .if2 .taken) (out .before .without-pair .ensures) refl
-    (c .before .before .split .ensures) (c .before .each .ensures))
+    ∙ ranged-turn (keepBetter _) _ _ _ _ _ (omega (arith, then2 .before .if1 .taken, l .loop .inv .0))
+    (paired-with (keepBetter _) _ _ _ _ _ _ _ _ _ _ (long s) (s .pre .1) (then2 .if2 .taken) (out .before .without-pair .ensures) refl
+    (split .split .ensures) (c .before .each .ensures))
     ∙ l .loop .inv .4)
     (folded-still (keepBetter _) _ still _)))
     (λ c. omega arith)
     (λ c. omega arith)
     (λ c.
-    let l = c .before .before .before in
-    let start = l .before .before .before .before in (
+    let then1 = c .before in
+    let l = then1 .before .before in
+    let s = start (l .before) in (
       l .loop .inv .0,
       omega (arith, l .loop .inv .1),
       omega (arith, l .loop .inv .2),
@@ -108,17 +110,18 @@ search-for-spec =
       skipped (l .before) (l .loop .k + 1) (l .loop .k + 3) _ (omega arith) (λ k u v a. omega (arith, l .loop .inv .2))
           ∙ ranged-turn (keepBetter _) _ _ _ _ _ (omega arith)
           (⊎-elim
-          (λ w. w .6 ∙ paired-with (keepBetter _) _ _ _ _ _ _ _ _ _ _ (long start) (start .pre .1) (w .0 .taken) (w .1 .ensures) refl (w .3 .ensures)
+          (λ w. w .6 ∙ paired-with (keepBetter _) _ _ _ _ _ _ _ _ _ _ (long s) (s .pre .1) (w .0 .taken) (w .1 .ensures) refl (w .3 .ensures)
           (w .4 .ensures))
           (λ w. w .1 ∙ paired-none (keepBetter _) _ _ _ _ _ (w .0 .left))
           (c .if2 .came))
           ∙ l .loop .inv .4,
     ))
-    (λ c κs. let l = c .before .before in (l .before .before .before .before .pre .0, l .loop .inv .3))
+    (λ c κs. let l = c .before .before in (start (l .before) .pre .0, l .loop .inv .3))
     (λ c.
-    let l = c .before .before .before in
+    let left1 = c .before in
+    let l = left1 .before .before in
     rw (← l .before .none .ensures)
     (readings-with (keepBetter _) _ _ _ _ _ _
     (ranged-done (keepBetter _) _ 34 (l .loop .k + 34) _ (omega arith)
-    ∙ skipped (l .before) (l .loop .k) (l .loop .k + 34) _ (omega arith) (λ k u v a. omega (arith, c .before .if1 .left))
+    ∙ skipped (l .before) (l .loop .k) (l .loop .k + 34) _ (omega arith) (λ k u v a. omega (arith, left1 .if1 .left))
     ∙ l .loop .inv .4) (c .shapes .ensures))))

@@ -17,8 +17,11 @@ use Rattle.score_best.specs.laws.Tried.{done-still}
 use Rattle.score_search.proofs.shapes.Statement.{statement}
 use Rattle.score_search.proofs.shapes.Tie as tie
 
-paired : (c : tie.Joined2) → c .if2 .b ≡ folded (keepBetter (worthIn (c .before .before .before .args .h))) (c .before .before .before .args .best)
-    (when (isSevenPairs (c .before .before .before .args .t)) (λ _. ofShape 1 ∷ []))
+abbrev start : tie.After-is-seven-pairs → tie.Start
+start c = let else1 = c .before in else1 .before
+
+paired : (c : tie.Joined2) → let a = start (c .before) .args in
+    c .if2 .b ≡ folded (keepBetter (worthIn (a .h))) (a .best) (when (isSevenPairs (a .t)) (λ _. ofShape 1 ∷ []))
 paired c =
     ⊎-elim
     (λ w. w .4 ∙ folded-with (keepBetter _) _ _ _ _ (sym (c .before .is-seven-pairs .ensures) ∙ w .0 .taken)
@@ -27,7 +30,7 @@ paired c =
     (c .if2 .came)
 
 going : (c : tie.Joined2) → c .if2 .b .done ≡ false
-going c = ⊎-elim (λ w. rw (w .4) (w .3 .left)) (λ w. rw (w .1) (c .before .before .before .pre .1)) (c .if2 .came)
+going c = ⊎-elim (λ w. rw (w .4) (w .3 .left)) (λ w. rw (w .1) (start (c .before) .pre .1)) (c .if2 .came)
 
 place-zero : (r : Reading) (f : ℕ) → r ≡ ofShape f → r .place ≤ 4
 place-zero r f e = rw e (omega arith)
@@ -37,19 +40,25 @@ shapes-spec =
     tie.close
     (tie.spec (λ c. shaped-none (keepBetter _) _ _ _ (c .if1 .taken))
     (λ c κs. search needs) (λ c κs. search needs)
-    (λ c κs. let s = c .before .before .before .before in (s .pre .0, place-zero (c .of-shape .result) 1 (c .of-shape .ensures), s .pre .1))
+    (λ c κs.
+    let then2 = c .before in let s = start (then2 .before) in
+    (s .pre .0, place-zero (c .of-shape .result) 1 (c .of-shape .ensures), s .pre .1))
     (λ c.
-    let on = c .before .before .before .before in
-    shaped-with (keepBetter _) _ _ _ _ _ (on .before .if1 .left)
-    (folded-with (keepBetter _) _ _ _ _ (sym (on .is-seven-pairs .ensures) ∙ c .before .before .before .if2 .taken)
-    (c .before .keep-better .ensures ∙ ap (keepBetter _ _) (c .before .before .of-shape .ensures)))
+    let of-shape = c .before .before in let then2 = of-shape .before in let pairs = then2 .before in
+    shaped-with (keepBetter _) _ _ _ _ _ (pairs .before .if1 .left)
+    (folded-with (keepBetter _) _ _ _ _ (sym (pairs .is-seven-pairs .ensures) ∙ then2 .if2 .taken)
+    (c .before .keep-better .ensures ∙ ap (keepBetter _ _) (of-shape .of-shape .ensures)))
     (folded-still (keepBetter _) _ (done-still _ _ (c .if3 .taken)) _))
     (λ c κs. search needs) (λ c κs. search needs)
-    (λ c κs. let on = c .before .before .before in (on .before .before .before .pre .0, place-zero (c .of-shape2 .result) 2 (c .of-shape2 .ensures), going on))
+    (λ c κs.
+    let orphans = c .before .before in let joined2 = orphans .before in
+    (start (joined2 .before) .pre .0, place-zero (c .of-shape2 .result) 2 (c .of-shape2 .ensures), going joined2))
     (λ c.
-    shaped-with (keepBetter _) _ _ _ _ _ (c .before .before .before .before .before .before .if1 .left) (paired (c .before .before .before .before))
-    (folded-with (keepBetter _) _ _ _ _ (sym (c .before .before .before .is-orphans .ensures) ∙ c .before .before .if4 .taken)
+    let then4 = c .before .before in let orphans = then4 .before in let joined2 = orphans .before in
+    shaped-with (keepBetter _) _ _ _ _ _ (joined2 .before .before .if1 .left) (paired joined2)
+    (folded-with (keepBetter _) _ _ _ _ (sym (orphans .is-orphans .ensures) ∙ then4 .if4 .taken)
     (c .keep-better2 .ensures ∙ ap (keepBetter _ _) (c .before .of-shape2 .ensures))))
     (λ c.
-    shaped-with (keepBetter _) _ _ _ _ _ (c .before .before .before .before .if1 .left) (paired (c .before .before))
+    let joined2 = c .before .before in
+    shaped-with (keepBetter _) _ _ _ _ _ (joined2 .before .before .if1 .left) (paired joined2)
     (folded-none (keepBetter _) _ _ _ (sym (c .before .is-orphans .ensures) ∙ c .if4 .left))))

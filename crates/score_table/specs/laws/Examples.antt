@@ -19,7 +19,7 @@ use Rattle.yaku_basics.specs.Tests.{littleDragons, valueHan, earnsWait, twins, 
 use Rattle.yaku_basics.specs.Tests.{fourWinds}
 use Rattle.yaku_tiles.specs.OfTiles.{only, halfFlush, flush, gates}
 use Rattle.yaku.specs.Yaku.{pinfu, testsOf, isYakuman, listed, yakuOf, hasYaku}
-use Rattle.points.specs.Points.{plain, limit, ordinary, basic, hundreds, share, pays, gain}
+use Rattle.points.specs.Points.{plain, limit, ordinary, basic, hundreds, timesA, pays, gain}
 use Rattle.points_value.specs.Han.{yakuHan, hanOf}
 use Rattle.points_fu.specs.declared.Items.{Items}
 use Rattle.points_fu.specs.Fu.{fu, tripletFu, groupFu, added, rounded, regularItems, itemsOf, fuOf}
@@ -79,7 +79,7 @@ unfolding widths valuesOf recordOf allBelow anyBelow countBelow sumBelow doraOf 
     concealedTally handTally tileOver33 wrongHeld wrongFields descends inRecord overFour wrongSituation refusalOf headOf heldBy
     handIn paddingOf answerBy answerIn readOf holds isSevenPairs isOrphans concatMap isEmpty less fits without passes step splits placedAt placed paired shaped readings
     folded littleDragons valueHan earnsWait pinfu twins inThreeSuits straight hasYaochu outside concealed kans fourWinds only halfFlush flush gates
-    testsOf isYakuman listed yakuOf hasYaku plain limit ordinary basic hundreds share pays gain yakuHan hanOf tripletFu groupFu regularItems added
+    testsOf isYakuman listed yakuOf hasYaku plain limit ordinary basic hundreds timesA pays gain yakuHan hanOf tripletFu groupFu regularItems added
     rounded itemsOf fuOf valueOf beats counted noneOf keepBetterBy bestOf wonOf groupsOf waysOf fullReadingOf worth handScoreBy keptOf handScoreOf foundBy
     foundOf
 counts = record {
@@ -94,7 +94,7 @@ unfolding widths valuesOf recordOf allBelow anyBelow countBelow sumBelow doraOf 
     concealedTally handTally tileOver33 wrongHeld wrongFields descends inRecord overFour wrongSituation refusalOf headOf heldBy
     handIn paddingOf answerBy answerIn readOf holds isSevenPairs isOrphans concatMap isEmpty less fits without passes step splits placedAt placed paired shaped readings
     folded littleDragons valueHan earnsWait pinfu twins inThreeSuits straight hasYaochu outside concealed kans fourWinds only halfFlush flush gates
-    testsOf isYakuman listed yakuOf hasYaku plain limit ordinary basic hundreds share pays gain yakuHan hanOf tripletFu groupFu regularItems added
+    testsOf isYakuman listed yakuOf hasYaku plain limit ordinary basic hundreds timesA pays gain yakuHan hanOf tripletFu groupFu regularItems added
     rounded itemsOf fuOf valueOf beats counted noneOf keepBetterBy bestOf wonOf groupsOf waysOf fullReadingOf worth handScoreBy keptOf handScoreOf foundBy
     foundOf
 items-earned = record {

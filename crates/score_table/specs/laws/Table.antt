@@ -19,7 +19,7 @@ use Rattle.yaku_basics.specs.Tests.{littleDragons, valueHan, earnsWait, twins, 
 use Rattle.yaku_basics.specs.Tests.{fourWinds}
 use Rattle.yaku_tiles.specs.OfTiles.{only, halfFlush, flush, gates}
 use Rattle.yaku.specs.Yaku.{pinfu, testsOf, isYakuman, listed, yakuOf, hasYaku}
-use Rattle.points.specs.Points.{plain, limit, ordinary, basic, hundreds, share, pays, gain, change, changes}
+use Rattle.points.specs.Points.{plain, limit, ordinary, basic, hundreds, timesA, pays, gain, change, changes}
 use Rattle.points_value.specs.Han.{yakuHan, hanOf}
 use Rattle.points_fu.specs.Fu.{tripletFu, groupFu, added, rounded, regularItems, itemsOf, fuOf}
 use Rattle.points_value.specs.Value.{valueOf}
@@ -110,13 +110,13 @@ unfolding widths valuesOf recordOf allBelow anyBelow countBelow sumBelow doraOf 
     concealedTally handTally tileOver33 wrongHeld wrongFields descends inRecord overFour wrongSituation refusalOf headOf heldBy
     handIn paddingOf answerBy answerIn readOf holds isSevenPairs isOrphans concatMap isEmpty less fits without passes step splits placedAt placed paired shaped readings
     folded littleDragons valueHan earnsWait pinfu twins inThreeSuits straight hasYaochu outside concealed kans fourWinds only halfFlush flush gates
-    testsOf isYakuman listed yakuOf hasYaku plain limit ordinary basic hundreds share pays gain change changes yakuHan hanOf tripletFu groupFu
+    testsOf isYakuman listed yakuOf hasYaku plain limit ordinary basic hundreds timesA pays gain change changes yakuHan hanOf tripletFu groupFu
     regularItems added rounded itemsOf fuOf valueOf beats counted noneOf keepBetterBy bestOf wonOf groupsOf waysOf fullReadingOf worth handScoreBy keptOf
     handScoreOf foundBy foundOf
 found = record { line-1 = refl; line-2 = refl; line-3 = refl; line-4 = refl; line-5 = refl; line-6 = refl; line-7 = refl; line-8 = refl; line-9 = refl; line-12 = refl }
 
 pub lines : Lines
-unfolding kindsFrom basic ordinary plain limit gain pays hundreds share
+unfolding kindsFrom basic ordinary plain limit gain pays hundreds timesA
 lines = record {
   line-1 = line one _ _ _ _ refl (found .line-1);
   line-2 = line two _ _ _ _ refl (found .line-2);

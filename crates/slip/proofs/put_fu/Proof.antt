@@ -14,7 +14,8 @@ unfolding labels signedOf
 returns c =
     let at = c .before .before in
     let known = at .before in
-    let s = known .before .before .before .before in
+    let lent = known .before .before in
+    let s = lent .before .before in
     let small : s .args .fu .0 < 2 ^ 31 = omega (arith, known .struct-known .given) in
     rw (toZ-pos w32 small) at (at .put-number .ensures)
 

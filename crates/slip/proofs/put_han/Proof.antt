@@ -12,19 +12,21 @@ use Rattle.slip.proofs.put_han.Tie as tie
 returns : tie.Need-returns
 unfolding labels
 returns c =
-    let at = c .before .before in
-    let word = at .before .before .before .before in
-    rw (word .if1 .taken) (at .put-line .ensures)
+    let put-line = c .before .before in
+    let label = put-line .before .before in
+    let then1 = label .before .before in
+    rw (then1 .if1 .taken) (put-line .put-line .ensures)
 
 returns-2 : tie.Need-returns-2
 unfolding labels signedOf
 returns-2 c =
-    let at = c .before .before in
-    let known = at .before in
-    let number = known .before .before .before in
-    let s = number .before .before in
+    let put-number = c .before .before in
+    let known = put-number .before in
+    let label = known .before in
+    let else1 = label .before .before in
+    let s = else1 .before .before in
     let small : s .args .h .0 < 2 ^ 31 = omega (arith, known .struct-known .given) in
-    rw (number .if1 .left) (rw (toZ-pos w32 small) at (at .put-number .ensures))
+    rw (else1 .if1 .left) (rw (toZ-pos w32 small) at (put-number .put-number .ensures))
 
 pub put-han-spec : {M : Type 1} → statement M
 put-han-spec =

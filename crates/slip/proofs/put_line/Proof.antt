@@ -10,14 +10,15 @@ use Rattle.slip.proofs.put_line.Tie as tie
 
 returns : tie.Need-returns
 returns c =
-    let value = c .before .before in
-    let label = value .before .before .before .before in
-    let blank = label .before .before .before .before in
-    let s = blank .before .before .before .before .before in
+    let copy2 = c .before .before in
+    let back2 = copy2 .before .before in let copy = back2 .before .before in
+    let back1 = copy .before .before in let blank = back1 .before .before in
+    let value-known = blank .before .before in let line-known = value-known .before .before in
+    let s = line-known .before in
     let text = s .args .label .now in
     line-written text (s .args .value .now) (s .pre .1 .0) (s .pre .1 .1) _ _ refl refl _ _
-    (label .copy .ensures .1 ∙ ap (λ (l : List ℕ). take (length text) text ++ drop (length text) l) (blank .blank .ensures))
-    (value .copy2 .ensures .1)
+    (copy .copy .ensures .1 ∙ ap (λ (l : List ℕ). take (length text) text ++ drop (length text) l) (blank .blank .ensures))
+    (copy2 .copy2 .ensures .1)
 
 pub put-line-spec : {M : Type 1} → statement M
 put-line-spec =

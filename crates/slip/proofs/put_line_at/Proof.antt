@@ -14,27 +14,31 @@ use Rattle.slip.proofs.put_line_at.Tie as tie
 
 returns : tie.Need-returns
 returns c =
-    let at = c .before .before in
-    let yakuman = at .before in
-    let first = yakuman .before .before .before in
-    let a = first .before .before .args .a in
-    at .put-han .ensures
+    let put-han = c .before .before in
+    let yakuman = put-han .before in
+    let lent = yakuman .before in
+    let then1 = lent .before .before in
+    let a = then1 .before .before .args .a in
+    put-han .put-han .ensures
     ∙ ap (λ (y : Bool). slipLine (getD labels 0 []) (cond y (bytesOf "YAKUMAN") (digitsOf (a .h .0)))) (yakuman .is-yakuman .ensures)
-    ∙ line-han a ∙ ap (lineAt a) (sym (first .if1 .taken))
+    ∙ line-han a ∙ ap (lineAt a) (sym (then1 .if1 .taken))
 
 returns-2 : tie.Need-returns-2
 returns-2 c =
-    let at = c .before .before in
-    let second = at .before .before in
-    let s = second .before .before .before in
-    at .put-fu .ensures ∙ line-fu (s .args .a) (s .pre .1) ∙ ap (lineAt (s .args .a)) (sym (second .if2 .taken))
+    let put-fu = c .before .before in
+    let then2 = put-fu .before .before in
+    let else1 = then2 .before in
+    let s = else1 .before .before in
+    put-fu .put-fu .ensures ∙ line-fu (s .args .a) (s .pre .1) ∙ ap (lineAt (s .args .a)) (sym (then2 .if2 .taken))
 
 returns-3 : tie.Need-returns-3
 returns-3 c =
-    let at = c .before .before in
-    let later = at .before .before .before in
-    let s = later .before .before .before in
-    at .put-seat .ensures ∙ line-seat (s .args .a) (s .args .k) (later .before .if1 .left) (later .if2 .left) (s .pre .0 .1)
+    let put-seat = c .before .before in
+    let changes = put-seat .before .before in
+    let else2 = changes .before in
+    let else1 = else2 .before in
+    let s = else1 .before .before in
+    put-seat .put-seat .ensures ∙ line-seat (s .args .a) (s .args .k) (else1 .if1 .left) (else2 .if2 .left) (s .pre .0 .1)
 
 pub put-line-at-spec : {M : Type 1} → statement M
 put-line-at-spec =

@@ -28,7 +28,8 @@ loop-holds c = (omega arith, refl, refl, refl)
 loop-again : tie.Need-loop-again Inv-loop μ-loop
 loop-again c =
     let line = c .before .before in
-    let at = line .before .before .before in
+    let part = line .before in
+    let at = part .before .before in
     let k = at .loop .k in
     let page = at .loop .page in
     let s = at .before .before in
@@ -62,7 +63,7 @@ put-lines-spec =
     (λ c. search needs)
     (λ c. search needs)
     (λ c. search needs)
-    (λ c κs. (search needs, c .before .before .before .before .pre .1))
+    (λ c κs. let loop = c .before .before in (search needs, loop .before .before .pre .1))
     (λ c. search needs)
     (λ c. search needs)
     loop-again

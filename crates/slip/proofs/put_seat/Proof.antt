@@ -14,10 +14,14 @@ use Rattle.slip.proofs.put_seat.Tie as tie
 
 returns : tie.Need-returns
 returns c =
-    let at = c .before .before in
-    let s = at .before .before .before .before .before .before .before in
-    let fits = elem-sfits w32 (s .args .t3) (s .good .1 .1 .0 .0) (s .args .seat) (s .good .1 .1 .0 .1 .1) in
-    rw (toZ-ofZ fits) at (at .put-number .ensures) ∙ ap (λ (l : List ℕ). slipLine l (scoreText (s .args .t3) (s .args .seat))) (seat-label (s .args .seat) (s .pre .1))
+    let put-number = c .before .before in
+    let lent = put-number .before .before in
+    let label = lent .before .before in
+    let line-known = label .before .before in
+    let s = line-known .before in
+    let a = s .args in
+    let fits = elem-sfits w32 (a .t3) (s .good .1 .1 .0 .0) (a .seat) (s .good .1 .1 .0 .1 .1) in
+    rw (toZ-ofZ fits) at (put-number .put-number .ensures) ∙ ap (λ (l : List ℕ). slipLine l (scoreText (a .t3) (a .seat))) (seat-label (a .seat) (s .pre .1))
 
 pub put-seat-spec : {M : Type 1} → statement M
 put-seat-spec =

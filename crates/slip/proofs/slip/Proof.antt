@@ -10,21 +10,27 @@ use Rattle.slip.specs.laws.Answer.{refused, too-short, written, same-zer
 use Rattle.slip.proofs.slip.Statement.{statement}
 use Rattle.slip.proofs.slip.Tie as tie
 
+-- the start, from after `score`
+abbrev start-of : tie.After-score → tie.Start
+start-of c = let page-known = c .before in page-known .before .before
+
 put-lines-requires : tie.Need-put-lines-requires
 put-lines-requires c κs =
-    let b = c .before .before .before .before in
-    let s = b .before .before .before .args in
+    let else1 = c .before .before in
+    let b = else1 .before .before in
+    let s = start-of b .args in
     (search needs, same-zero _ (b .score .result) (s .page .now) (b .score .ensures .1) (yakuman-zero (s .s .now) (s .dealer) (s .wind)))
 
 returns-3 : tie.Need-returns-3
 returns-3 c =
-    let lines = c .before .before in
-    let long = lines .before .before in
-    let b = long .before .before .before in
-    let page = b .before .before .before .args .page .now in
+    let put-lines = c .before .before in
+    let else2 = put-lines .before .before in
+    let else1 = else2 .before in
+    let b = else1 .before .before in
+    let page = start-of b .args .page .now in
     let e = b .score .ensures .1 in
-    written _ (b .score .result) page e (long .before .if1 .left) (long .if2 .left) _
-    (lines .put-lines .ensures ∙ ap (λ (a : Scored). slipText a ++ drop 150 page) e)
+    written _ (b .score .result) page e (else1 .if1 .left) (else2 .if2 .left) _
+    (put-lines .put-lines .ensures ∙ ap (λ (a : Scored). slipText a ++ drop 150 page) e)
 
 pub slip-spec : {M : Type 1} → statement M
 slip-spec =
@@ -33,10 +39,11 @@ slip-spec =
     (λ c κs. search needs)
     (λ c.
     let b = c .before .before in
-    refused _ (b .score .result) (b .before .before .before .args .page .now) (b .score .ensures .1) (c .if1 .taken))
+    refused _ (b .score .result) (start-of b .args .page .now) (b .score .ensures .1) (c .if1 .taken))
     (λ c.
-    let b = c .before .before .before in
-    too-short _ (b .score .result) (b .before .before .before .args .page .now) (b .score .ensures .1) (c .before .if1 .left) (c .if2 .taken))
+    let else1 = c .before in
+    let b = else1 .before .before in
+    too-short _ (b .score .result) (start-of b .args .page .now) (b .score .ensures .1) (else1 .if1 .left) (c .if2 .taken))
     put-lines-requires
     (λ c. search needs)
     returns-3)

@@ -7,6 +7,13 @@ use borrow.Author.Needs.{needs}
 use Rattle.speech_fu.proofs.put_items.Statement.{statement}
 use Rattle.speech_fu.proofs.put_items.Tie as tie
 
+-- after `put_first`, from after `put_groups`; the start, from there
+abbrev first-of : tie.After-put-groups → tie.After-put-first
+first-of c = let back1 = c .before .before in back1 .before .before
+
+abbrev start-of : tie.After-put-first → tie.Start
+start-of c = let g = c .before .before in g .before .before
+
 pub put-items-spec : {M : Type 1} → statement M
 put-items-spec =
     tie.close
@@ -14,24 +21,18 @@ put-items-spec =
     (λ c κs. search needs)
     (λ c κs. search needs)
     (λ c κs.
-    let put-groups = c .before .before .before in
-    let put-first = put-groups .before .before .before .before in
-    let pre = put-first .before .before .before .before in
-    omega (
-      arith,
-      put-groups .put-groups .ensures .1,
-      put-groups .put-groups .kept .0,
-      put-first .put-first .ensures .1,
-      put-first .put-first .kept .0,
-      pre .pre,
-    ))
+    let back2 = c .before in let put-groups = back2 .before .before in
+    let put-first = first-of put-groups in
+    let groups = put-groups .put-groups in
+    let first = put-first .put-first in
+    omega (arith, groups .ensures .1, groups .kept .0, first .ensures .1, first .kept .0, start-of put-first .pre))
     (λ c. search needs)
     (λ c.
-    let put-groups = c .before .before .before .before .before .before in
-    let put-first = put-groups .before .before .before .before in
-    let start = put-first .before .before .before .before in (
-      put-as (items-of (start .args .language) (start .args .x))
-          (put-then (put-first .put-first .ensures .0) (put-then (put-groups .put-groups .ensures .0) (c .before .before .put-last .ensures .0))),
-      omega
-          (arith, put-first .put-first .ensures .1, put-groups .put-groups .ensures .1, c .before .before .put-last .ensures .1),
-    )))
+    let put-last = c .before .before in
+    let back2 = put-last .before .before in let put-groups = back2 .before .before in
+    let put-first = first-of put-groups in
+    let a = start-of put-first .args in
+    let first = put-first .put-first .ensures in
+    let groups = put-groups .put-groups .ensures in
+    let last = put-last .put-last .ensures in
+    (put-as (items-of (a .language) (a .x)) (put-then (first .0) (put-then (groups .0) (last .0))), omega (arith, first .1, groups .1, last .1))))

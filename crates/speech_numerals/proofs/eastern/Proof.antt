@@ -8,9 +8,10 @@ use Rattle.speech_numerals.proofs.eastern.Tie as tie
 returns : tie.Need-returns
 unfolding easternOf
 returns c =
-    let scaled-four2 = c .before .before .before .before .before .before in
-    let scaled-four = scaled-four2 .before .before .before .before in
-    put-then (scaled-four .scaled-four .ensures .0) (put-then (scaled-four2 .scaled-four2 .ensures .0) (c .before .before .four .ensures .0))
+    let four = c .before .before in
+    let back2 = four .before .before in let scaled-four2 = back2 .before .before in
+    let back1 = scaled-four2 .before .before in let scaled-four = back1 .before .before in
+    put-then (scaled-four .scaled-four .ensures .0) (put-then (scaled-four2 .scaled-four2 .ensures .0) (four .four .ensures .0))
 
 pub eastern-spec : {M : Type 1} → statement M
 eastern-spec =

@@ -9,11 +9,11 @@ use Rattle.speech_numerals.proofs.four.Tie as tie
 returns : tie.Need-returns
 unfolding fourOf
 returns c =
-    let tens = c .before .before .before .before .before .before in
-    let hundreds = tens .before .before .before .before in
-    let thousands = hundreds .before .before .before .before in (
-      put-then (thousands .thousands .ensures .0)
-          (put-then (hundreds .hundreds .ensures .0) (put-then (tens .tens .ensures .0) (c .before .before .ones .ensures .0))),
+    let ones = c .before .before in
+    let back3 = ones .before .before in let tens = back3 .before .before in
+    let back2 = tens .before .before in let hundreds = back2 .before .before in
+    let back1 = hundreds .before .before in let thousands = back1 .before .before in (
+      put-then (thousands .thousands .ensures .0) (put-then (hundreds .hundreds .ensures .0) (put-then (tens .tens .ensures .0) (ones .ones .ensures .0))),
       omega arith,
     )
 

@@ -7,8 +7,9 @@ use Rattle.speech_numerals.proofs.hundreds.Tie as tie
 returns : tie.Need-returns
 unfolding hundredsOf
 returns c =
-    let is-gap = c .before .before .before .before in
-    (rw (is-gap .is-gap .ensures) at (c .before .before .place .ensures .0), c .before .before .place .ensures .1)
+    let place = c .before .before in
+    let is-gap = place .before .before in
+    (rw (is-gap .is-gap .ensures) at (place .place .ensures .0), place .place .ensures .1)
 
 pub hundreds-spec : {M : Type 1} → statement M
 hundreds-spec =

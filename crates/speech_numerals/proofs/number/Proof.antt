@@ -13,21 +13,21 @@ returns c =
 
 returns-2 : tie.Need-returns-2
 returns-2 c =
-    let if2 = c .before .before .before .before in
-    let if1 = if2 .before in
-    let before = if1 .before in
-    let s = before .before in
-    put-numeral (s .args .language) (s .args .n) (numeral-english (s .args .language) (s .args .n) (if1 .if1 .left) (if2 .if2 .taken)) (s .fits .n .fits)
-    (c .before .before .english .ensures)
+    let english = c .before .before in
+    let then2 = english .before .before in
+    let else1 = then2 .before in
+    let s = else1 .before .before in
+    put-numeral (s .args .language) (s .args .n) (numeral-english (s .args .language) (s .args .n) (else1 .if1 .left) (then2 .if2 .taken)) (s .fits .n .fits)
+    (english .english .ensures)
 
 returns-3 : tie.Need-returns-3
 returns-3 c =
-    let if2 = c .before .before .before .before in
-    let if1 = if2 .before in
-    let before = if1 .before in
-    let s = before .before in
-    put-numeral (s .args .language) (s .args .n) (numeral-eastern (s .args .language) (s .args .n) (if1 .if1 .left) (if2 .if2 .left)) (s .fits .n .fits)
-    (c .before .before .eastern .ensures)
+    let eastern = c .before .before in
+    let else2 = eastern .before .before in
+    let else1 = else2 .before in
+    let s = else1 .before .before in
+    put-numeral (s .args .language) (s .args .n) (numeral-eastern (s .args .language) (s .args .n) (else1 .if1 .left) (else2 .if2 .left)) (s .fits .n .fits)
+    (eastern .eastern .ensures)
 
 pub number-spec : {M : Type 1} → statement M
 number-spec =

@@ -14,16 +14,18 @@ returns c = (rw (eq-eqb _ _ (c .if1 .taken)) (put-none (c .before .before .args 
 returns-2 : tie.Need-returns-2
 unfolding scaledFour
 returns-2 c =
-    let start = c .before .before .before in
-    (rw (ne-eqb _ _ (c .before .if1 .left), c .if2 .taken) (put-after (start .args .scale) (put-none (start .args .buf .now) (start .args .at))), omega arith)
+    let else1 = c .before in
+    let s = else1 .before .before .args in
+    (rw (ne-eqb _ _ (else1 .if1 .left), c .if2 .taken) (put-after (s .scale) (put-none (s .buf .now) (s .at))), omega arith)
 
 returns-3 : tie.Need-returns-3
 unfolding scaledFour
 returns-3 c =
-    let if2 = c .before .before .before .before in
-    let if1 = if2 .before in
-    let start = if1 .before .before in
-    (rw (ne-eqb _ _ (if1 .if1 .left), if2 .if2 .left) (put-after (start .args .scale) (c .before .before .four .ensures .0)), omega arith)
+    let four = c .before .before in
+    let else2 = four .before .before in
+    let else1 = else2 .before in
+    let s = else1 .before .before .args in
+    (rw (ne-eqb _ _ (else1 .if1 .left), else2 .if2 .left) (put-after (s .scale) (four .four .ensures .0)), omega arith)
 
 pub scaled-four-spec : {M : Type 1} → statement M
 scaled-four-spec =

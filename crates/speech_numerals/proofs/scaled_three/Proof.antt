@@ -14,9 +14,9 @@ returns c = (rw (eq-eqb _ _ (c .if1 .taken)) (put-none (c .before .before .args 
 returns-2 : tie.Need-returns-2
 unfolding scaledThree
 returns-2 c =
-    let if1 = c .before .before .before .before in
-    let start = if1 .before .before in
-    (rw (ne-eqb _ _ (if1 .if1 .left)) (put-after (start .args .scale) (c .before .before .three .ensures .0)), omega arith)
+    let three = c .before .before in
+    let else1 = three .before .before in
+    (rw (ne-eqb _ _ (else1 .if1 .left)) (put-after (else1 .before .before .args .scale) (three .three .ensures .0)), omega arith)
 
 pub scaled-three-spec : {M : Type 1} → statement M
 scaled-three-spec =

@@ -9,8 +9,9 @@ use Rattle.speech_numerals.proofs.three.Tie as tie
 returns : tie.Need-returns
 unfolding threeOf
 returns c =
-    let place = c .before .before .before .before .before .before in
-    (put-then (place .place .ensures .0) (c .before .before .under-hundred .ensures .0), omega arith)
+    let under-hundred = c .before .before in
+    let back1 = under-hundred .before .before in let place = back1 .before .before in
+    (put-then (place .place .ensures .0) (under-hundred .under-hundred .ensures .0), omega arith)
 
 pub three-spec : {M : Type 1} → statement M
 three-spec =

@@ -18,9 +18,10 @@ returns c = (
 returns-2 : tie.Need-returns-2
 unfolding underHundred
 returns-2 c =
-    let place = c .before .before .before .before .before .before in
-    let if1 = place .before .before in
-    (rw (if1 .if1 .left) (put-then (place .place .ensures .0) (c .before .before .place2 .ensures .0)), omega arith)
+    let place2 = c .before .before in
+    let back1 = place2 .before .before in let place = back1 .before .before in
+    let else1 = place .before .before in
+    (rw (else1 .if1 .left) (put-then (place .place .ensures .0) (place2 .place2 .ensures .0)), omega arith)
 
 pub under-hundred-spec : {M : Type 1} → statement M
 under-hundred-spec =

@@ -14,17 +14,13 @@ pub is-limit-spec : {M : Type 1} → statement M
 is-limit-spec =
     tie.close
     (tie.spec
-    (λ c. let a = c .before .args in limit-5 (a .h .0) (a .fu .0) (c .if1 .taken))
-    (λ c. let a = c .before .before .args in limit-4 (a .h .0) (a .fu .0) (c .if2 .taken))
+    (λ c. limit-5 _ _ (c .if1 .taken))
+    (λ c. limit-4 _ _ (c .if2 .taken))
+    (λ c. limit-3 _ _ (c .if3 .taken))
+    (λ c. limit-2 _ _ (c .if4 .taken))
+    (λ c. limit-1 _ _ (c .if5 .taken))
     (λ c.
-    let start = c .before .before .before in
-    limit-3 (start .args .h .0) (start .args .fu .0) (c .if3 .taken))
-    (λ c.
-    let start = c .before .before .before .before in
-    limit-2 (start .args .h .0) (start .args .fu .0) (c .if4 .taken))
-    (λ c.
-    let start = c .before .before .before .before .before in
-    limit-1 (start .args .h .0) (start .args .fu .0) (c .if5 .taken))
-    (λ c.
-    let start = c .before .before .before .before .before in
+    let else3 = c .before .before in
+    let else1 = else3 .before .before in
+    let start = else1 .before in
     limit-0 (start .args .h .0) (start .args .fu .0) (omega arith) (byte start)))

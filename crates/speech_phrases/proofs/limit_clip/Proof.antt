@@ -7,11 +7,7 @@ pub limit-clip-spec : {M : Type 1} → statement M
 limit-clip-spec =
     tie.close
     (tie.spec
-    (λ c. clip-5 (c .before .args .h .0) 0 (c .if1 .taken))
-    (λ c. clip-7 (c .before .before .args .h .0) 0 (c .before .if1 .left) (c .if2 .taken))
-    (λ c.
-    let start = c .before .before .before in
-    clip-10 (start .args .h .0) 0 (c .before .if2 .left) (c .if3 .taken))
-    (λ c.
-    let start = c .before .before .before in
-    clip-11 (start .args .h .0) 0 (c .if3 .left)))
+    (λ c. clip-5 _ 0 (c .if1 .taken))
+    (λ c. clip-7 _ 0 (c .before .if1 .left) (c .if2 .taken))
+    (λ c. clip-10 _ 0 (c .before .if2 .left) (c .if3 .taken))
+    (λ c. clip-11 _ 0 (c .if3 .left)))

@@ -9,11 +9,12 @@ use Rattle.speech_phrases.proofs.put_amount.Tie as tie
 returns : tie.Need-returns
 unfolding amountClips
 returns c =
-    let number = c .before .before .before .before .before .before in
-    let put-clip2 = number .before .before .before .before in
-    let put-clip = put-clip2 .before .before .before .before in (
+    let put-clip3 = c .before .before in
+    let back3 = put-clip3 .before .before in let number = back3 .before .before in
+    let back2 = number .before .before in let put-clip2 = back2 .before .before in
+    let back1 = put-clip2 .before .before in let put-clip = back1 .before .before in (
       put-then (put-clip .put-clip .ensures .0)
-          (put-then (put-clip2 .put-clip2 .ensures .0) (put-then (number .number .ensures .0) (c .before .before .put-clip3 .ensures .0))),
+          (put-then (put-clip2 .put-clip2 .ensures .0) (put-then (number .number .ensures .0) (put-clip3 .put-clip3 .ensures .0))),
       omega arith,
     )
 

@@ -14,9 +14,10 @@ returns c = (rw (eq-eqb _ _ (c .if1 .taken)) (put-none (c .before .before .args 
 returns-2 : tie.Need-returns-2
 unfolding countedClips
 returns-2 c =
-    let put-clip = c .before .before .before .before .before .before in
-    let if1 = put-clip .before .before in
-    (rw (ne-eqb _ _ (if1 .if1 .left)) (put-then (put-clip .put-clip .ensures .0) (c .before .before .number .ensures .0)), omega arith)
+    let number = c .before .before in
+    let back1 = number .before .before in let put-clip = back1 .before .before in
+    let else1 = put-clip .before .before in
+    (rw (ne-eqb _ _ (else1 .if1 .left)) (put-then (put-clip .put-clip .ensures .0) (number .number .ensures .0)), omega arith)
 
 pub put-counted-spec : {M : Type 1} → statement M
 put-counted-spec =

@@ -15,17 +15,11 @@ put-limit-spec =
     (λ c κs. search needs)
     (λ c. search needs)
     (λ c.
-    let if1 = c .before .before .before .before in
-    let limit-clip = if1 .before in
-    let is-limit = limit-clip .before in
-    let start = is-limit .before .before in (
-      put-as (limit-some (start .args .h .0) (start .args .fu .0) _ _ (is-limit .is-limit .ensures) (limit-clip .limit-clip .ensures) (if1 .if1 .taken))
-          (c .before .before .put-clip .ensures .0),
-      c .before .before .put-clip .ensures .1,
+    let put-clip = c .before .before in
+    let then1 = put-clip .before .before in
+    let limit-clip = then1 .before in (
+      put-as (limit-some _ _ _ _ (limit-clip .before .is-limit .ensures) (limit-clip .limit-clip .ensures) (then1 .if1 .taken))
+          (put-clip .put-clip .ensures .0),
+      put-clip .put-clip .ensures .1,
     ))
-    (λ c.
-    let start = c .before .before .before .before in (
-      put-as (limit-none (start .args .h .0) (start .args .fu .0) _ _ (c .before .before .is-limit .ensures) (c .before .limit-clip .ensures) (c .if1 .left))
-          (put-none (start .args .buf .now) (start .args .at)),
-      omega arith,
-    )))
+    (λ c. (put-as (limit-none _ _ _ _ (c .before .before .is-limit .ensures) (c .before .limit-clip .ensures) (c .if1 .left)) (put-none _ _), omega arith)))

@@ -9,22 +9,22 @@ use Rattle.speech_phrases.proofs.put_pays.Tie as tie
 
 returns : tie.Need-returns
 returns c =
-    let if1 = c .before .before .before .before in
-    let player = if1 .before in
-    let size = player .before in
-    let before = size .before in
-    let s = before .before in
+    let put-amount = c .before .before in
+    let then1 = put-amount .before .before in
+    let player = then1 .before in
+    let absolute = player .before in
+    let s = absolute .before .before in
     let fits = toZ-ofZ (s .fits .change) in
     let a = s .args in (
-      put-as (pays-some (a .language) (a .dealer) (a .seat) (a .change) _ _ (player .player .ensures) (rw fits at (size .absolute .ensures))
-          (rw fits at (if1 .if1 .taken))) (c .before .before .put-amount .ensures .0),
-      c .before .before .put-amount .ensures .1,
+      put-as (pays-some (a .language) (a .dealer) (a .seat) (a .change) _ _ (player .player .ensures) (rw fits at (absolute .absolute .ensures))
+          (rw fits at (then1 .if1 .taken))) (put-amount .put-amount .ensures .0),
+      put-amount .put-amount .ensures .1,
     )
 
 returns-2 : tie.Need-returns-2
 returns-2 c =
-    let before = c .before .before .before in
-    let s = before .before in
+    let absolute = c .before .before in
+    let s = absolute .before .before in
     let a = s .args in (
       put-as (pays-none (a .language) (a .dealer) (a .seat) (a .change) (rw (toZ-ofZ (s .fits .change)) at (c .if1 .left)))
           (put-none (a .buf .now) (a .at)),

@@ -1,45 +1,22 @@
 -- `speech_phrases::put_yaku` meets its contract: those of the first k are written.
-use mathlib.Core.Path.{_≡_, refl, _∙_}
 use mathlib.Core.Bool.{false}
-use Prim.Native.Nat.{_+_, _-_, _≤_}
-use native.Mathlib.Omega.{arith}
-use lib.ListN.{length, getD, length-set}
-use Rattle.text.specs.Put.{Put}
-use Rattle.speech_told.specs.Phrases.{chosen, yakuClips}
-use Rattle.speech_phrases.specs.laws.Put.{put-first, put-chosen, put-passed}
+use Prim.Native.Nat.{_+_, _-_}
+use lib.ListN.{getD}
+use Rattle.speech_told.specs.Phrases.{yakuClips}
 use borrow.Author.Needs.{needs}
+use Rattle.speech_phrases.proofs.Written.{Written, none, one, skip, all}
 use Rattle.speech_phrases.proofs.put_yaku.Statement.{statement}
 use Rattle.speech_phrases.proofs.put_yaku.Tie as tie
 
 abbrev Inv-loop : tie.InvT-loop
-Inv-loop buf₀ at y e₀ k₀ buf e k = (k ≤ 36) × (e ≤ at + k) × (length buf ≡ length buf₀) × Put buf₀ at (chosen 141 (λ j. getD y (j + 1) false) k) buf e
+Inv-loop buf₀ at y e₀ k₀ buf e k = Written 141 36 (λ j. getD y (j + 1) false) buf₀ at buf e k
 
 abbrev μ-loop : tie.MeasureT-loop
 μ-loop buf₀ at y e₀ k₀ buf e k = 36 - k
 
-loop-again : tie.Need-loop-again Inv-loop μ-loop
-loop-again c =
-    let start = c .before .before .before in
-    let at = c .before .before .loop in (
-      omega arith,
-      omega arith,
-      length-set (at .buf) (at .e) (141 + at .k)
-          ∙ at .inv .2,
-      put-chosen 141 (λ j. getD (start .args .t3) (j + 1) false) (at .k) (at .inv .3) (c .if1 .taken),
-    )
-
-loop-again-2 : tie.Need-loop-again-2 Inv-loop μ-loop
-loop-again-2 c =
-    let start = c .before .before .before in
-    let at = c .before .before .loop in
-    (omega arith, omega arith, at .inv .2, put-passed 141 (λ j. getD (start .args .t3) (j + 1) false) (at .k) (at .inv .3) (c .if1 .left))
-
 returns : tie.Need-returns Inv-loop μ-loop
 unfolding yakuClips
-returns c =
-    let at = c .before .loop in
-    let e : at .k ≡ 36 = omega arith in
-    (rw e at (at .inv .3), omega arith)
+returns c = all _ _ _ _ _ (c .before .loop .inv) (c .loop-test .left)
 
 pub put-yaku-spec : {M : Type 1} → statement M
 put-yaku-spec =
@@ -47,7 +24,7 @@ put-yaku-spec =
     (tie.spec
     Inv-loop
     μ-loop
-    (λ c. (omega arith, omega arith, refl, put-first 141 (λ j. getD (c .args .t3) (j + 1) false) (c .args .buf .now) (c .args .at)))
+    (λ c. none _ _ _ _ _)
     (λ c. search needs)
     (λ c. search needs)
     (λ c. search needs)
@@ -56,9 +33,9 @@ put-yaku-spec =
     (λ c. search needs)
     (λ c. search needs)
     (λ c. search needs)
-    loop-again
+    (λ c. one _ _ _ _ _ (c .before .before .loop .inv) (c .before .loop-test .taken) (c .if1 .taken))
     (λ c. search needs)
     (λ c. search needs)
-    loop-again-2
-    (λ c. c .before .loop .inv .2)
+    (λ c. skip _ _ _ _ _ (c .before .before .loop .inv) (c .before .loop-test .taken) (c .if1 .left))
+    (λ c. c .before .loop .inv .size)
     returns)

@@ -8,17 +8,14 @@ use Rattle.speech_score.proofs.give.Tie as tie
 
 returns : tie.Need-returns
 returns c =
-    let start = c .before .before .before .before in
-    let s = start .args in
-    let q = short (s .clips .now) (s .buf .now) (c .before .if1 .taken) in
+    let q = short _ _ (c .before .if1 .taken) in
     (c .refused .ensures ∙ q .0, q .1)
 
 returns-2 : tie.Need-returns-2
 returns-2 c =
-    let if1 = c .before .before .before .before in
-    let start = if1 .before .before .before in
-    let s = start .args in
-    long (s .clips .now) (s .buf .now) (if1 .if1 .left) (c .before .before .copy .ensures .0) (c .before .before .copy .ensures .1)
+    let copy = c .before .before in
+    let else1 = copy .before .before in
+    long _ _ (else1 .if1 .left) (copy .copy .ensures .0) (copy .copy .ensures .1)
 
 pub give-spec : {M : Type 1} → statement M
 give-spec =

@@ -7,11 +7,12 @@ use Rattle.speech_score.proofs.put_won.Tie as tie
 
 returns : tie.Need-returns
 returns c =
-    let put-clip2 = c .before .before .before .before .before .before in
+    let put-yaku = c .before .before in
+    let back2 = put-yaku .before .before in let put-clip2 = back2 .before .before in
     let way = put-clip2 .before in
-    let put-clip = way .before .before .before .before in (
+    let back1 = way .before .before in let put-clip = back1 .before .before in (
       rw (way .way .ensures) at (put-then (put-clip .put-clip .ensures .0)
-          (put-then (put-clip2 .put-clip2 .ensures .0) (c .before .before .put-yaku .ensures .0))),
+          (put-then (put-clip2 .put-clip2 .ensures .0) (put-yaku .put-yaku .ensures .0))),
       omega arith,
     )
 

@@ -1,50 +1,33 @@
 -- `speech_score::say_score` meets its contract: an unknown language, Score's refusal, or the message.
-use mathlib.Core.Path.{ap}
+use mathlib.Core.Path.{ap, _∙_}
 use native.Mathlib.Omega.{arith}
 use Rattle.text.specs.laws.Put.{take-put}
 use Rattle.score.specs.declared.Scored.{Scored}
-use Rattle.score.specs.Score.{scoreOf}
-use Rattle.speech_told.specs.Messages.{scoreSaid}
 use Rattle.speech_score.specs.laws.Said.{unknown-by, refused-by, given-by, put-long, put-fits, score-said, winner-le}
-use mathlib.Core.Path.{_∙_}
 use borrow.Author.Needs.{needs}
 use Rattle.speech_score.proofs.say_score.Statement.{statement}
 use Rattle.speech_score.proofs.say_score.Tie as tie
 
-returns : tie.Need-returns
-returns c =
-    let start = c .before .before .before .before .before in
-    let s = start .args in
-    unknown-by (s .language) (scoreOf (s .s .now) (s .dealer) (s .wind) .refusal) (scoreSaid (s .language) (s .s .now) (s .dealer) (s .wind)) (s .buf .now)
-    (c .before .before .is-known .ensures) (c .before .if1 .taken) (c .refused .ensures)
-
 returns-2 : tie.Need-returns-2
 returns-2 c =
-    let score = c .before .before .before in
-    let if1 = score .before in
-    let is-known = if1 .before in
-    let start = is-known .before .before .before in
-    let s = start .args in
-    refused-by (s .language) (scoreOf (s .s .now) (s .dealer) (s .wind) .refusal) (scoreSaid (s .language) (s .s .now) (s .dealer) (s .wind)) (s .buf .now)
-    (is-known .is-known .ensures) (if1 .if1 .left) (ap (λ (x : Scored). x .refusal) (score .score .ensures .1)) (c .before .if2 .taken) (c .refused2 .ensures)
+    let then2 = c .before in
+    let score = then2 .before .before in
+    let else1 = score .before in
+    refused-by _ _ _ _ (else1 .before .is-known .ensures) (else1 .if1 .left) (ap (λ (x : Scored). x .refusal) (score .score .ensures .1)) (then2 .if2 .taken)
+    (c .refused2 .ensures)
 
 returns-3 : tie.Need-returns-3
 returns-3 c =
-    let put-scored = c .before .before .before .before .before .before in
-    let read-hand = put-scored .before .before .before .before .before in
-    let if2 = read-hand .before in
-    let score = if2 .before .before in
-    let if1 = score .before in
-    let is-known = if1 .before in
-    let start = is-known .before .before .before in
-    let s = start .args in
-    let a = score .score in
-    let h = read-hand .read-hand in
-    let put = put-scored .put-scored .ensures in
-    given-by (s .language) (scoreOf (s .s .now) (s .dealer) (s .wind) .refusal) (scoreSaid (s .language) (s .s .now) (s .dealer) (s .wind)) (s .buf .now)
-    (is-known .is-known .ensures) (if1 .if1 .left) (ap (λ (x : Scored). x .refusal) (a .ensures .1)) (if2 .if2 .left)
-    (take-put (put .0) (omega arith) ∙ score-said (s .language) (s .s .now) (s .dealer) (s .wind) (a .result) (h .result) (a .ensures .1) (h .ensures))
-    (c .before .before .give .ensures .0) (c .before .before .give .ensures .1)
+    let give = c .before .before in
+    let lent = give .before .before in let put-scored = lent .before .before in
+    let work = put-scored .before in let fields = work .before .before in
+    let read-hand = fields .before .before in
+    let else2 = read-hand .before in
+    let score = else2 .before .before in
+    let else1 = score .before in
+    given-by _ _ _ _ (else1 .before .is-known .ensures) (else1 .if1 .left) (ap (λ (x : Scored). x .refusal) (score .score .ensures .1)) (else2 .if2 .left)
+    (take-put (put-scored .put-scored .ensures .0) (omega arith) ∙ score-said _ _ _ _ _ _ (score .score .ensures .1) (read-hand .read-hand .ensures))
+    (give .give .ensures .0) (give .give .ensures .1)
 
 pub say-score-spec : {M : Type 1} → statement M
 say-score-spec =
@@ -52,22 +35,18 @@ say-score-spec =
     (tie.spec
     (λ c κs. search needs)
     (λ c κs. search needs)
-    returns
+    (λ c. unknown-by _ _ _ _ (c .before .before .is-known .ensures) (c .before .if1 .taken) (c .refused .ensures))
     (λ c κs. search needs)
     (λ c κs. search needs)
     returns-2
     (λ c κs. search needs)
     (λ c. search needs)
     (λ c κs.
-    let read-hand = c .before .before .before .before in
-    let start = read-hand .before .before .before .before .before .before .before .before in
-    (search needs, winner-le (start .args .s .now) (read-hand .read-hand .result) (read-hand .read-hand .ensures)))
+    let fields = c .before .before in
+    let read-hand = fields .before .before in
+    (search needs, winner-le _ _ (read-hand .read-hand .ensures)))
     (λ c. search needs)
-    (λ c.
-    let put-scored = c .before .before .before in
-    put-long (put-scored .put-scored .ensures .0) (omega arith))
-    (λ c κs.
-    let put-scored = c .before .before .before in
-    put-fits (put-scored .put-scored .ensures .0) (omega arith) (omega arith))
+    (λ c. let lent = c .before in put-long (lent .before .before .put-scored .ensures .0) (omega arith))
+    (λ c κs. let lent = c .before in put-fits (lent .before .before .put-scored .ensures .0) (omega arith) (omega arith))
     (λ c. search needs)
     returns-3)

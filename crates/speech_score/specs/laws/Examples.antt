@@ -28,12 +28,12 @@ haneman = record {
 -- with seat 0 as dealer, in English: "South wins by ron, riichi, seven pairs, six han twenty-five fu, haneman; North pays twelve thousand points; South gets
 -- twelve thousand points"
 pub said-in-english : scoreMessage 2 0 1 true haneman ≡ 61 ∷ 64 ∷ 150 ∷ 152 ∷ 6 ∷ 69 ∷ 11 ∷ 5 ∷ 70 ∷ 72 ∷ 63 ∷ 66 ∷ 43 ∷ 51 ∷ 68 ∷ 61 ∷ 67 ∷ 43 ∷ 51 ∷ 68 ∷ []
-unfolding placeOf underHundred threeOf scaledThree englishOf numeral plain isYakuman chosen yakuClips limitClips isLimit limitClip worthClips amountClips paysClips
-    paymentsClips scoreMessage
+unfolding placeOf underHundred threeOf scaledThree englishOf numeral plain isYakuman chosen yakuClips limitClips isLimit limitClip worthClips amountClips
+    paysClips paymentsClips scoreMessage
 said-in-english = refl
 
 -- and in Korean, whose 12,000 begins with its scale
 pub said-in-korean : scoreMessage 3 0 1 true haneman ≡ 61 ∷ 64 ∷ 150 ∷ 152 ∷ 6 ∷ 69 ∷ 11 ∷ 5 ∷ 70 ∷ 72 ∷ 63 ∷ 66 ∷ 37 ∷ 29 ∷ 68 ∷ 61 ∷ 67 ∷ 37 ∷ 29 ∷ 68 ∷ []
-unfolding placeOf thousandsOf hundredsOf tensOf onesOf fourOf scaledFour easternOf numeral plain isYakuman chosen yakuClips limitClips isLimit limitClip worthClips amountClips
-    paysClips paymentsClips scoreMessage
+unfolding placeOf thousandsOf hundredsOf tensOf onesOf fourOf scaledFour easternOf numeral plain isYakuman chosen yakuClips limitClips isLimit limitClip
+    worthClips amountClips paysClips paymentsClips scoreMessage
 said-in-korean = refl

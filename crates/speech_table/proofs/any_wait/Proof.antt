@@ -25,12 +25,13 @@ any-wait-spec =
     (λ c. (omega arith, some-none _))
     (λ c. search needs)
     (λ c.
-    let start = c .before .before .before in
-    sym (some-stop (λ j. getD (start .args .t1) j false) 34 (c .before .before .loop .k) (search needs) (c .if1 .taken)))
+    let loop = c .before .before in
+    sym (some-stop (λ j. getD (loop .before .args .t1) j false) 34 (loop .loop .k) (search needs) (c .if1 .taken)))
     (λ c. search needs)
     (λ c. search needs)
     (λ c.
-    let start = c .before .before .before in
-    (omega arith, some-more (λ j. getD (start .args .t1) j false) (c .before .before .loop .k) (c .before .before .loop .inv .1) (c .if1 .left)))
-    (λ c. sym (some-done (λ j. getD (c .before .before .args .t1) j false) 34 (c .before .loop .k) (c .before .loop .inv .0) (search needs)
-    (c .before .loop .inv .1))))
+    let loop = c .before .before in
+    (omega arith, some-more (λ j. getD (loop .before .args .t1) j false) (loop .loop .k) (loop .loop .inv .1) (c .if1 .left)))
+    (λ c.
+    let loop = c .before in
+    sym (some-done (λ j. getD (loop .before .args .t1) j false) 34 (loop .loop .k) (loop .loop .inv .0) (search needs) (loop .loop .inv .1))))

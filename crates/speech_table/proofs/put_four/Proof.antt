@@ -19,15 +19,15 @@ fits s k = elem-sfits w32 (s .args .t4) (s .good .1 .1 .1 .0 .0) k (s .good .1 .
 returns : tie.Need-returns
 unfolding fourScores
 returns c =
-    let put-score3 = c .before .before .before .before .before .before .before in
-    let put-score2 = put-score3 .before .before .before .before .before in
-    let put-score = put-score2 .before .before .before .before .before in
-    let before = put-score .before .before .before in
-    let s = before .before in
+    let put-score4 = c .before .before in
+    let lent4 = put-score4 .before .before in let back3 = lent4 .before in let put-score3 = back3 .before .before in
+    let lent3 = put-score3 .before .before in let back2 = lent3 .before in let put-score2 = back2 .before .before in
+    let lent2 = put-score2 .before .before in let back1 = lent2 .before in let put-score = back1 .before .before in
+    let lent1 = put-score .before .before in let s = lent1 .before .before in
     let a = rw (toZ-ofZ (fits s 0)) at (put-score .put-score .ensures .0) in
     let b = rw (toZ-ofZ (fits s 1)) at (put-score2 .put-score2 .ensures .0) in
     let d = rw (toZ-ofZ (fits s 2)) at (put-score3 .put-score3 .ensures .0) in
-    let e = rw (toZ-ofZ (fits s 3)) at (c .before .before .put-score4 .ensures .0) in
+    let e = rw (toZ-ofZ (fits s 3)) at (put-score4 .put-score4 .ensures .0) in
     (put-then a (put-then b (put-then d e)), omega arith)
 
 pub put-four-spec : {M : Type 1} → statement M

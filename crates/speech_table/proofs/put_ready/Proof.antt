@@ -10,15 +10,17 @@ use Rattle.speech_table.proofs.put_ready.Tie as tie
 returns : tie.Need-returns
 unfolding readyMessage
 returns c =
-    let if1 = c .before .before .before .before in
-    (rw (eq-eqb _ _ (if1 .if1 .taken)) (c .before .before .put-clip .ensures .0), omega arith)
+    let put-clip = c .before .before in
+    let then1 = put-clip .before .before in
+    (rw (eq-eqb _ _ (then1 .if1 .taken)) (put-clip .put-clip .ensures .0), omega arith)
 
 returns-2 : tie.Need-returns-2
 unfolding readyMessage
 returns-2 c =
-    let number = c .before .before .before .before .before .before in
-    let if1 = number .before .before in
-    (rw (ne-eqb _ _ (if1 .if1 .left)) (put-then (number .number .ensures .0) (c .before .before .put-clip2 .ensures .0)), omega arith)
+    let put-clip2 = c .before .before in
+    let back1 = put-clip2 .before .before in let number = back1 .before .before in
+    let else1 = number .before .before in
+    (rw (ne-eqb _ _ (else1 .if1 .left)) (put-then (number .number .ensures .0) (put-clip2 .put-clip2 .ensures .0)), omega arith)
 
 pub put-ready-spec : {M : Type 1} → statement M
 put-ready-spec =

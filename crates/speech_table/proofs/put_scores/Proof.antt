@@ -9,12 +9,13 @@ use Rattle.speech_table.proofs.put_scores.Tie as tie
 returns : tie.Need-returns
 unfolding scoresMessage
 returns c =
-    let put-counted = c .before .before .before .before .before .before in
-    let put-four = put-counted .before .before .before .before in (
-      put-then (put-four .put-four .ensures .0) (put-then (put-counted .put-counted .ensures .0) (c .before .before .put-counted2 .ensures .0)),
-      omega
-          (arith, put-four .put-four .ensures .1, put-counted .put-counted .ensures .1, c .before .before .put-counted2 .ensures .1),
-    )
+    let put-counted2 = c .before .before in
+    let back2 = put-counted2 .before .before in let put-counted = back2 .before .before in
+    let back1 = put-counted .before .before in let put-four = back1 .before .before in
+    let a = put-four .put-four .ensures in
+    let b = put-counted .put-counted .ensures in
+    let d = put-counted2 .put-counted2 .ensures in
+    (put-then (a .0) (put-then (b .0) (d .0)), omega (arith, a .1, b .1, d .1))
 
 pub put-scores-spec : {M : Type 1} → statement M
 put-scores-spec =

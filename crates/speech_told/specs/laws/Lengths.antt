@@ -10,7 +10,8 @@ use lib.Signed.{ltZ}
 use Rattle.points.specs.Points.{plain}
 use Rattle.speech_numerals.specs.Numerals.{numeral}
 use Rattle.speech_numerals.specs.laws.Short.{numeral-short}
-use Rattle.speech_told.specs.Phrases.{player, chosen, yakuClips, limitClips, isLimit, limitClip, worthClips, amountClips, paysClips, paymentsClips, countedClips}
+use Rattle.speech_told.specs.Phrases.{player, chosen, yakuClips, limitClips, isLimit, limitClip, worthClips, amountClips, paysClips, paymentsClips}
+use Rattle.speech_told.specs.Phrases.{countedClips}
 use Rattle.speech_told.specs.Phrases.{scoreClips, tileClips}
 
 -- ---- the parts

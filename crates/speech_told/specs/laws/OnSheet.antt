@@ -14,7 +14,8 @@ use Rattle.points.specs.Points.{plain}
 use Rattle.speech_numerals.specs.Numerals.{numeral}
 use Rattle.speech_numerals.specs.Heard.{onSheet}
 use Rattle.speech_numerals.specs.laws.Sheet.{on-numeral}
-use Rattle.speech_told.specs.Phrases.{player, chosen, yakuClips, limitClips, isLimit, limitClip, worthClips, amountClips, paysClips, paymentsClips, countedClips}
+use Rattle.speech_told.specs.Phrases.{player, chosen, yakuClips, limitClips, isLimit, limitClip, worthClips, amountClips, paysClips, paymentsClips}
+use Rattle.speech_told.specs.Phrases.{countedClips}
 use Rattle.speech_told.specs.Phrases.{scoreClips, tileClips}
 use Rattle.speech_told.specs.Sheet.{isPhrase, hasClip}
 

@@ -11,7 +11,7 @@ use Rattle.tiles.specs.Below.{all, any, count, sum, allBelow}
 use Rattle.tiles.specs.Kinds.{isYaochu, isDragon, isWind}
 use Rattle.tiles.specs.Groups.{isRun, isTriplet, isGroup}
 use Rattle.tiles.specs.laws.Below.{both-ways, any-counted, all-any, any-at, any-of, every-at, every-of}
-use Rattle.yaku_basics.specs.Tests.{has, isValue, dragons, winds, littleDragons, valueHan, earnsWait, held, twins, inThreeSuits, straight}
+use Rattle.yaku_basics.specs.Tests.{has, isValue, dragons, winds, littleDragons, valueHan, earnsWait, copies, twins, inThreeSuits, straight}
 use Rattle.yaku_basics.specs.Tests.{hasYaochu, outside, triplets, isConcealed, concealed, kans, fourWinds}
 use Rattle.symmetry.specs.Renamed.{renamed}
 use Rattle.symmetry.specs.laws.Kinds.{Renaming, at-suit, test-other, isDragon-stays, isWind-stays, isYaochu-stays}
@@ -96,10 +96,10 @@ module _ (u : Renaming) (g w r v : List ℕ) (m : Moved u g w r v) where
   pub twins-moved : twins r ≡ twins g
   unfolding twins
   twins-moved =
-      total-kinds u 27 (omega arith) (λ c. held g c / 2) (λ c. held r c / 2)
+      total-kinds u 27 (omega arith) (λ c. copies g c / 2) (λ c. copies r c / 2)
       (λ k l.
       ap (λ (x : ℕ). x / 2)
-      (ap (held r) (sym (code-run (u .to) k (omega arith))) ∙ count-moved (λ c x. eqb c k) (λ c x. eqb c (F k)) (λ c x. code-test u c k)))
+      (ap (copies r) (sym (code-run (u .to) k (omega arith))) ∙ count-moved (λ c x. eqb c k) (λ c x. eqb c (F k)) (λ c x. code-test u c k)))
 
   three-moved : (low : ℕ) → ((s j : ℕ) → s < 3 → j < 9 → F (low + j + 9 * s) ≡ low + j + 9 * u .to s) → inThreeSuits low r ≡ inThreeSuits low g
   three-moved low h =
@@ -182,7 +182,8 @@ module _ (u : Renaming) (g w r v : List ℕ) (m : Moved u g w r v) where
         go false e = let z = s .group e in rw (s .pair, z .0) (wait-code u place (getD g (place - 1) 0) win (z .1))
 
     pub pinfu-moved : (closed : Bool) (k round own : ℕ) → 27 ≤ round → 27 ≤ own
-        → closed && all 4 (λ i. isRun (getD r i 0)) && not (earnsWait at (getD r (at - 1) 0) (renamed (u .to) win)) && not (isValue round own (renamed (u .to) k))
+        → closed && all 4 (λ i. isRun (getD r i 0)) && not (earnsWait at (getD r (at - 1) 0) (renamed (u .to) win))
+        && not (isValue round own (renamed (u .to) k))
         ≡ closed && all 4 (λ i. isRun (getD g i 0)) && not (earnsWait place (getD g (place - 1) 0) win) && not (isValue round own k)
     pinfu-moved closed k round own a b = four (all-moved isRun (isRun-code u)) wait-moved (value-pair round own k a b)
       where

@@ -22,7 +22,7 @@ use Rattle.yaku_basics.specs.Tests.{littleDragons, valueHan, earnsWait, twins, 
 use Rattle.yaku_basics.specs.Tests.{fourWinds}
 use Rattle.yaku_tiles.specs.OfTiles.{only, isGreen, halfFlush, flush, gates}
 use Rattle.yaku.specs.Yaku.{pinfu, testsOf, isYakuman, listed, yakuOf, hasYaku}
-use Rattle.points.specs.Points.{plain, limit, ordinary, basic, hundreds, share, pays, gain, change, changes}
+use Rattle.points.specs.Points.{plain, limit, ordinary, basic, hundreds, timesA, pays, gain, change, changes}
 use Rattle.points_value.specs.Han.{yakuHan, hanOf}
 use Rattle.points_fu.specs.Fu.{tripletFu, groupFu, added, rounded, regularItems, itemsOf, fuOf}
 use Rattle.points_value.specs.Value.{valueOf}
@@ -68,13 +68,13 @@ told s changes e = ap (λ (x : Scored). x .changes) (sym (found-is-score s 0 0))
 
 -- "provided the hand is all green (yaku 34) neither before nor after": without this the score may differ
 pub green-differs : GreenDiffers
-unfolding renamed renamedMeld put inOrder renamedHeld renamedRecord widths valuesOf recordOf allBelow anyBelow countBelow sumBelow doraOf isGroup atKind uses tallyOf
-    meldHolds inMelds inOthers inHeld inConcealed inHand concealedTally handTally tileOver33 wrongHeld wrongFields descends inRecord overFour wrongSituation
-    refusalOf headOf heldBy handIn paddingOf answerBy answerIn readOf holds isSevenPairs isOrphans concatMap isEmpty less fits without
-    passes step splits placedAt placed paired shaped readings folded littleDragons valueHan earnsWait pinfu twins inThreeSuits straight hasYaochu
-    outside concealed kans fourWinds only halfFlush flush gates testsOf isYakuman listed yakuOf hasYaku plain limit ordinary basic hundreds share pays gain
-    change changes yakuHan hanOf tripletFu groupFu regularItems added rounded itemsOf fuOf valueOf beats counted noneOf keepBetterBy bestOf wonOf
-    groupsOf waysOf fullReadingOf worth handScoreBy keptOf handScoreOf foundBy foundOf
+unfolding renamed renamedMeld put inOrder renamedHeld renamedRecord widths valuesOf recordOf allBelow anyBelow countBelow sumBelow doraOf isGroup atKind
+    uses tallyOf meldHolds inMelds inOthers inHeld inConcealed inHand concealedTally handTally tileOver33 wrongHeld wrongFields descends inRecord overFour
+    wrongSituation refusalOf headOf heldBy handIn paddingOf answerBy answerIn readOf holds isSevenPairs isOrphans concatMap isEmpty less fits without passes
+    step splits placedAt placed paired shaped readings folded littleDragons valueHan earnsWait pinfu twins inThreeSuits straight hasYaochu outside concealed
+    kans fourWinds only halfFlush flush gates testsOf isYakuman listed yakuOf hasYaku plain limit ordinary basic hundreds timesA pays gain change changes
+    yakuHan hanOf tripletFu groupFu regularItems added rounded itemsOf fuOf valueOf beats counted noneOf keepBetterBy bestOf wonOf groupsOf waysOf
+    fullReadingOf worth handScoreBy keptOf handScoreOf foundBy foundOf
 green-differs = record {
   renaming = renaming-of 2 1 0 (omega arith) (omega arith) (omega arith) (λ e. omega arith) (λ e. omega arith) (λ e. omega arith);
   green = ap isAllGreen (sym (found-is-score (recordOf greenHand) 0 0)) ∙ refl;
@@ -90,13 +90,13 @@ pub record GreenNoReading : Type 0 where
   pub after : isAllGreen (scoreOf (renamedRecord manForSou (recordOf noReadingHand)) 0 0) ≡ false
 
 pub green-no-reading : GreenNoReading
-unfolding renamed renamedMeld put inOrder renamedHeld renamedRecord widths valuesOf recordOf allBelow anyBelow countBelow sumBelow doraOf isGroup atKind uses tallyOf
-    meldHolds inMelds inOthers inHeld inConcealed inHand concealedTally handTally tileOver33 wrongHeld wrongFields descends inRecord overFour wrongSituation
-    refusalOf headOf heldBy handIn paddingOf answerBy answerIn readOf holds isSevenPairs isOrphans concatMap isEmpty less fits without
-    passes step splits placedAt placed paired shaped readings folded littleDragons valueHan earnsWait pinfu twins inThreeSuits straight hasYaochu
-    outside concealed kans fourWinds only halfFlush flush gates testsOf isYakuman listed yakuOf hasYaku plain limit ordinary basic hundreds share pays gain
-    change changes yakuHan hanOf tripletFu groupFu regularItems added rounded itemsOf fuOf valueOf beats counted noneOf keepBetterBy bestOf wonOf
-    groupsOf waysOf fullReadingOf worth handScoreBy keptOf handScoreOf foundBy foundOf
+unfolding renamed renamedMeld put inOrder renamedHeld renamedRecord widths valuesOf recordOf allBelow anyBelow countBelow sumBelow doraOf isGroup atKind
+    uses tallyOf meldHolds inMelds inOthers inHeld inConcealed inHand concealedTally handTally tileOver33 wrongHeld wrongFields descends inRecord overFour
+    wrongSituation refusalOf headOf heldBy handIn paddingOf answerBy answerIn readOf holds isSevenPairs isOrphans concatMap isEmpty less fits without passes
+    step splits placedAt placed paired shaped readings folded littleDragons valueHan earnsWait pinfu twins inThreeSuits straight hasYaochu outside concealed
+    kans fourWinds only halfFlush flush gates testsOf isYakuman listed yakuOf hasYaku plain limit ordinary basic hundreds timesA pays gain change changes
+    yakuHan hanOf tripletFu groupFu regularItems added rounded itemsOf fuOf valueOf beats counted noneOf keepBetterBy bestOf wonOf groupsOf waysOf
+    fullReadingOf worth handScoreBy keptOf handScoreOf foundBy foundOf
 green-no-reading = record {
   tiles = refl;
   refusal = ap (λ (x : Scored). x .refusal) (sym (found-is-score (recordOf noReadingHand) 0 0)) ∙ refl;

@@ -144,13 +144,13 @@ module _ (u : Renaming) (h k : Hand) (s : Renames u h k) where
   image-of r (regular x) = let (j, c) = carried-place u (x .codes) (x .order) (r .place) (omega (arith, x .place, x .size)) in of-regular r x j c
   image-of r (pairs x) = (
     ofShape 1,
-    pairs (record { closed = none (x .closed); kinds = pairs-stay u (concealedTally h) (concealedTally k) tally ∙ x .kinds; reading = refl }),
-    plain 0 (x .closed) (none (x .closed)) (x .reading) refl,
+    pairs (record { meldless = none (x .meldless); kinds = pairs-stay u (concealedTally h) (concealedTally k) tally ∙ x .kinds; reading = refl }),
+    plain 0 (x .meldless) (none (x .meldless)) (x .reading) refl,
   )
   image-of r (orphans x) = (
     ofShape 2,
-    orphans (record { closed = none (x .closed); kinds = orphans-stay u (concealedTally h) (concealedTally k) tally ∙ x .kinds; reading = refl }),
-    plain 1 (x .closed) (none (x .closed)) (x .reading) refl,
+    orphans (record { meldless = none (x .meldless); kinds = orphans-stay u (concealedTally h) (concealedTally k) tally ∙ x .kinds; reading = refl }),
+    plain 1 (x .meldless) (none (x .meldless)) (x .reading) refl,
   )
 
 -- each reading of the renamed hand is an image

@@ -11,7 +11,7 @@ use Rattle.tiles.specs.Below.{sum, tabulate}
 use Rattle.tiles.specs.laws.Below.{same-test}
 use Rattle.tiles.specs.laws.Tabulate.{getD-tabulate}
 use Rattle.points.specs.declared.Seats.{Seats}
-use Rattle.points.specs.Points.{share, pays, gain, change, changes}
+use Rattle.points.specs.Points.{timesA, pays, gain, change, changes}
 use Rattle.score.specs.declared.Scored.{Scored}
 use Rattle.score.specs.Named.{refusedWith}
 use Rattle.symmetry.specs.Rotated.{on, RotatedScore}
@@ -103,9 +103,9 @@ module _ (n w d c e : ℕ) (hw : w < 4) (hd : d < 4) (ron : Bool) (hc : ron ≡ 
   abbrev t : Seats
   t = record { winner = on n w; dealer = on n d; discarder = e }
 
-  share-on : (i : ℕ) → i < 4 → share t ron i ≡ share s ron (back n i)
-  unfolding share
-  share-on i h = rw (back-test n w i hw h, on-test n w d hw hd, back-test n d i hd h) (go ron refl)
+  times-on : (i : ℕ) → i < 4 → timesA t ron i ≡ timesA s ron (back n i)
+  unfolding timesA
+  times-on i h = rw (back-test n w i hw h, on-test n w d hw hd, back-test n d i hd h) (go ron refl)
     where
       go : (b : Bool) → ron ≡ b
           → _≡_ {A = ℕ} (cond (eqb w (back n i)) 0 (cond b (cond (eqb e i) (cond (eqb w d) 6 4) 0) (cond (eqb w d || eqb d (back n i)) 2 1)))
@@ -116,7 +116,7 @@ module _ (n w d c e : ℕ) (hw : w < 4) (hd : d < 4) (ron : Bool) (hc : ron ≡ 
   module _ (a : ℕ) where
     pays-on : (i : ℕ) → i < 4 → pays t ron a i ≡ pays s ron a (back n i)
     unfolding pays
-    pays-on i h = rw (share-on i h)
+    pays-on i h = rw (times-on i h)
 
     pub gain-on : gain t ron a ≡ gain s ron a
     unfolding gain

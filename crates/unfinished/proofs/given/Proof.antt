@@ -23,9 +23,8 @@ room c = whole (c .args .m) (c .pre .0) .0 ∙ ap (λ (n : ℕ). 8 * n) (sym (c 
 abbrev padding : tie.Start → ℕ
 padding c = paddingAfter 3 (c .args .m) (padOf (c .args .m)) (bitsOf (c .args .s .now))
 
-made : (c : tie.After-held-refusal)
-    → (c .before .before .held-in .result ≡ heldIn 3 (start (c .before .before) .args .m) (bitsOf (start (c .before .before) .args .s .now)))
-    × (c .held-refusal .result ≡ heldRefusal (c .before .before .held-in .result) (padding (start (c .before .before))))
+made : (c : tie.After-held-refusal) → let h = c .before .before in let a = start h in
+    (h .held-in .result ≡ heldIn 3 (a .args .m) (bitsOf (a .args .s .now))) × (c .held-refusal .result ≡ heldRefusal (h .held-in .result) (padding a))
 made c =
     let a = start (c .before .before) in
     let p = c .before .last .ensures ∙ padding-last 3 (a .args .m) (padOf (a .args .m)) (a .args .s .now) (room a) in

@@ -63,8 +63,10 @@ held-refusal-spec =
     (λ c. three _ _ (not-two (c .before .before)) (sym (c .before .descends .ensures) ∙ c .if2 .taken))
     (λ c κs. search needs) (λ c κs. search needs)
     (λ c.
-    let e = c .before .before .before in
+    let tally = c .before .before in
+    let e = tally .before in
     four _ _ (not-two (first e)) (not-three e) (is-four (c .before) ∙ c .if3 .taken))
     (λ c.
-    let e = c .before .before .before in
+    let tally = c .before .before in
+    let e = tally .before in
     none _ _ (not-two (first e)) (not-three e) (is-four (c .before) ∙ c .if3 .left)))

@@ -8,7 +8,10 @@ use Rattle.unfinished.proofs.read.Statement.{statement}
 use Rattle.unfinished.proofs.read.Tie as tie
 
 -- the meld count
-count : (c : tie.After-field) → c .field .result ≡ countIn (c .before .before .before .args .s .now)
+abbrev start : tie.After-field → tie.Start
+start c = let else1 = c .before in else1 .before .before
+
+count : (c : tie.After-field) → c .field .result ≡ countIn (start c .args .s .now)
 unfolding countIn
 count c = c .field .ensures
 
@@ -21,8 +24,10 @@ read-spec =
     (λ c κs. search needs)
     (λ c. c .refused2 .ensures ∙ read-not _ (λ f. omega (arith, count (c .before .before), f .few)))
     (λ c. search needs) (λ c. search needs) (λ c. search needs) (λ c κs. search needs)
-    (λ c. c .refused3 .ensures ∙ read-not _ (λ f. c .before .if3 .taken (f .right ∙ ap lengthOf (sym (count (c .before .before .before))))))
+    (λ c.
+    let else2 = c .before .before in
+    c .refused3 .ensures ∙ read-not _ (λ f. c .before .if3 .taken (f .right ∙ ap lengthOf (sym (count (else2 .before))))))
     (λ c κs. search needs)
     (λ c.
-    let g = c .before .before .before in
-    c .given .ensures ∙ read-as _ _ (count g) (record { some = omega arith; few = omega arith; right = c .before .if3 .left })))
+    let else2 = c .before .before in
+    c .given .ensures ∙ read-as _ _ (count (else2 .before)) (record { some = omega arith; few = omega arith; right = c .before .if3 .left })))

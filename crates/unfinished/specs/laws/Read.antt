@@ -15,7 +15,8 @@ use Rattle.hand_record.specs.search.Offsets.{heldIn, paddingAfter}
 use Rattle.hand_record.specs.laws.Offsets as offsets
 use Rattle.hand_record.specs.laws.Read.{bool-true}
 use Rattle.unfinished.specs.declared.Unfinished.{Unfinished}
-use Rattle.unfinished.specs.Unfinished.{lengthOf, padOf, widths, countIn, heldOf, paddingOf, wrongLength, heldRefusal, refusalOf, refusedWith, givenBy, readOf}
+use Rattle.unfinished.specs.Unfinished.{lengthOf, padOf, widths, countIn, heldOf, paddingOf, wrongLength, heldRefusal, refusalOf}
+use Rattle.unfinished.specs.Unfinished.{refusedWith, givenBy, readOf}
 
 -- the widths fill the bytes
 pub whole : (m : ℕ) → m ≤ 4

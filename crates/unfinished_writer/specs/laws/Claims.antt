@@ -74,7 +74,7 @@ module _ (x : Held) (j : ℕ) (buf : List ℕ) (i : IsHeld x) (u : unwritable x 
       let en : n ≡ lengthOf (x .m) = ap (λ (r : Written). r .len) (sym (w .0)) in
       ap (λ (k : ℕ). take k (bufferBy (refusalAfter j x buf) x buf)) en
       ∙ ap (take (lengthOf (x .m))) (sym (w .1))
-      ∙ take-at (unfinishedBytes x) (drop (lengthOf (x .m)) buf) (lengthOf (x .m)) (length-bytes x u i)
+      ∙ take-at (unfinishedBytes x) (drop (lengthOf (x .m)) buf) (lengthOf (x .m)) (length-bytes x)
 
   pub read-again : readOf (take n (bufferBy (refusalAfter j x buf) x buf)) ≡ record { refusal = 0; held = x }
   read-again = ap readOf taken ∙ same-read x u i

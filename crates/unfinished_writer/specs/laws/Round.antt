@@ -1,21 +1,27 @@
 -- A sound unfinished hand read and written back gives the same bytes; accepted tiles held written and read give the same tiles held.
-use Prim.Native.Nat.{ℕ, _*_}
+use Prim.Native.Nat.{ℕ, _-_, _*_, _≤_, _<_}
 use mathlib.Core.Path.{_≡_, refl, sym, ap, _∙_}
+use mathlib.Core.Bool.{Bool, true, false}
 use mathlib.Core.List.{List, [], _∷_, _++_}
 use native.Mathlib.Omega.{arith}
-use lib.ListN.{length, getD, take, length-replicate}
+use borrow.Author.Tests.{ltb-true, ltb-false}
+use lib.Dec.{ltb}
+use lib.ListN.{length, getD, take, length-replicate, length-take, List·getD-eq-default}
+use lib.Seq.{length-take-le, getD-take}
+use lib.Pow.{pow-pos}
 use Rattle.bits.specs.Bits.{val, pack, unpack, eights, bitsOf, EachBelow}
-use Rattle.bits.specs.laws.Pack.{FitIn, fieldsOf, length-unpack, bytes-fields, fields-bytes, fit-cons, app-inj}
+use Rattle.bits.specs.laws.Pack.{FitIn, fieldsOf, below-take, length-unpack, bytes-fields, fields-bytes, fit-cons, fit-nil, fit-run, fit-append, app-inj}
 use Rattle.hand.specs.declared.Held.{Held}
-use Rattle.hand_record.specs.Record.{heldWidths, heldValues}
+use Rattle.hand.specs.Held.{unusedNotZero}
+use Rattle.hand_record.specs.Record.{sixes, heldWidths, heldValues}
 use Rattle.hand_record.specs.search.Offsets.{meldsOf, tilesOf, heldIn, paddingAfter}
 use Rattle.hand_record.specs.laws.Offsets.{by-parts}
-use Rattle.hand_record.specs.laws.Round.{held-values, held-fit, held-again}
-use Rattle.unfinished.specs.Unfinished.{lengthOf, padOf, widths, countIn, heldOf, paddingOf, refusalOf, readOf}
+use Rattle.hand_record.specs.laws.Round.{held-values, held-again}
+use Rattle.unfinished.specs.Unfinished.{lengthOf, padOf, widths, countIn, heldOf, paddingOf, heldRefusal, refusalOf, readOf}
 use Rattle.unfinished.specs.laws.Read.{whole, RightLength, length-right, held-at, padding-at}
-use Rattle.unfinished.specs.laws.Sound.{Clean, clean-of, no-padding, are-kinds, SoundHeld, sound-held, read-sound}
+use Rattle.unfinished.specs.laws.Sound.{clean-of, no-padding, are-kinds, SoundHeld, sound-held, read-sound}
 use Rattle.unfinished_writer.specs.Write.{valuesOf, unfinishedBytes, unwritable, IsHeld}
-use Rattle.unfinished_writer.specs.laws.Store.{sum-widths, length-widths, Accepted, accepted-of, of-accepted}
+use Rattle.unfinished_writer.specs.laws.Store.{sum-widths, length-widths, accepted-of, of-accepted}
 
 -- the values of an unfinished hand's bits, part by part
 count-is : (s : List ℕ) → countIn s ≡ val 0 (take 3 (bitsOf s))
@@ -69,28 +75,45 @@ module _ (s : List ℕ) (e : refusalOf s ≡ 0) where
 
 -- ---- what is written
 
-module _ (x : Held) (e : unwritable x ≡ 0) (i : IsHeld x) where
-  a : Accepted x
-  a = accepted-of x e
+-- a tile that six bits hold, where it stands
+abbrev pub SixBits : Held → Type 0
+SixBits x = (i : ℕ) → i < 13 - 3 * x .m → getD (x .concealed) i 0 < 64
 
-  c : Clean x 0
-  c = clean-of x 0 (a .unrefused)
+-- the values of tiles held fit their widths
+values-fit : (x : Held) → x .m ≤ 4 → IsHeld x → SixBits x → FitIn (widths (x .m)) (valuesOf x)
+unfolding widths valuesOf
+values-fit x few i t =
+    let m : ℕ = x .m in
+    let k : ℕ = 13 - 3 * m in
+    let em : length (take m (x .melds)) ≡ m = length-take-le m (x .melds) (omega (arith, i .melds)) in
+    let et : length (take k (x .concealed)) ≡ k = length-take-le k (x .concealed) (omega (arith, i .concealed)) in
+    let tail = fit-append (sixes k) (take k (x .concealed)) (padOf m ∷ []) (0 ∷ []) (length-replicate k 6 ∙ sym et)
+    (fit-run k 6 (take k (x .concealed)) (omega arith) six) (fit-cons (padOf m) 0 [] [] (pow-pos (padOf m)) fit-nil) in
+    fit-cons 3 m (heldWidths m (padOf m)) (heldValues x) (omega arith)
+    (fit-append (eights m) (take m (x .melds)) (sixes k ++ (padOf m ∷ [])) (take k (x .concealed) ++ (0 ∷ [])) (length-replicate m 8 ∙ sym em)
+    (fit-run m 8 (take m (x .melds)) (omega arith) (below-take 256 m (x .melds) (i .bytes))) tail)
+  where
+    six : EachBelow 64 (take (13 - 3 * x .m) (x .concealed))
+    six j = go (ltb j (13 - 3 * x .m)) refl
+      where
+        go : (b : Bool) → ltb j (13 - 3 * x .m) ≡ b → getD (take (13 - 3 * x .m) (x .concealed)) j 0 < 64
+        go true e = let h = ltb-true j (13 - 3 * x .m) e in rw (getD-take (13 - 3 * x .m) (x .concealed) j 0 h) (t j h)
+        go false e =
+            let h = ltb-false j (13 - 3 * x .m) e in
+            rw (List·getD-eq-default (take (13 - 3 * x .m) (x .concealed)) 0 {n = j} (omega (arith, h, length-take (13 - 3 * x .m) (x .concealed))))
+            (omega arith)
 
-  values-fit : FitIn (widths (x .m)) (valuesOf x)
-  unfolding widths valuesOf
-  values-fit =
-      fit-cons 3 (x .m) (heldWidths (x .m) (padOf (x .m))) (heldValues x) (omega (arith, a .few))
-      (held-fit x (padOf (x .m)) (a .few) (i .melds) (i .concealed) (i .bytes) (are-kinds x 0 c))
+pub length-bytes : (x : Held) → length (unfinishedBytes x) ≡ lengthOf (x .m)
+unfolding unfinishedBytes
+length-bytes x = length-unpack (eights (lengthOf (x .m))) (pack (widths (x .m)) (valuesOf x)) ∙ length-replicate (lengthOf (x .m)) 8
 
+-- refused or not, tiles that the bytes can hold are read as they were
+module _ (x : Held) (i : IsHeld x) (few : x .m ≤ 4) (unused : unusedNotZero x ≡ false) (t : SixBits x) where
   same-fields : fieldsOf (widths (x .m)) (unfinishedBytes x) ≡ valuesOf x
   unfolding unfinishedBytes
   same-fields =
       fields-bytes (widths (x .m)) (valuesOf x) (lengthOf (x .m))
-      (length-widths x (a .few) (omega (arith, i .melds)) (omega (arith, i .concealed))) values-fit (sum-widths (x .m) (a .few))
-
-  pub length-bytes : length (unfinishedBytes x) ≡ lengthOf (x .m)
-  unfolding unfinishedBytes
-  length-bytes = length-unpack (eights (lengthOf (x .m))) (pack (widths (x .m)) (valuesOf x)) ∙ length-replicate (lengthOf (x .m)) 8
+      (length-widths x few (omega (arith, i .melds)) (omega (arith, i .concealed))) (values-fit x few i t) (sum-widths (x .m) few)
 
   -- the parts of what is written
   parts-back : (b : List ℕ) → b ≡ bitsOf (unfinishedBytes x)
@@ -102,27 +125,31 @@ module _ (x : Held) (e : unwritable x ≡ 0) (i : IsHeld x) where
       let q : val 0 (take 3 b) ∷ (meldsOf 3 m b ++ (tilesOf 3 m b ++ (p ∷ []))) ≡ m ∷ heldValues x =
       sym (unpack-widths m b) ∙ ap (unpack (widths m)) eb ∙ same-fields in
       let q1 = app-inj (val 0 (take 3 b) ∷ []) (m ∷ []) _ _ refl q in
-      let q2 = held-again x 3 p b (a .few) (i .melds) (i .concealed) (a .unused) (q1 .1) in
+      let q2 = held-again x 3 p b few (i .melds) (i .concealed) unused (q1 .1) in
       (ap (λ (l : List ℕ). getD l 0 0) (q1 .0), q2 .0, q2 .1)
 
-  -- so they are read
   pub same-held : heldOf (unfinishedBytes x) ≡ x
   same-held =
       let s : List ℕ = unfinishedBytes x in
       let p = parts-back (bitsOf s) refl in
       held-at s ∙ ap (λ (m : ℕ). heldIn 3 m (bitsOf s)) (count-is s ∙ p .0) ∙ p .1
 
-  pub unrefused : refusalOf (unfinishedBytes x) ≡ 0
+  pub refused-so : refusalOf (unfinishedBytes x) ≡ heldRefusal x 0
   unfolding refusalOf
-  unrefused =
+  refused-so =
       let s : List ℕ = unfinishedBytes x in
       let p = parts-back (bitsOf s) refl in
       let ec : countIn s ≡ x .m = count-is s ∙ p .0 in
-      let w = whole (x .m) (a .few) in
-      let r : RightLength (length s) (x .m) = record { some = omega (arith, w, length-bytes); few = a .few; right = length-bytes } in
+      let w = whole (x .m) few in
+      let r : RightLength (length s) (x .m) = record { some = omega (arith, w, length-bytes x); few = few; right = length-bytes x } in
       let ep : paddingOf s ≡ 0 = padding-at s ∙ ap (λ (m : ℕ). paddingAfter 3 m (padOf m) (bitsOf s)) ec ∙ p .2 in
-      rw (same-held, ep, ec, length-right (length s) (x .m) r) (a .unrefused)
+      rw (same-held, ep, ec, length-right (length s) (x .m) r)
 
-  pub same-read : readOf (unfinishedBytes x) ≡ record { refusal = 0; held = x }
-  unfolding readOf
-  same-read = rw (unrefused, same-held)
+-- accepted tiles are read
+pub same-read : (x : Held) → unwritable x ≡ 0 → IsHeld x → readOf (unfinishedBytes x) ≡ record { refusal = 0; held = x }
+unfolding readOf
+same-read x e i =
+    let a = accepted-of x e in
+    let c = clean-of x 0 (a .unrefused) in
+    let t : SixBits x = λ j h. let k = are-kinds x 0 c j h in omega arith in
+    rw (refused-so x i (a .few) (a .unused) t ∙ a .unrefused, same-held x i (a .few) (a .unused) t)

@@ -20,16 +20,20 @@ use Rattle.waits.proofs.find.Tie as tie
 told : (s d : List ℕ) (r : Waits) → r ≡ foundOf s d → IsWaits s d r × (r ≡ waitsOf s d)
 told s d r e = let i : IsWaits s d r = rw e (found s d) in (i, one-answer s d r i)
 
+-- the start, from after the record is read
+abbrev start : tie.After-read → tie.Start
+start c = let known = c .before in known .before .before
+
 -- past the reader's refusals there are at most four melds
 few : (c : tie.Else1) → c .before .read .result .held .m ≤ 4
 few c =
     let r = c .before .read in
     let z : r .result .refusal ≡ 0 = omega arith in
-    let s = c .before .before .before .before .args .s .now in
+    let s = start (c .before) .args .s .now in
     let q : r .result .held .m ≡ _ = ap (λ (x : Held). x .m) (held-is s (r .result) (r .ensures) z) in
     omega (arith, sound-held s (sym (refusal-is s (r .result) (r .ensures)) ∙ z) .few)
 
-kinds : (c : tie.Else2) → someIn (c .before .before .before .before .before .before .args .discards .now) (ltb 33) ≡ false
+kinds : (c : tie.Else2) → let else1 = c .before .before in someIn (start (else1 .before) .args .discards .now) (ltb 33) ≡ false
 kinds c = sym (c .before .over-33 .ensures) ∙ c .if2 .left
 
 pub find-spec : {M : Type 1} → statement M
@@ -41,12 +45,14 @@ find-spec =
     told _ _ _ (c .refused .ensures ∙ found-unreadable _ _ (r .result) (r .ensures) (c .before .if1 .taken)))
     (λ c κs. search needs) (λ c κs. search needs)
     (λ c.
-    let e = c .before .before .before in
+    let over = c .before .before in
+    let e = over .before in
     told _ _ _ (c .refused2 .ensures ∙ found-fifteen _ _ (e .before .read .result) (e .before .read .ensures) (e .if1 .left)
-    (sym (c .before .before .over-33 .ensures) ∙ c .before .if2 .taken)))
-    (λ c κs. few (c .before .before .before)) (λ c κs. kinds (c .before .before))
+    (sym (over .over-33 .ensures) ∙ c .before .if2 .taken)))
+    (λ c κs. let over = c .before .before in few (over .before)) (λ c κs. kinds (c .before .before))
     (λ c.
-    let k = c .before .before .before in
+    let waits = c .before in
+    let k = waits .before .before in
     let e = k .before .before in
-    told _ _ _ (found-waits _ _ (e .before .read .result) (e .before .read .ensures) (e .if1 .left) (kinds k) _ _ (c .before .wait-set .ensures)
+    told _ _ _ (found-waits _ _ (e .before .read .result) (e .before .read .ensures) (e .if1 .left) (kinds k) _ _ (waits .wait-set .ensures)
     (c .in-furiten .ensures))))

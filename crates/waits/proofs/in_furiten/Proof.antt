@@ -23,8 +23,11 @@ abbrev μ-loop : tie.MeasureT-loop
 kind : (d : List ℕ) (i : ℕ) → someIn d (ltb 33) ≡ false → i < length d → getD d i 0 < 34
 kind d i e h = omega (arith, ltb-false 33 (getD d i 0) (some-at (λ j. ltb 33 (getD d j 0)) (length d) i e h))
 
-at : (c : tie.After-shared-slice-known Inv-loop μ-loop) → getD (c .before .before .before .args .d .now) (c .before .before .loop .i) 0 < 34
-at c = kind (c .before .before .before .args .d .now) (c .before .before .loop .i) (c .before .before .before .pre) (search needs)
+abbrev loop : tie.After-shared-slice-known Inv-loop μ-loop → tie.At-loop Inv-loop μ-loop
+loop c = c .before .before
+
+at : (c : tie.After-shared-slice-known Inv-loop μ-loop) → getD (loop c .before .args .d .now) (loop c .loop .i) 0 < 34
+at c = kind (loop c .before .args .d .now) (loop c .loop .i) (loop c .before .pre) (search needs)
 
 pub in-furiten-spec : {M : Type 1} → statement M
 in-furiten-spec =
@@ -33,7 +36,7 @@ in-furiten-spec =
     (λ c. (search needs, search needs, some-none _)) (λ c. search needs)
     (λ c. search (needs, at c))
     (λ c. at c)
-    (λ c. sym (some-stop _ _ (c .before .before .before .loop .i) (search needs) (c .if1 .taken)))
+    (λ c. sym (some-stop _ _ (loop (c .before) .loop .i) (search needs) (c .if1 .taken)))
     (λ c. search needs) (λ c. search needs)
-    (λ c. (search needs, search needs, some-more _ _ (c .before .before .before .loop .inv .2) (c .if1 .left)))
+    (λ c. (search needs, search needs, some-more _ _ (loop (c .before) .loop .inv .2) (c .if1 .left)))
     (λ c. sym (some-done _ _ _ (c .before .loop .inv .0) (search needs) (c .before .loop .inv .2))))

@@ -14,6 +14,9 @@ Inv-loop t c n₀ i₀ n i = (i ≤ 9) × (n ≤ 13 * i) × (n ≡ sum i (λ j. 
 abbrev μ-loop : tie.MeasureT-loop
 μ-loop t c n₀ i₀ n i = 9 - i
 
+abbrev start : tie.At-loop Inv-loop μ-loop → tie.Start Inv-loop μ-loop
+start c = c .before .before
+
 pub of-sort-spec : {M : Type 1} → statement M
 of-sort-spec =
     tie.close
@@ -24,18 +27,18 @@ of-sort-spec =
     (λ c. (omega arith, omega arith, refl))
     (λ c. omega arith)
     (λ c. omega arith)
-    (λ c. omega (arith, c .before .before .before .pre .1))
+    (λ c. omega (arith, start (c .before) .pre .1))
     (λ c.
     let l = c .before .before .loop in
-    let s = c .before .before .before .before in
+    let s = start (c .before .before) in
     omega (arith, l .inv .0, l .inv .1, s .pre .2 (9 * s .args .c + l .i)))
     (λ c. omega arith)
     (λ c. omega arith)
     (λ c.
     let l = c .before .before .loop in
-    let s = c .before .before .before .before in
+    let s = start (c .before .before) in
     (omega arith, omega (arith, l .inv .1, s .pre .2 (9 * s .args .c + l .i)), suit-more (s .args .t .now) (s .args .c) (l .i) (l .n) (l .inv .2)))
     (λ c.
     let l = c .before .loop in
-    let s = c .before .before .before in
+    let s = start (c .before) in
     suit-done (s .args .t .now) (s .args .c) (l .i) _ (omega (arith, c .before .before .if1 .left)) (omega (arith, l .inv .0)) (l .inv .2)))

@@ -23,7 +23,10 @@ open-sorts-spec =
     (λ c κs. let s = c .before .before in (c .loop-test .taken, s .pre .0, s .pre .1))
     (λ c. omega (arith, c .before .before .loop .inv .long))
     (λ c κs. tt)
-    (λ c. omega (arith, c .one .ensures .1, c .before .before .before .loop .inv .few, c .before .before .before .loop .inv .low))
+    (λ c.
+    let turn = c .before .before in
+    let l = turn .before .loop in
+    omega (arith, c .one .ensures .1, l .inv .few, l .inv .low))
     (λ c. omega arith)
     (λ c. omega arith)
     (λ c.
@@ -31,12 +34,14 @@ open-sorts-spec =
     let l = i .before .loop in
     counted-more _ (l .c) (l .n) _ (l .o) _ (i .loop-test .taken) (rw (c .before .of-sort .ensures)) (c .one .ensures .0) (l .inv))
     (λ c k n h q.
-    let l = c .before .before .loop in
-    let s = c .before .before .before in
+    let loop = c .before .before in
+    let l = loop .loop in
+    let s = loop .before in
     let e : l .c ≡ 10 = omega (arith, l .inv .low) in
     let f : l .n ≡ overs (s .args .t .now) 10 = rw e at (l .inv .number) in
     many-over (s .args .t .now) k n (s .pre .0) h (omega (arith, c .if1 .taken)))
     (λ c k n h q.
-    let l = c .before .before .loop in
-    let s = c .before .before .before in
+    let loop = c .before .before in
+    let l = loop .loop in
+    let s = loop .before in
     none-over (s .args .t .now) k n (s .pre .0) h (sym (l .inv .told _ (omega (arith, sort-low k h, l .inv .low))) ∙ q)))

@@ -22,7 +22,7 @@ over-33-spec =
     tie.close
     (tie.spec Inv-loop μ-loop
     (λ c. (search needs, search needs, some-none _)) (λ c. search needs)
-    (λ c. sym (some-stop _ _ (c .before .before .before .loop .i) (search needs) (lt-ltb _ _ (c .if1 .taken))))
+    (λ c. let turn = c .before .before in sym (some-stop _ _ (turn .before .loop .i) (search needs) (lt-ltb _ _ (c .if1 .taken))))
     (λ c. search needs) (λ c. search needs)
-    (λ c. (search needs, search needs, some-more _ _ (c .before .before .before .loop .inv .2) (le-ltb _ _ (c .if1 .left))))
+    (λ c. let turn = c .before .before in (search needs, search needs, some-more _ _ (turn .before .loop .inv .2) (le-ltb _ _ (c .if1 .left))))
     (λ c. sym (some-done _ _ _ (c .before .loop .inv .0) (search needs) (c .before .loop .inv .2))))

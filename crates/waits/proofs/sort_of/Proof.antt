@@ -24,5 +24,5 @@ sort-of-spec =
     (λ c. search needs)
     (λ c. (of-number (c .before .args .k) 0 (omega arith) (omega arith), omega arith))
     (λ c. (of-number (c .before .before .args .k) 1 (omega arith) (omega arith), omega arith))
-    (λ c. let a = c .before .before .before in (of-number (a .args .k) 2 (omega arith) (omega arith), omega arith))
-    (λ c. let a = c .before .before .before in (of-honour (a .args .k) (omega arith), omega arith)))
+    (λ c. let else1 = c .before .before in (of-number (else1 .before .args .k) 2 (omega arith) (omega arith), omega arith))
+    (λ c. let else1 = c .before .before in (of-honour (else1 .before .args .k) (omega arith), omega arith)))

@@ -24,6 +24,10 @@ module _ (c : tie.After-others-tally Inv-loop μ-loop) where
   room : (k : ℕ) → getD (c .others-tally .result) k 0 ≤ 13
   room = let x = c .before .args .x in tally-room (c .others-tally .result) (inOthers x) long (c .others-tally .ensures) 13 (others-le x)
 
+-- after the tallies, from the head of the loop
+abbrev held-of : tie.At-loop Inv-loop μ-loop → tie.After-held-tally Inv-loop μ-loop
+held-of c = let open-sorts = c .before in open-sorts .before .before
+
 pub wait-set-spec : {M : Type 1} → statement M
 wait-set-spec =
     tie.close
@@ -36,14 +40,15 @@ wait-set-spec =
     (λ c. c .sort-of .ensures .1)
     (λ c κs.
     let i = c .before in
-    let k = i .before .loop .k in
-    let q = i .before .before in
-    let o = q .before .before .before in
-    (o .before .pre, room o k, λ h. q .open-sorts .ensures k _ (i .loop-test .taken) (rw (c .sort-of .ensures .0) at h)))
+    let l = i .before in
+    let k = l .loop .k in
+    let o = held-of l .before in
+    (o .before .pre, room o k, λ h. l .before .open-sorts .ensures k _ (i .loop-test .taken) (rw (c .sort-of .ensures .0) at h)))
     (λ c. search needs) (λ c. search needs) (λ c. search needs)
     (λ c.
-    let l = c .before .before .before in
-    let h = l .before .before .before in
+    let turn = c .before .before in
+    let l = turn .before in
+    let h = held-of l in
     let o = h .before in
     let x = o .before .args .x in (
       search needs,
@@ -53,7 +58,7 @@ wait-set-spec =
     ))
     (λ c.
     let l = c .before in
-    let h = l .before .before .before in
+    let h = held-of l in
     let o = h .before in
     let n : l .loop .k ≡ 34 = omega arith in
     all-told (o .before .args .x) (o .others-tally .result) (h .held-tally .result) (l .loop .w) (long o) (o .others-tally .ensures)

@@ -21,7 +21,8 @@ use Rattle.waits.specs.laws.Exact.{found}
 -- what the code finds of the hand below
 two-sided : foundOf (32 ∷ 34 ∷ 10 ∷ 49 ∷ 69 ∷ 24 ∷ 105 ∷ 203 ∷ 176 ∷ []) (30 ∷ 25 ∷ 3 ∷ [])
     ≡ record { refusal = 0; waits = tabulate 34 0 (λ k. eqb k 22 || eqb k 25); furiten = true }
-unfolding allBelow anyBelow countBelow atKind isGroup tallyOf meldHolds inMelds inOthers inHeld tileOver33 wrongHeld descends overFour heldBy widths countIn paddingOf heldRefusal refusalOf isSevenPairs isOrphans isEmpty less fits without lowest pieceAt splitsInto withOne reads isWait waitSet foundOf
+unfolding allBelow anyBelow countBelow atKind isGroup tallyOf meldHolds inMelds inOthers inHeld tileOver33 wrongHeld descends overFour heldBy widths
+    countIn paddingOf heldRefusal refusalOf isSevenPairs isOrphans isEmpty less fits without lowest pieceAt splitsInto withOne reads isWait waitSet foundOf
 two-sided = refl
 
 -- chi 234m, 567m 22456p 67s (docs/RECORDS.md) waits for 5s, 22, and 8s, 25; with North, 8s and 4m discarded it is in furiten

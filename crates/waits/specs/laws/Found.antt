@@ -45,16 +45,16 @@ module _ (t : List ℕ) (m k : ℕ) (l : length t ≡ 34) (h : 1 ≤ getD t k 0)
       (λ q.
       let b = and-true (eqb m 0) (isSevenPairs t || isOrphans t) q in
       let z = eqb-true m 0 (b .0) in
-      ⊎-elim (λ p. (ofShape 1, pairs (record { closed = z; kinds = p; reading = refl })))
-      (λ p. (ofShape 2, orphans (record { closed = z; kinds = p; reading = refl })))
+      ⊎-elim (λ p. (ofShape 1, pairs (record { meldless = z; kinds = p; reading = refl })))
+      (λ p. (ofShape 2, orphans (record { meldless = z; kinds = p; reading = refl })))
       (or-either (isSevenPairs t) (isOrphans t) (b .1)))
       (or-either (splitsInto (suc (4 - m)) true t) (eqb m 0 && (isSevenPairs t || isOrphans t)) e)
 
   reading-reads : (r : Reading) → IsReading t m k r → reads t m ≡ true
   unfolding reads
   reading-reads r (regular g) = rw (splits-exactly (4 - m) t l .1 (regular-splits t m k r g))
-  reading-reads r (pairs p) = or-right (splitsInto (suc (4 - m)) true t) _ (rw (eq-eqb m 0 (p .closed), p .kinds))
-  reading-reads r (orphans p) = or-right (splitsInto (suc (4 - m)) true t) _ (rw (eq-eqb m 0 (p .closed), p .kinds) (or-right (isSevenPairs t) true refl))
+  reading-reads r (pairs p) = or-right (splitsInto (suc (4 - m)) true t) _ (rw (eq-eqb m 0 (p .meldless), p .kinds))
+  reading-reads r (orphans p) = or-right (splitsInto (suc (4 - m)) true t) _ (rw (eq-eqb m 0 (p .meldless), p .kinds) (or-right (isSevenPairs t) true refl))
 
 -- ---- a wait
 

@@ -65,7 +65,7 @@ place-tests-spec =
     tie.close
     (tie.spec (λ c κs. search needs) (λ c κs. search needs)
     (λ c.
-    let e = c .before .before .before .before in
-    let s = e .before .before .before in
+    let all-ankou = c .before .before in let e = all-ankou .before .before in
+    let g = e .before .before in let s = g .before in
     by-place (s .args .w) (s .args .p) (s .args .k) (e .earns-wait .result) (s .args .ankou) (s .args .kan)
     (s .pre .0) (rw (← e .before .placed .ensures) (e .earns-wait .ensures)) (s .pre .1 .0) (s .pre .1 .1)))

@@ -10,7 +10,8 @@ use Rattle.yaku.proofs.tests.Tie as tie
 returns : tie.Need-returns
 unfolding testsOf anyPlace groupTestsOf placeTestsOf
 returns c =
-    let start = c .before .before .before .before .before .before in
+    let y30 = c .before .before in let y18 = y30 .before .before in
+    let start = y18 .before .before in
     rw (ap (λ (k : GroupTests). k .yaku) (start .pre .0), start .pre .1)
 
 pub tests-spec : {M : Type 1} → statement M

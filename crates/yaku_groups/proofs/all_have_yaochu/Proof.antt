@@ -9,9 +9,6 @@ all-have-yaochu-spec =
     (tie.spec
     (λ c. search needs) (λ c κs. search needs) (λ c. search needs) (λ c κs. search needs) (λ c. search needs)
     (λ c κs. search needs) (λ c. search needs) (λ c κs. search needs)
-    (λ c. rw (
-      c .has-yaochu4 .ensures,
-      c .before .has-yaochu3 .ensures,
-      c .before .before .has-yaochu2 .ensures,
-      c .before .before .before .has-yaochu .ensures,
-    )))
+    (λ c.
+    let second = c .before .before in
+    rw (c .has-yaochu4 .ensures, c .before .has-yaochu3 .ensures, second .has-yaochu2 .ensures, second .before .has-yaochu .ensures)))

@@ -10,5 +10,7 @@ in-three-at-spec =
     (tie.spec
     (λ c. rw (lt-leb _ _ (c .if1 .taken))) (λ c. search needs) (λ c. search needs) (λ c κs. search needs)
     (λ c. search needs) (λ c κs. search needs)
-    (λ c. rw (le-leb _ _ (c .before .before .before .if1 .left), lt-ltb _ _ (c .before .before .if2 .taken), c .before .has .ensures, c .has2 .ensures))
+    (λ c.
+    let then2 = c .before .before in
+    rw (le-leb _ _ (then2 .before .if1 .left), lt-ltb _ _ (then2 .if2 .taken), c .before .has .ensures, c .has2 .ensures))
     (λ c. rw (le-leb _ _ (c .before .if1 .left), le-ltb _ _ (c .if2 .left))))

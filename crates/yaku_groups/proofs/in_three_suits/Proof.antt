@@ -10,9 +10,7 @@ in-three-suits-spec =
     (tie.spec
     (λ c. search needs) (λ c κs. search needs) (λ c. search needs) (λ c κs. search needs) (λ c. search needs)
     (λ c κs. search needs) (λ c. search needs) (λ c κs. search needs)
-    (λ c. rw (
-      c .in-three-at4 .ensures,
-      c .before .in-three-at3 .ensures,
-      c .before .before .in-three-at2 .ensures,
-      c .before .before .before .in-three-at .ensures,
-    ) (groups-in-turn _ _)))
+    (λ c.
+    let at2 = c .before .before in
+    rw (c .in-three-at4 .ensures, c .before .in-three-at3 .ensures, at2 .in-three-at2 .ensures, at2 .before .in-three-at .ensures)
+    (groups-in-turn _ _)))

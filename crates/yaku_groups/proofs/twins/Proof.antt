@@ -9,16 +9,19 @@ use Rattle.yaku_groups.proofs.twins.Tie as tie
 returns : tie.Need-returns
 unfolding twins
 returns c =
-    let d = c .before .before .before .before in
+    let one5 = c .before .before in
+    let odd2 = one5 .before .before in
+    let one2 = odd2 .before .before in
+    let odd = one2 .before in
     rw (
-      d .before .before .before .after-odd .ensures .0,
-      d .after-odd2 .ensures .0,
+      odd .after-odd .ensures .0,
+      odd2 .after-odd2 .ensures .0,
       c .after-odd3 .ensures .0,
-      d .before .before .before .before .one .ensures .0,
-      d .before .before .one2 .ensures .0,
-      d .before .one3 .ensures .0,
-      c .before .before .before .one4 .ensures .0,
-      c .before .before .one5 .ensures .0,
+      odd .before .one .ensures .0,
+      one2 .one2 .ensures .0,
+      odd2 .before .one3 .ensures .0,
+      one5 .before .one4 .ensures .0,
+      one5 .one5 .ensures .0,
       c .before .one6 .ensures .0,
     ) (sym (pairs-in-turn _ _ _ _))
 

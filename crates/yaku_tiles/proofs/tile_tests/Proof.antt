@@ -14,7 +14,10 @@ use Rattle.yaku_tiles.proofs.tile_tests.Tie as tie
 suits : tie.Need-gates-requires
 unfolding allBelow
 suits c κs =
-    let number = c .before .before .before .before .before .before .before .before in
+    let yaochu = c .before .before in
+    let sou-honour = yaochu .before .before in
+    let man-honour = sou-honour .before .before in
+    let number = man-honour .before .before in
     let sou = number .before in
     let pin = sou .before in
     let man = pin .before in

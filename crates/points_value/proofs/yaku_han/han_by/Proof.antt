@@ -18,23 +18,17 @@ abbrev μ-loop : tie.MeasureT-loop
 μ-loop closed y each n₀ i₀ n i = 37 - i
 
 -- what a turn adds
-abbrev start : tie.After-han-for Inv-loop μ-loop → tie.Start Inv-loop μ-loop
-start c = c .before .before .before
+abbrev loop : tie.After-han-for Inv-loop μ-loop → tie.At-loop Inv-loop μ-loop
+loop c = c .before .before
 
-turn : (c : tie.After-han-for Inv-loop μ-loop)
-    → (c .han-for .result .0 ≡ cond (getD (start c .args .t1) (c .before .before .loop .i) false)
-    (getD (fixedHan (start c .args .closed)) (c .before .before .loop .i) 0) 0) × (c .han-for .result .0 ≤ 6)
+turn : (c : tie.After-han-for Inv-loop μ-loop) → let a = loop c .before .args in let i = loop c .loop .i in
+    (c .han-for .result .0 ≡ cond (getD (a .t1) i false) (getD (fixedHan (a .closed)) i 0) 0) × (c .han-for .result .0 ≤ 6)
 turn c =
-    let h = han-at (start c .args .closed) (c .before .before .loop .i) (c .before .loop-test .taken) in
-    let e = c .han-for .ensures ∙ ap (λ (n : ℕ). cond (getD (start c .args .t1) (c .before .before .loop .i) false) n 0) (h .0) in (
-      e,
-      omega (
-        arith,
-        e,
-        cond-le (getD (start c .args .t1) (c .before .before .loop .i) false)
-            (getD (fixedHan (start c .args .closed)) (c .before .before .loop .i) 0) 0 6 (h .1) (omega arith),
-      ),
-    )
+    let a = loop c .before .args in
+    let i = loop c .loop .i in
+    let h = han-at (a .closed) i (c .before .loop-test .taken) in
+    let e = c .han-for .ensures ∙ ap (λ (n : ℕ). cond (getD (a .t1) i false) n 0) (h .0) in
+    (e, omega (arith, e, cond-le (getD (a .t1) i false) (getD (fixedHan (a .closed)) i 0) 0 6 (h .1) (omega arith)))
 
 pub han-by-spec : {M : Type 1} → statement M
 unfolding hanBy
@@ -43,5 +37,5 @@ han-by-spec =
     (tie.spec Inv-loop μ-loop
     (λ c. (search needs, search needs, total-none _)) (λ c. search needs) (λ c. search needs) (λ c κs. search needs)
     (λ c. omega (arith, turn (c .before) .1)) (λ c. search needs) (λ c. search needs)
-    (λ c. (omega arith, omega (arith, turn (c .before) .1), total-more _ _ _ _ (c .before .before .before .loop .inv .2) (turn (c .before) .0)))
+    (λ c. (omega arith, omega (arith, turn (c .before) .1), total-more _ _ _ _ (loop (c .before) .loop .inv .2) (turn (c .before) .0)))
     (λ c. (total-done _ 37 _ _ (c .before .loop .inv .0) (c .loop-test .left) (c .before .loop .inv .2), omega arith)))
