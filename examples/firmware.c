@@ -35,15 +35,15 @@ int main(void)
         printf(i + 1 < said.len ? "%u " : "%u\n", clips[i]);
     game = hb_fresh_game();
     line(HB_LETTER_RIICHI, hb_riichi(&game, 1));
-    line(HB_LETTER_RIICHI, hb_riichi(&game, 1)); /* refused: declared already this hand */
-    line(HB_LETTER_DRAW, hb_draw(&game, 4));     /* seat 1 is ready */
+    line(HB_LETTER_RIICHI, hb_riichi(&game, 1));           /* refused: declared already this hand */
+    line(HB_LETTER_DRAW, hb_draw(&game, HB_READY_BIT(1))); /* seat 1 is ready */
     /* it was no draw: seat 1 has won */
     line(HB_LETTER_CORRECTION, hb_correct_win(&game, riichi, sizeof riichi));
     line(HB_LETTER_PAO, hb_pao(&game, 2, 3, HB_YAKU_DAISANGEN));
     line(HB_LETTER_WIN, hb_win(&game, record, sizeof record));
     line(HB_LETTER_CHOMBO, hb_chombo(&game, 2));
     line(HB_LETTER_MULTI_RON, hb_multi_ron(&game, 1, record, sizeof record));
-    line(HB_LETTER_DRAW, hb_draw(&game, 8));
+    line(HB_LETTER_DRAW, hb_draw(&game, HB_READY_BIT(0)));
     line(HB_LETTER_CORRECTION, hb_correct_draw(&game, 0)); /* nobody was ready */
     HbWaits w = hb_waits(hand, sizeof hand, discards, sizeof discards);
     for (int kind = 0; kind < 34; kind++)

@@ -1,7 +1,7 @@
 /* The scoring core of the table handset, as firmware links it: herbassolh.c for any target,
- * libhandset.a for x86-64. Words in quotes are documents 01's and 02's, and of what is said our
- * own paper's. docs/COST.md has code size, and stack and instructions of each call that was
- * measured.
+ * libhandset.a for x86-64. Words in quotes are from the papers that docs/CLAIMS.md names: the
+ * customer's documents 01 and 02, and for what is said our own paper SPEECH. docs/COST.md has code
+ * size, and stack and instructions of each call that was measured.
  *
  * Every call takes all input. A refused call gives its number with all else zero and changes no
  * byte of the lent game or buffer. Bytes past what a call writes stay. In every call the game that
@@ -22,11 +22,10 @@
  * Storing. A game and a position have no bytes between their members, so that each may be stored
  * as its bytes, 84 and 40, which are the same on every little-endian target. On a big-endian one,
  * none of which was tried, their numbers would lie the other way round: to move a game there,
- * store it member by member. Any bytes are a game: of whatever is lent after a loss of power, a
- * booking either refuses it and changes nothing, or books in it as in the game that those bytes
- * are; it does no more. A call cannot tell whether they are the game that was played: store a
- * checksum for that. Lengths are size_t, of 32 or 64 bits; every other number is as wide on every
- * target.
+ * store it member by member. Any bytes may be lent as a game, for example after a loss of power: a
+ * booking refuses them and changes nothing, or books in the game that they are. Nothing else can
+ * happen. A call cannot tell whether they are the game that was played: store a checksum for that.
+ * Lengths are size_t, of 32 or 64 bits; every other number is as wide on every target.
  *
  * Bytes between members (padding): in HbWritten, HbScored, HbReading, HbReadingCount, HbCards,
  * HbNextEntry. What a call leaves in them is not determined: compare such structs member by
@@ -40,8 +39,8 @@
 #include <stdint.h>
 
 /* The version of this header: 10000 times the first number, 100 times the second and the third. */
-#define HB_VERSION 10000
-#define HB_VERSION_TEXT "1.0.0"
+#define HB_VERSION 10100
+#define HB_VERSION_TEXT "1.1.0"
 
 #ifdef __cplusplus
 extern "C" {
@@ -161,13 +160,37 @@ enum { HB_MELD_CHI = 0, HB_MELD_PON = 1, HB_MELD_OPEN_KAN = 2, HB_MELD_CLOSED_KA
 /* Round winds. */
 enum { HB_ROUND_EAST = 0, HB_ROUND_SOUTH = 1 };
 
-/* Kinds of a log's entry. */
+/* Shapes of a reading. */
+enum { HB_SHAPE_REGULAR = 0, HB_SHAPE_SEVEN_PAIRS = 1, HB_SHAPE_ORPHANS = 2 };
+
+/* What stands in a reading or a claim where there is no pair, or no group. */
+enum { HB_NO_PAIR = 34, HB_NO_GROUP = 68 };
+
+/* The bit of a seat that is ready at a draw, of four bits with seat 0 the most significant: 8, 4,
+ * 2, 1 for seats 0 to 3. The bits of a draw are the sum of those of its ready seats. */
+#define HB_READY_BIT(seat) ((uint8_t)(8 >> (seat)))
+
+/* Kinds of a log's entry: what its argument is, and what follows its header byte. Entries stand
+ * end to end. */
 enum {
-    HB_KIND_RIICHI = 0, HB_KIND_WIN = 1, HB_KIND_DRAW = 2, HB_KIND_CHOMBO = 3,
-    HB_KIND_MULTI_RON = 4, HB_KIND_PAO = 5, HB_KIND_CORRECTION = 6
+    HB_KIND_RIICHI = 0,     /* the seat */
+    HB_KIND_WIN = 1,        /* 0; its record follows */
+    HB_KIND_DRAW = 2,       /* the bits of its ready seats */
+    HB_KIND_CHOMBO = 3,     /* the seat */
+    HB_KIND_MULTI_RON = 4,  /* how many records follow, 1 to 3, end to end */
+    HB_KIND_PAO = 5,        /* 0; a byte follows, HB_PAO_BYTE */
+    HB_KIND_CORRECTION = 6  /* 0; the entry of its result follows, with its own header byte */
 };
 
-/* Letters of a line of tally. */
+/* The header byte of an entry: the kind in its upper four bits, the argument in its lower. */
+#define HB_ENTRY(kind, argument) ((uint8_t)(16 * (kind) + (argument)))
+
+/* The byte that follows the header byte of a pao: "holder 2 bits, feeder 2, yaku 1 (0 for 28),
+ * three zero bits"; yaku: HB_YAKU_DAISANGEN or HB_YAKU_SUUSHIIHOU. */
+#define HB_PAO_BYTE(holder, feeder, yaku) \
+    ((uint8_t)(64 * (holder) + 16 * (feeder) + ((yaku) == HB_YAKU_SUUSHIIHOU ? 8 : 0)))
+
+/* Letters of a line of tally, the papers' program that prints a line for each entry of a log. */
 enum {
     HB_LETTER_RIICHI = 'R', HB_LETTER_WIN = 'W', HB_LETTER_DRAW = 'D', HB_LETTER_CHOMBO = 'C',
     HB_LETTER_MULTI_RON = 'M', HB_LETTER_PAO = 'P', HB_LETTER_CORRECTION = 'X'
@@ -243,8 +266,8 @@ enum {
     HB_SLIP_LENGTH = 150,  /* a slip has so many bytes */
     HB_CARDS_MAX = 7968,   /* a buffer of so many bytes holds every list of practice cards: 18 of 2
                               tiles, 675 of 5, 7968 of 8 */
-    HB_CLAIM_MAX = 7,      /* no claim has more bytes: 7, 7, 6, 5, 4 for m = 0 to 4, 3 for shapes 1
-                              and 2 */
+    HB_CLAIM_MAX = 7,      /* no claim has more bytes: 7, 7, 6, 5, 4 for m = 0 to 4, 3 for seven
+                              pairs and orphans */
     HB_MESSAGE_MAX = 155,  /* no message has more clips: a buffer of so many bytes holds every one,
                               and never meets 13 */
     HB_LINE_MAX = 83,      /* a buffer of so many bytes holds every line of tally */
@@ -276,8 +299,8 @@ typedef struct {
     HbHand hand;
 } HbReadHand;
 
-/* What Write, Write unfinished, Unfinished and Write claim give: a refusal and 0, or 0 and how many
- * bytes were written. */
+/* What Write, Write unfinished, Unfinished and Write claim give: a refusal and 0, or 0 and how
+ * many bytes were written. */
 typedef struct {
     uint8_t refusal;
     size_t len;
@@ -299,7 +322,8 @@ typedef struct {
     bool yaku[37];       /* yaku n at index n; index 0 is unused */
     uint32_t tried;      /* "how many readings it tried, those with no yaku and each place in equal
                             groups counted": up to the first with a yakuman, it included, or all */
-    int32_t changes[4];  /* points of seats 0 to 3, summing to 0; sticks and counters left out */
+    int32_t changes[4];  /* points of seats 0 to 3, summing to 0, of the hand alone: a game's
+                            sticks, counters and pao are left out */
 } HbScored;
 
 /* What Reading gives: a refusal with all else zero, or 0 and one reading with what it is worth.
@@ -309,18 +333,18 @@ typedef struct {
     uint32_t count;      /* how many readings the tiles have */
     uint32_t basic;      /* A: "fu times 2 to the (h + 2)", or the limit; 8,000 with a yakuman; 0
                             without a yaku */
-    uint32_t gain;       /* what the payments give the winner, sticks and counters left out; 0
-                            without a yaku */
-    int32_t changes[4];  /* points of seats 0 to 3, summing to 0 */
+    uint32_t gain;       /* what the payments give the winner; 0 without a yaku */
+    int32_t changes[4];  /* points of seats 0 to 3, summing to 0, of the hand alone: a game's
+                            sticks, counters and pao are left out, of the gain too */
     uint16_t h;          /* han of the yaku plus dora; 0 with a yakuman */
     uint16_t dora;       /* how many of h are dora */
     uint16_t han[37];    /* the han of each listed yaku as it counts, open or closed; yaku n at
                             index n; 0 with a yakuman */
     uint8_t refusal;
-    uint8_t shape;       /* 0 regular, 1 seven pairs, 2 thirteen orphans */
-    uint8_t pair;        /* kind of the pair; 34 without one */
+    uint8_t shape;       /* HB_SHAPE_* */
+    uint8_t pair;        /* kind of the pair; HB_NO_PAIR without one */
     uint8_t groups[4];   /* the 4 - m groups sorted by code ("run: lowest kind; triplet: 34 +
-                            kind"), then 68 */
+                            kind"), then HB_NO_GROUP */
     uint8_t place;       /* what the winning tile completes: 0 the pair, i + 1 the group at i */
     bool reported;       /* it is the one that Score reports */
     uint8_t fu;          /* 0 with a yakuman */
@@ -356,7 +380,8 @@ typedef struct {
     uint16_t count;
 } HbCards;
 
-/* What Judge gives: a refusal with verdict 0, or 0 and the verdict. */
+/* What Judge gives: a refusal with verdict 0, or 0 and the verdict. Look at refusal first: beside
+ * a refusal the verdict 0 is no acceptance. */
 typedef struct {
     uint8_t refusal;
     uint8_t verdict;
@@ -375,27 +400,33 @@ enum {
  * m of the hand. */
 typedef struct {
     uint32_t gain;      /* the winner's gain, below 131,072 */
-    uint8_t shape;      /* 0 regular, 1 seven pairs, 2 thirteen orphans */
-    uint8_t pair;       /* kind of the pair; 34 for shapes 1 and 2 */
-    uint8_t groups[4];  /* the 4 - m groups sorted by code, then 68; all 68 for shapes 1 and 2 */
-    uint8_t place;      /* 0 the pair, i + 1 the group at i; 0 for shapes 1 and 2 */
+    uint8_t shape;      /* HB_SHAPE_* */
+    uint8_t pair;       /* kind of the pair; HB_NO_PAIR for seven pairs and orphans */
+    uint8_t groups[4];  /* the 4 - m groups sorted by code, then HB_NO_GROUP; for seven pairs and
+                           orphans all four HB_NO_GROUP */
+    uint8_t place;      /* 0 the pair, i + 1 the group at i; 0 for seven pairs and orphans */
     uint8_t m;
 } HbClaim;
 
 /* What a call that says something gives: a refusal and 0, or 0 and how many clips; two numbers of
- * 16 bits, so that there is no padding. */
+ * 16 bits, so that there is no padding. No refusal is over 22, so that it fits the 8 bits of
+ * hb_say_refusal. */
 typedef struct {
     uint16_t refusal;
     uint16_t len;
 } HbSaid;
 
 /* A position of a game. Any bytes are a position; an accepted booking sets declared and over to 0
- * or 1. */
+ * or 1. It is out of form where dealer is over 3, wind over 1, hands over 200, counter over hands,
+ * where there are fewer sticks than declared seats, where a score is under -28,540,000, where the
+ * scores with 1,000 for each stick are not 120,000, or where a feeder is over 3 or its holder. */
 typedef struct {
     int32_t scores[4];
     uint32_t sticks;
     uint8_t declared[4];  /* not 0 where the seat has declared riichi in this hand */
-    uint8_t dealer, wind, hands; /* hands finished; 200 end the game, or a deal past South's last */
+    uint8_t dealer, wind;
+    uint8_t hands;        /* hands finished; the game ends at 200, or when the deal passes from
+                             seat 3 in the South round */
     uint8_t over;         /* not 0 where the game is marked over */
     uint32_t counter;     /* repeat counters: "rises by one at each dealer's win and each draw,
                              returns to 0 at a child's win, and isn't touched by a chombo" */
@@ -405,15 +436,16 @@ typedef struct {
 
 /* The game, lent to each booking: the position that stands, and an earlier one, so that "A result
  * may be put right before play resumes". Any bytes are a game; an accepted booking sets
- * correctable to 0 or 1. A game is out of form where its position now is, or where correctable is
- * not 0 and its earlier position is. */
+ * correctable to 0 or 1. A game is out of form where the position `now` is, or where correctable
+ * is not 0 and the position `earlier` is. */
 typedef struct {
     HbPosition now;
-    HbPosition earlier;    /* where correctable is not 0, the one in which the last booking left
-                              standing was made */
-    uint32_t correctable;  /* not 0 where that booking finished a hand (a win, a draw, a chombo or
-                              a multiple ron, in a correction or not), so that a correction can
-                              supersede it; where it is 0 the bytes of earlier do not matter */
+    HbPosition earlier;    /* the position before the last accepted booking; after a correction,
+                              before the booking that it superseded. Where correctable is 0 its
+                              bytes do not matter */
+    uint32_t correctable;  /* not 0 where a correction is possible: the last accepted booking
+                              finished a hand (a win, a draw, a chombo or a multiple ron, in a
+                              correction or not) */
 } HbGame;
 
 /* What stands at an offset of a log: an entry, the end (end set, all else zero), or refusal 14
@@ -443,8 +475,9 @@ typedef struct {
 /* Read. The hand of a sound record; refusals 1 to 5 in order. */
 HbReadHand hb_read(const uint8_t *record, size_t record_len);
 
-/* Write. The hand's record at the start of buf, and its length; refusals 2, 3, 4, 5, 13 in
- * order. */
+/* Write. The hand's record at the start of buf, and its length; refusals 2, 3, 4, 5, 13 in order.
+ * Refusal 2 is "also m over 4, a field too large for its bits, or an unused place not zero": an
+ * unused place is one of melds from index m on, or of concealed from index 13 - 3m on. */
 HbWritten hb_write(HbHand hand, uint8_t *buf, size_t buf_len);
 
 /* Score. The reported reading of a record, for a dealer and round wind; refusals 8, 1 to 7 in
@@ -463,11 +496,11 @@ HbReading hb_reading(const uint8_t *record, size_t record_len, uint8_t dealer, u
 HbReadingCount hb_reading_count(const uint8_t *record, size_t record_len, uint8_t dealer,
     uint8_t wind);
 
-/* A slip "to paste in the club book": what Score gives, six lines of 24 characters and a line feed
- * at the start of page, no zero byte after them. "Each line has a label, left in 10 columns, and a
- * value, right in 14. Labels are HAN, FU, SEAT 0, SEAT 1, SEAT 2, SEAT 3"; "A yakuman has the
- * value YAKUMAN on the first line and 0 on the second." Gives 0, or its refusal with page
- * unchanged; refusals 8, 1 to 7, 16 in order. */
+/* A slip "to paste in the club book": what Score gives, of the hand alone as there, in six lines
+ * of 24 characters and a line feed at the start of page, no zero byte after them. "Each line has a
+ * label, left in 10 columns, and a value, right in 14. Labels are HAN, FU, SEAT 0, SEAT 1, SEAT 2,
+ * SEAT 3"; "A yakuman has the value YAKUMAN on the first line and 0 on the second." Gives 0, or
+ * its refusal with page unchanged; refusals 8, 1 to 7, 16 in order. */
 uint8_t hb_slip(const uint8_t *record, size_t record_len, uint8_t dealer, uint8_t wind,
     uint8_t *page, size_t page_len);
 
@@ -483,8 +516,9 @@ HbWaits hb_waits(const uint8_t *hand, size_t hand_len, const uint8_t *discards,
  * order. */
 HbReady hb_ready(const uint8_t *hand, size_t hand_len);
 
-/* Write, of an unfinished hand as Waits and Ready take it: the bytes of the tiles held at the start
- * of buf, and their number; refusals 2, 3, 4, 13 in order. */
+/* Write, of an unfinished hand as Waits and Ready take it: the bytes of the tiles held at the
+ * start of buf, and their number; refusals 2, 3, 4, 13 in order. As in Write, refusal 2 is also
+ * for m over 4 and for an unused place that is not 0. */
 HbWritten hb_write_unfinished(HbHeld held, uint8_t *buf, size_t buf_len);
 
 /* The unfinished hand that a record is without its winning tile, at the start of buf, and its
@@ -516,7 +550,8 @@ HbWritten hb_write_claim(HbClaim claim, uint8_t *buf, size_t buf_len);
 /* A fresh game, with both its positions: 30,000 each, all else 0. */
 HbGame hb_fresh_game(void);
 
-/* The bookings: each gives 0 and updates the game, or gives its refusal and leaves the game. */
+/* The bookings: each gives 0 and updates the game, or gives its refusal and leaves the game as it
+ * was. What a booking that is no correction paid is now.scores after it less now.scores before. */
 
 /* Riichi of a seat: "Takes 1,000, adds a stick"; a seat with under 1,000 points has none. Refusals
  * 8, 9, 10, 21 in order. */
@@ -530,10 +565,11 @@ uint8_t hb_riichi(HbGame *game, uint8_t seat);
  * 11 in order. */
 uint8_t hb_win(HbGame *game, const uint8_t *record, size_t record_len);
 
-/* Draw; bits: four, seat 0 the most significant, set for ready. Where a declared seat is not ready
- * it is a chombo of each such seat: "each such seat pays 3,000 to every other seat, two such seats
- * paying each other, and this hand's sticks return. No ready payment is made, the deal and counter
- * stay, and the hand is finished." Refusals 8, 9 in order. */
+/* Draw; bits: four, seat 0 the most significant, set for ready: the sum of HB_READY_BIT of each
+ * ready seat. Where a declared seat is not ready it is a chombo of each such seat: "each such seat
+ * pays 3,000 to every other seat, two such seats paying each other, and this hand's sticks return.
+ * No ready payment is made, the deal and counter stay, and the hand is finished." Refusals 8, 9 in
+ * order. */
 uint8_t hb_draw(HbGame *game, uint8_t bits);
 
 /* Chombo of a seat; refusals 8, 9 in order. */
@@ -561,7 +597,8 @@ uint8_t hb_pao(HbGame *game, uint8_t holder, uint8_t feeder, uint8_t yaku);
  * was, declared seats and counters included. This holds too when the superseded one had ended the
  * game. A correction that was accepted can itself be superseded. Where the new booking is refused,
  * the old one stands." They refuse with 9 "for a game out of form", but not for one that is over;
- * then with 20; then as the booking of the result does in the earlier position. */
+ * then with 20; then as the booking of the result does in the earlier position, whose own 9 is for
+ * one that is over: a game that began fresh never has such a one. */
 
 /* Win by a record instead. Refusals 9, 20, 9, 1 to 7, 11 in order. */
 uint8_t hb_correct_win(HbGame *game, const uint8_t *record, size_t record_len);
@@ -584,10 +621,10 @@ uint8_t hb_correct_multi_ron(HbGame *game, uint8_t number, const uint8_t *record
 HbNextEntry hb_log_next(const uint8_t *log, size_t log_len, size_t at);
 
 /* Books the entry that part begins with, such as log + at with the length that hb_log_next gave:
- * its refusal and the game updated, or 14 and the game left where part begins with no whole entry.
- * Refusals of an entry: 14; of a riichi 8, 9, 10, 21, a win 9, 2 to 7, 11, a draw 9, a chombo 8,
- * 9, a multiple ron 9, 2 to 5, 17, 6, 7, 11, a pao 9, 18, a correction 9, 20 and those of the
- * result that it carries, in order. */
+ * gives 0 and updates the game, or gives the entry's refusal and leaves the game as it was; 14
+ * where part begins with no whole entry. Refusals of an entry: 14; of a riichi 8, 9, 10, 21, a win
+ * 9, 2 to 7, 11, a draw 9, a chombo 8, 9, a multiple ron 9, 2 to 5, 17, 6, 7, 11, a pao 9, 18, a
+ * correction 9, 20 and those of the result that it carries, in order. */
 uint8_t hb_book_entry(HbGame *game, const uint8_t *part, size_t part_len);
 
 /* A walk before a log's first entry, with a fresh game. */
@@ -595,10 +632,11 @@ HbWalk hb_log_start(void);
 
 /* Books the entries of a log from where walk stands, refused or not, and writes their lines of
  * tally into buf, as many whole lines as fit, one after the other; bytes past written stay. Call
- * it again with the walk that it gives: no text is left when written is 0 in a buffer of
- * HB_LINE_MAX bytes or more and the walk's entry is under 4294967295, the last number that it
- * counts to. A bad or cut entry ends the text: the walk stands before it, and hb_log_next at the
- * walk's at gives 14. tally reads the first HB_LOG_MAX bytes of a log. */
+ * it again with the walk that it gives. With a buffer of HB_LINE_MAX bytes or more no text is left
+ * when written is 0; only a walk whose entry has reached 4294967295, the last number of a line,
+ * stops before. A bad or cut entry ends the text: the walk stands before it, and hb_log_next at
+ * the walk's at gives 14. tally itself reads the first HB_LOG_MAX bytes of a log; this call reads
+ * all that is lent. */
 HbPrinted hb_log_lines(HbWalk walk, const uint8_t *log, size_t log_len, uint8_t *buf,
     size_t buf_len);
 
@@ -616,13 +654,15 @@ size_t hb_log_line(const HbPosition *position, uint32_t entry, uint8_t letter, u
 
 /* Score, said: "the winner; 64 or 65; each yaku of the set, ascending; with a yakuman 75,
  * otherwise h, 69, fu, 70 and, where a limit is paid, its name (71 to 74); then of seats 0 to 3
- * each that pays: the player, 66, the amount, 68; then the winner, 67, the gain, 68". Refusals 8,
- * 1 to 7, 13 in order: 8 for the language, then for the dealer or the wind. */
+ * each that pays: the player, 66, the amount, 68; then the winner, 67, the gain, 68": the payments
+ * of the hand alone, as Score gives them, without a game's sticks, counters and pao. Refusals 8, 1
+ * to 7, 13 in order: 8 for the language, then for the dealer or the wind. */
 HbSaid hb_say_score(uint8_t language, const uint8_t *record, size_t record_len, uint8_t dealer,
     uint8_t wind, uint8_t *buf, size_t buf_len);
 
 /* The fu of a record, said: "each item that is not 0: its clip (84 to 93) and its number; 94, the
- * fu, 70. With a yakuman: 75". Refusals 8, 1 to 7, 13 in order. */
+ * fu, 70. With a yakuman: 75"; an item's number is the fu that it earns. Refusals 8, 1 to 7, 13 in
+ * order. */
 HbSaid hb_say_fu(uint8_t language, const uint8_t *record, size_t record_len, uint8_t dealer,
     uint8_t wind, uint8_t *buf, size_t buf_len);
 

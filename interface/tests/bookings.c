@@ -30,7 +30,7 @@ uint8_t book_win(HbGame *game, const uint8_t *record, size_t length)
 
 uint8_t book_pao(HbGame *game, uint8_t byte)
 {
-    uint8_t entry[2] = {0x50, byte}, *part = exact(entry, 2);
+    uint8_t entry[2] = {HB_ENTRY(HB_KIND_PAO, 0), byte}, *part = exact(entry, 2);
     uint8_t refusal = hb_book_entry(game, part, 2);
     free(part);
     return refusal;
@@ -41,7 +41,7 @@ uint8_t book_multi_ron(HbGame *game, uint8_t number, const uint8_t *records, siz
     uint8_t *part = malloc(1 + length);
     if (!part)
         exit(2);
-    part[0] = (uint8_t)(0x40 + number);
+    part[0] = HB_ENTRY(HB_KIND_MULTI_RON, number);
     memcpy(part + 1, records, length);
     uint8_t refusal = hb_book_entry(game, part, 1 + length);
     free(part);
@@ -88,7 +88,8 @@ void bookings(void)
     CHECK(hb_win(&game, with_riichi, 13) == 0 && is_game(&game, after_riichi_win, 0, 1, HB_ROUND_EAST, 2));
     CHECK(!game.now.declared[1]);
     game = declared;
-    CHECK(hb_draw(&game, 6) == 0 && is_game(&game, after_draw, 1, 1, HB_ROUND_EAST, 2) && !game.now.declared[1]);
+    CHECK(hb_draw(&game, HB_READY_BIT(1) + HB_READY_BIT(2)) == 0);
+    CHECK(is_game(&game, after_draw, 1, 1, HB_ROUND_EAST, 2) && !game.now.declared[1]);
     game = declared;
     CHECK(hb_chombo(&game, 2) == 0 && is_game(&game, after_chombo, 0, 1, HB_ROUND_EAST, 2) && !game.now.declared[1]);
 }
@@ -197,7 +198,7 @@ void counters(void)
     game = seven;
     CHECK(hb_win(&game, table[2].record, 13) == 0 && is_game(&game, by_dealer, 0, 0, HB_ROUND_EAST, 8) && game.now.counter == 8);
     game = seven;
-    CHECK(hb_draw(&game, 8) == 0 && game.now.counter == 8 && game.now.dealer == 0);
+    CHECK(hb_draw(&game, HB_READY_BIT(0)) == 0 && game.now.counter == 8 && game.now.dealer == 0);
     game = seven;
     CHECK(hb_draw(&game, 0) == 0 && game.now.counter == 8 && game.now.dealer == 1);
     game = seven;
@@ -312,7 +313,8 @@ void not_ready(void)
     }
     HbGame last = hb_fresh_game();
     last.now.hands = 199, last.now.dealer = 3, last.now.wind = HB_ROUND_SOUTH;
-    CHECK(hb_riichi(&last, 0) == 0 && hb_draw(&last, 7) == 0 && last.now.over && last.now.dealer == 3 && last.now.hands == 200);
+    CHECK(hb_riichi(&last, 0) == 0 && hb_draw(&last, HB_READY_BIT(1) + HB_READY_BIT(2) + HB_READY_BIT(3)) == 0);
+    CHECK(last.now.over && last.now.dealer == 3 && last.now.hands == 200);
     CHECK(last.now.scores[0] == 21000 && last.now.scores[3] == 33000 && last.now.sticks == 0);
 }
 

@@ -75,6 +75,12 @@ int no_ready(HbReady ready, uint8_t refusal);
 
 /* ---- reading.c */
 
+/* The groups of seven pairs and of orphans. */
+#define NO_GROUPS                                          \
+    {                                                      \
+        HB_NO_GROUP, HB_NO_GROUP, HB_NO_GROUP, HB_NO_GROUP \
+    }
+
 /* Whether it is a refusal with all else zero. */
 int no_reading(HbReading given, uint8_t refusal);
 
@@ -202,6 +208,7 @@ void refused_corrections(void);
 void corrected_ends(void);
 void lent_games(void);
 void entries(void);
+void made_entries(void);
 void correction_entries(void);
 void booked_entries(void);
 void refused_entries(void);

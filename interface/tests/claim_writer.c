@@ -6,15 +6,15 @@ static const struct {
     HbClaim claim;
     uint8_t length, bytes[7];
 } written[] = {
-    {{5200, 0, 22, {0, 0, 15, 15}, 0, 0}, 7, {0x16, 0x00, 0x00, 0x78, 0xf0, 0x14, 0x50}},   /* 55s 123m 123m 789p 789p, the pair, 5,200 */
-    {{1000, 0, 17, {12, 19, 24, 68}, 3, 1}, 7, {0x11, 0x18, 0x4c, 0xc3, 0x01, 0xf4, 0x00}}, /* a meld: 99p 456p 234s 789s, 789s, 1,000 */
-    {{18000, 0, 17, {0, 9, 68, 68}, 2, 2}, 6, {0x11, 0x00, 0x25, 0x11, 0x94, 0x00}},        /* two: 99p 123m 123p, 123p, 18,000 */
-    {{12000, 0, 31, {3, 68, 68, 68}, 1, 3}, 5, {0x1f, 0x06, 0x45, 0xdc, 0x00}},             /* three: white pair, 456m, 12,000 */
-    {{32000, 0, 33, {68, 68, 68, 68}, 0, 4}, 4, {0x21, 0x07, 0xd0, 0x00}},                  /* four: red pair, 32,000 */
-    {{1600, 1, 34, {68, 68, 68, 68}, 0, 0}, 3, {0x40, 0xc8, 0x00}},                         /* seven pairs for 1,600 */
-    {{32000, 2, 34, {68, 68, 68, 68}, 0, 0}, 3, {0x8f, 0xa0, 0x00}},                        /* orphans for 32,000 */
-    {{131071, 1, 34, {68, 68, 68, 68}, 0, 4}, 3, {0x7f, 0xff, 0xe0}},                       /* the highest gain; for every m */
-    {{0, 0, 0, {67, 67, 67, 67}, 4, 0}, 7, {0x00, 0x87, 0x0e, 0x1c, 0x38, 0x00, 0x00}},     /* no tiles have it, and bytes name it */
+    {{5200, HB_SHAPE_REGULAR, 22, {0, 0, 15, 15}, 0, 0}, 7, {0x16, 0x00, 0x00, 0x78, 0xf0, 0x14, 0x50}},                  /* 55s 123m 123m 789p 789p, the pair, 5,200 */
+    {{1000, HB_SHAPE_REGULAR, 17, {12, 19, 24, HB_NO_GROUP}, 3, 1}, 7, {0x11, 0x18, 0x4c, 0xc3, 0x01, 0xf4, 0x00}},       /* a meld: 99p 456p 234s 789s, 789s, 1,000 */
+    {{18000, HB_SHAPE_REGULAR, 17, {0, 9, HB_NO_GROUP, HB_NO_GROUP}, 2, 2}, 6, {0x11, 0x00, 0x25, 0x11, 0x94, 0x00}},     /* two: 99p 123m 123p, 123p, 18,000 */
+    {{12000, HB_SHAPE_REGULAR, 31, {3, HB_NO_GROUP, HB_NO_GROUP, HB_NO_GROUP}, 1, 3}, 5, {0x1f, 0x06, 0x45, 0xdc, 0x00}}, /* three: white pair, 456m, 12,000 */
+    {{32000, HB_SHAPE_REGULAR, 33, NO_GROUPS, 0, 4}, 4, {0x21, 0x07, 0xd0, 0x00}},                                        /* four: chun pair, 32,000 */
+    {{1600, HB_SHAPE_SEVEN_PAIRS, HB_NO_PAIR, NO_GROUPS, 0, 0}, 3, {0x40, 0xc8, 0x00}},                                   /* seven pairs for 1,600 */
+    {{32000, HB_SHAPE_ORPHANS, HB_NO_PAIR, NO_GROUPS, 0, 0}, 3, {0x8f, 0xa0, 0x00}},                                      /* orphans for 32,000 */
+    {{131071, HB_SHAPE_SEVEN_PAIRS, HB_NO_PAIR, NO_GROUPS, 0, 4}, 3, {0x7f, 0xff, 0xe0}},                                 /* the highest gain; for every m */
+    {{0, HB_SHAPE_REGULAR, 0, {67, 67, 67, 67}, 4, 0}, 7, {0x00, 0x87, 0x0e, 0x1c, 0x38, 0x00, 0x00}},                    /* no tiles have it, and bytes name it */
 };
 
 /* One that no bytes name: the first of those above (0) or the fourth (3) or the sixth (5), with another part. */
@@ -22,38 +22,38 @@ static const struct {
     int of;
     HbClaim claim;
 } unnamed[] = {
-    {5, {1600, 3, 34, {68, 68, 68, 68}, 0, 0}}, /* shape 3 and more */
-    {5, {1600, 4, 34, {68, 68, 68, 68}, 0, 0}},
-    {5, {1600, 255, 34, {68, 68, 68, 68}, 0, 0}},
-    {5, {1600, 0, 34, {68, 68, 68, 68}, 0, 0}}, /* the other shape */
-    {0, {5200, 1, 22, {0, 0, 15, 15}, 0, 0}},
-    {5, {1600, 1, 33, {68, 68, 68, 68}, 0, 0}}, /* seven pairs with a pair, a place, a group */
-    {5, {1600, 1, 34, {68, 68, 68, 68}, 1, 0}},
-    {5, {1600, 1, 34, {0, 68, 68, 68}, 0, 0}},
-    {5, {1600, 2, 34, {68, 68, 68, 67}, 0, 0}},
-    {0, {5200, 0, 34, {0, 0, 15, 15}, 0, 0}}, /* a pair over 33 */
-    {0, {5200, 0, 64, {0, 0, 15, 15}, 0, 0}},
-    {0, {5200, 0, 22, {0, 0, 15, 16}, 0, 0}}, /* a code that names no group */
-    {0, {5200, 0, 22, {0, 0, 15, 33}, 0, 0}},
-    {0, {5200, 0, 22, {0, 0, 15, 68}, 0, 0}},
-    {0, {5200, 0, 22, {0, 0, 15, 143}, 0, 0}},
-    {0, {5200, 0, 22, {0, 15, 0, 15}, 0, 0}}, /* descending codes */
-    {0, {5200, 0, 22, {15, 0, 0, 15}, 0, 0}},
-    {0, {5200, 0, 22, {0, 0, 15, 15}, 5, 0}}, /* a place over 4 - m */
-    {0, {5200, 0, 22, {0, 0, 15, 15}, 8, 0}},
-    {3, {12000, 0, 31, {3, 68, 68, 68}, 2, 3}},
-    {3, {12000, 0, 31, {3, 4, 68, 68}, 1, 3}}, /* a group where a meld stands, and none where it does not */
-    {3, {12000, 0, 31, {68, 68, 68, 68}, 0, 3}},
-    {3, {12000, 0, 31, {68, 3, 68, 68}, 1, 3}},
-    {0, {131072, 0, 22, {0, 0, 15, 15}, 0, 0}}, /* a gain of 18 bits and more */
-    {5, {131072, 1, 34, {68, 68, 68, 68}, 0, 0}},
-    {5, {4294967295u, 2, 34, {68, 68, 68, 68}, 0, 0}},
-    {0, {5200, 0, 22, {0, 0, 15, 15}, 0, 1}}, /* another m */
-    {3, {12000, 0, 31, {3, 68, 68, 68}, 1, 2}},
-    {3, {12000, 0, 31, {3, 68, 68, 68}, 1, 4}},
-    {5, {1600, 1, 34, {68, 68, 68, 68}, 0, 5}}, /* m over 4 */
-    {3, {12000, 0, 31, {3, 68, 68, 68}, 1, 5}},
-    {5, {1600, 1, 34, {68, 68, 68, 68}, 0, 255}},
+    {5, {1600, 3, HB_NO_PAIR, NO_GROUPS, 0, 0}}, /* shape 3 and more */
+    {5, {1600, 4, HB_NO_PAIR, NO_GROUPS, 0, 0}},
+    {5, {1600, 255, HB_NO_PAIR, NO_GROUPS, 0, 0}},
+    {5, {1600, HB_SHAPE_REGULAR, HB_NO_PAIR, NO_GROUPS, 0, 0}}, /* the other shape */
+    {0, {5200, HB_SHAPE_SEVEN_PAIRS, 22, {0, 0, 15, 15}, 0, 0}},
+    {5, {1600, HB_SHAPE_SEVEN_PAIRS, 33, NO_GROUPS, 0, 0}}, /* seven pairs with a pair, a place, a group */
+    {5, {1600, HB_SHAPE_SEVEN_PAIRS, HB_NO_PAIR, NO_GROUPS, 1, 0}},
+    {5, {1600, HB_SHAPE_SEVEN_PAIRS, HB_NO_PAIR, {0, HB_NO_GROUP, HB_NO_GROUP, HB_NO_GROUP}, 0, 0}},
+    {5, {1600, HB_SHAPE_ORPHANS, HB_NO_PAIR, {HB_NO_GROUP, HB_NO_GROUP, HB_NO_GROUP, 67}, 0, 0}},
+    {0, {5200, HB_SHAPE_REGULAR, HB_NO_PAIR, {0, 0, 15, 15}, 0, 0}}, /* a pair over 33 */
+    {0, {5200, HB_SHAPE_REGULAR, 64, {0, 0, 15, 15}, 0, 0}},
+    {0, {5200, HB_SHAPE_REGULAR, 22, {0, 0, 15, 16}, 0, 0}}, /* a code that names no group */
+    {0, {5200, HB_SHAPE_REGULAR, 22, {0, 0, 15, 33}, 0, 0}},
+    {0, {5200, HB_SHAPE_REGULAR, 22, {0, 0, 15, HB_NO_GROUP}, 0, 0}},
+    {0, {5200, HB_SHAPE_REGULAR, 22, {0, 0, 15, 143}, 0, 0}},
+    {0, {5200, HB_SHAPE_REGULAR, 22, {0, 15, 0, 15}, 0, 0}}, /* descending codes */
+    {0, {5200, HB_SHAPE_REGULAR, 22, {15, 0, 0, 15}, 0, 0}},
+    {0, {5200, HB_SHAPE_REGULAR, 22, {0, 0, 15, 15}, 5, 0}}, /* a place over 4 - m */
+    {0, {5200, HB_SHAPE_REGULAR, 22, {0, 0, 15, 15}, 8, 0}},
+    {3, {12000, HB_SHAPE_REGULAR, 31, {3, HB_NO_GROUP, HB_NO_GROUP, HB_NO_GROUP}, 2, 3}},
+    {3, {12000, HB_SHAPE_REGULAR, 31, {3, 4, HB_NO_GROUP, HB_NO_GROUP}, 1, 3}}, /* a group where a meld stands, and none where it does not */
+    {3, {12000, HB_SHAPE_REGULAR, 31, NO_GROUPS, 0, 3}},
+    {3, {12000, HB_SHAPE_REGULAR, 31, {HB_NO_GROUP, 3, HB_NO_GROUP, HB_NO_GROUP}, 1, 3}},
+    {0, {131072, HB_SHAPE_REGULAR, 22, {0, 0, 15, 15}, 0, 0}}, /* a gain of 18 bits and more */
+    {5, {131072, HB_SHAPE_SEVEN_PAIRS, HB_NO_PAIR, NO_GROUPS, 0, 0}},
+    {5, {4294967295u, HB_SHAPE_ORPHANS, HB_NO_PAIR, NO_GROUPS, 0, 0}},
+    {0, {5200, HB_SHAPE_REGULAR, 22, {0, 0, 15, 15}, 0, 1}}, /* another m */
+    {3, {12000, HB_SHAPE_REGULAR, 31, {3, HB_NO_GROUP, HB_NO_GROUP, HB_NO_GROUP}, 1, 2}},
+    {3, {12000, HB_SHAPE_REGULAR, 31, {3, HB_NO_GROUP, HB_NO_GROUP, HB_NO_GROUP}, 1, 4}},
+    {5, {1600, HB_SHAPE_SEVEN_PAIRS, HB_NO_PAIR, NO_GROUPS, 0, 5}}, /* m over 4 */
+    {3, {12000, HB_SHAPE_REGULAR, 31, {3, HB_NO_GROUP, HB_NO_GROUP, HB_NO_GROUP}, 1, 5}},
+    {5, {1600, HB_SHAPE_SEVEN_PAIRS, HB_NO_PAIR, NO_GROUPS, 0, 255}},
 };
 
 /* Whether a claim in a buffer of a length is refused so, and every byte stays. */

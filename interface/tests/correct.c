@@ -5,9 +5,9 @@ const Result *each_result(void)
 {
     static Result list[RESULTS] = {
         {HB_KIND_WIN, 0, 13, {0}}, {HB_KIND_WIN, 0, 13, {0}}, {HB_KIND_WIN, 0, 13, {0}}, /* lines 1, 2 and 3 */
-        {HB_KIND_DRAW, 8, 0, {0}},
-        {HB_KIND_DRAW, 5, 0, {0}},
-        {HB_KIND_DRAW, 4, 0, {0}},
+        {HB_KIND_DRAW, HB_READY_BIT(0), 0, {0}},
+        {HB_KIND_DRAW, HB_READY_BIT(1) + HB_READY_BIT(3), 0, {0}},
+        {HB_KIND_DRAW, HB_READY_BIT(1), 0, {0}},
         {HB_KIND_CHOMBO, 0, 0, {0}},
         {HB_KIND_CHOMBO, 3, 0, {0}},
         {HB_KIND_MULTI_RON, 2, 25, {0}},
@@ -45,7 +45,7 @@ static uint8_t correct(HbGame *game, const Result *result)
 
 uint8_t *correction_entry(const Result *result)
 {
-    uint8_t entry[2 + sizeof result->records] = {0x60, (uint8_t)(16 * result->kind + result->argument)};
+    uint8_t entry[2 + sizeof result->records] = {HB_ENTRY(HB_KIND_CORRECTION, 0), HB_ENTRY(result->kind, result->argument)};
     memcpy(entry + 2, result->records, result->length);
     return exact(entry, 2 + result->length);
 }
@@ -126,7 +126,7 @@ void given_back(void)
     memcpy(winds, yakuman[WINDS].record, 13);
     CHECK(hb_win(&game, table[0].record, 13) == 0 && is_game(&game, by_win, 0, 1, HB_ROUND_EAST, 3) && game.now.counter == 0);
     CHECK(hb_correct_win(&game, winds, 13) == 0 && is_game(&game, by_pao, 0, 1, HB_ROUND_EAST, 3) && game.now.counter == 0);
-    CHECK(hb_correct_draw(&game, 8) == 0 && is_game(&game, by_draw, 1, 0, HB_ROUND_EAST, 3) && game.now.counter == 2);
+    CHECK(hb_correct_draw(&game, HB_READY_BIT(0)) == 0 && is_game(&game, by_draw, 1, 0, HB_ROUND_EAST, 3) && game.now.counter == 2);
     CHECK(hb_correct_chombo(&game, 0) == 0 && is_game(&game, by_chombo, 1, 0, HB_ROUND_EAST, 3) && game.now.counter == 2);
     CHECK(memcmp(game.now.feeders, nobody, sizeof nobody) == 0 && !game.now.declared[3]);
     CHECK(memcmp(&game.earlier, &start.now, sizeof start.now) == 0 && game.correctable == 1);
@@ -173,7 +173,7 @@ void refused_corrections(void)
     HbGame game = hb_fresh_game(), declared;
     CHECK(hb_riichi(&game, 1) == 0);
     declared = game;
-    CHECK(hb_draw(&game, 4) == 0);
+    CHECK(hb_draw(&game, HB_READY_BIT(1)) == 0);
     Result result = {HB_KIND_WIN, 0, 0, {0}};
     for (size_t n = 0; n < COUNT_OF(unsound); n++) {
         uint8_t *record = unsound_record(n, &result.length);
@@ -231,7 +231,7 @@ void corrected_ends(void)
         int over = results[n].kind != HB_KIND_CHOMBO && n != 4;
         CHECK_CASE(n, game.now.over == over && (over ? all_refused(&game, HB_REFUSAL_NOT_OPEN) : hb_riichi(&game, 0) == 0));
         CHECK_CASE(n, over ? is_corrected(&game, &results[6]) && !game.now.over : all_corrections_refused(&game, HB_REFUSAL_SUPERSEDE));
-        CHECK_CASE(n, hb_draw(&game, 8) == 0 && game.now.over == 1);
+        CHECK_CASE(n, hb_draw(&game, HB_READY_BIT(0)) == 0 && game.now.over == 1);
 
         game = last_hand;
         CHECK_CASE(n, hb_chombo(&game, 2) == 0 && game.now.over == 1 && game.now.hands == 200);

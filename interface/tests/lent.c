@@ -91,7 +91,7 @@ void lent_games(void)
     /* the earlier position is kept as it was lent, its marks too; an accepted booking sets only those of the one that stands to 0 or 1 */
     HbGame game = hb_fresh_game(), before;
     game.now.declared[2] = 0xfe, game.now.sticks = 1, game.now.scores[2] -= 1000, before = game;
-    CHECK(hb_draw(&game, 2) == 0 && memcmp(&game.earlier, &before.now, sizeof before.now) == 0 && !game.now.declared[2]);
+    CHECK(hb_draw(&game, HB_READY_BIT(2)) == 0 && memcmp(&game.earlier, &before.now, sizeof before.now) == 0 && !game.now.declared[2]);
     CHECK(is_corrected(&game, &results[0]) && memcmp(&game.earlier, &before.now, sizeof before.now) == 0);
     CHECK(hb_correct_draw(&game, 0) == 0 && game.now.scores[2] == 21000 && game.now.sticks == 0);
 }

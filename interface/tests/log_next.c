@@ -117,7 +117,7 @@ void correction_entries(void)
         CHECK_CASE(header, carried ? is_entry(entry, HB_KIND_CORRECTION, 0, HB_LETTER_CORRECTION, 1 + inside.length)
                                    : no_entry(entry, HB_REFUSAL_ENTRY));
         HbGame game = hb_fresh_game(), before;
-        CHECK_CASE(header, hb_draw(&game, 8) == 0);
+        CHECK_CASE(header, hb_draw(&game, HB_READY_BIT(0)) == 0);
         before = game;
         uint8_t refusal = hb_book_entry(&game, log, sizeof log);
         CHECK_CASE(header, (refusal == HB_REFUSAL_ENTRY) == !carried && (refusal == 0 || memcmp(&game, &before, sizeof game) == 0));
@@ -129,4 +129,26 @@ void correction_entries(void)
     static const uint8_t others[][4] = {{0x60, 0x01}, {0x60, 0x50, 0x70}, {0x60, 0x60, 0x20}, {0x60, 0x60, 0x60, 0x20}};
     for (size_t n = 0; n < COUNT_OF(others); n++)
         CHECK_CASE(n, no_entry(hb_log_next(others[n], 4, 0), HB_REFUSAL_ENTRY));
+}
+
+/* What the header's macros make: the worked bytes of docs/RECORDS.md; a ready bit is the seat's at a draw, and the byte of a pao books that pao. */
+void made_entries(void)
+{
+    CHECK(HB_ENTRY(HB_KIND_RIICHI, 1) == 0x01 && HB_ENTRY(HB_KIND_WIN, 0) == 0x10 && HB_ENTRY(HB_KIND_CHOMBO, 3) == 0x33);
+    CHECK(HB_ENTRY(HB_KIND_MULTI_RON, 2) == 0x42 && HB_ENTRY(HB_KIND_PAO, 0) == 0x50 && HB_ENTRY(HB_KIND_CORRECTION, 0) == 0x60);
+    CHECK(HB_ENTRY(HB_KIND_DRAW, HB_READY_BIT(1)) == 0x24 && HB_ENTRY(HB_KIND_DRAW, HB_READY_BIT(0) + HB_READY_BIT(3)) == 0x29);
+    CHECK(HB_PAO_BYTE(1, 3, HB_YAKU_DAISANGEN) == 0x70 && HB_PAO_BYTE(3 - 2, 0 + 1, HB_YAKU_DAISANGEN) == 0x50);
+    for (uint8_t seat = 0; seat < 4; seat++) {
+        HbGame game = hb_fresh_game();
+        CHECK_CASE(seat, hb_draw(&game, HB_READY_BIT(seat)) == 0);
+        for (uint8_t other = 0; other < 4; other++)
+            CHECK_CASE(seat, game.now.scores[other] == (other == seat ? 33000 : 29000));
+    }
+    for (uint8_t n = 0; n < 32; n++) {
+        uint8_t holder = n / 8, feeder = n / 2 % 4, yaku = n % 2 ? HB_YAKU_SUUSHIIHOU : HB_YAKU_DAISANGEN;
+        HbGame game = hb_fresh_game(), booked = game;
+        uint8_t refusal = hb_pao(&game, holder, feeder, yaku);
+        CHECK_CASE(n, refusal == (holder == feeder ? HB_REFUSAL_PAO : 0));
+        CHECK_CASE(n, book_pao(&booked, HB_PAO_BYTE(holder, feeder, yaku)) == refusal && memcmp(&game, &booked, sizeof game) == 0);
+    }
 }

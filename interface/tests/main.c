@@ -45,7 +45,7 @@ static void empty_slices(void)
     CHECK(hb_cards(0, 2, &byte, 0).refusal == HB_REFUSAL_CARDS);
     CHECK(hb_judge(&byte, 0, &byte, 0, 0, 0).refusal == HB_REFUSAL_LENGTH);
     CHECK(hb_judge(table[0].record, 13, &byte, 0, 0, 0).refusal == HB_REFUSAL_CLAIM);
-    HbClaim pairs = {1600, 1, 34, {68, 68, 68, 68}, 0, 0}, no_claim = {0};
+    HbClaim pairs = {1600, HB_SHAPE_SEVEN_PAIRS, HB_NO_PAIR, NO_GROUPS, 0, 0}, no_claim = {0};
     CHECK(hb_write_claim(pairs, &byte, 0).refusal == HB_REFUSAL_BUFFER && hb_write_claim(no_claim, &byte, 0).refusal == HB_REFUSAL_BUFFER);
     CHECK(hb_win(&game, &byte, 0) == HB_REFUSAL_LENGTH && memcmp(&game, &fresh, sizeof game) == 0);
     CHECK(hb_multi_ron(&game, 1, &byte, 0) == HB_REFUSAL_LENGTH && hb_multi_ron(&game, 0, &byte, 0) == HB_REFUSAL_MULTI_RON);
@@ -106,6 +106,7 @@ int main(void)
     corrected_ends();
     lent_games();
     entries();
+    made_entries();
     correction_entries();
     booked_entries();
     refused_entries();

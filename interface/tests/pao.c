@@ -64,9 +64,10 @@ void wins_by_pao(void)
             HbGame after[2];
             for (int k = 0; k < 2; k++) {
                 after[k] = *both[k];
-                uint8_t refusal = end == 0 ? hb_draw(&after[k], 9) : end == 1 ? hb_draw(&after[k], 8)
-                                                                 : end == 2   ? hb_chombo(&after[k], 2)
-                                                                              : hb_win(&after[k], table[0].record, 13);
+                uint8_t refusal = end == 0   ? hb_draw(&after[k], HB_READY_BIT(0) + HB_READY_BIT(3))
+                                  : end == 1 ? hb_draw(&after[k], HB_READY_BIT(0))
+                                  : end == 2 ? hb_chombo(&after[k], 2)
+                                             : hb_win(&after[k], table[0].record, 13);
                 CHECK_CASE(n, refusal == 0 && memcmp(after[k].now.feeders, nobody, sizeof nobody) == 0);
                 CHECK_CASE(n, yakuman_won(&after[k], cases[n].hand, winner, cases[n].from) == 0);
             }
@@ -96,7 +97,7 @@ void refused_paos(void)
         named = game;
         for (uint8_t feeder = 0; feeder < 4; feeder++) {
             CHECK_CASE(place, hb_pao(&game, holder, feeder, yaku) == HB_REFUSAL_PAO);
-            CHECK_CASE(place, book_pao(&game, (uint8_t)(64 * holder + 16 * feeder + 8 * (place / 4))) == HB_REFUSAL_PAO);
+            CHECK_CASE(place, book_pao(&game, HB_PAO_BYTE(holder, feeder, yaku)) == HB_REFUSAL_PAO);
         }
         CHECK_CASE(place, memcmp(&game, &named, sizeof game) == 0);
     }
