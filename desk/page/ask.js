@@ -22,9 +22,10 @@ export async function draft(words, language, signal) {
   return parse(await response.text());
 }
 
-/** A log: text, digits or bytes. `form` is "" where its content says what it is; `from` is the first entry to be shown. */
-export async function game(body, form, from, language) {
-  const response = await fetched(`/ask/game?${query({ as: form, from, language })}`, { method: "POST", body });
+/** A log: text, digits or bytes. `form` is "" where its content says what it is. Of `more`: `from` is the first entry to be shown, `called`
+ * the file that it was loaded from, `more` a line that is booked after it. */
+export async function game(body, form, language, more) {
+  const response = await fetched(`/ask/game?${query({ as: form, language, ...more })}`, { method: "POST", body });
   return parse(await response.text());
 }
 

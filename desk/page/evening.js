@@ -77,7 +77,7 @@ function save(name, content) {
 }
 
 function files() {
-  const taken = async ({ target: { files: [given] } }) => given && run(log.load(await given.arrayBuffer()));
+  const taken = async ({ target: { files: [given] } }) => given && run(log.load(await given.arrayBuffer(), "", given.name));
   const file = make("input", { type: "file", id: "load", onchange: taken });
   const typed = make("textarea", { id: "log-text", rows: 6, spellcheck: "false", "aria-label": word("log-text") }, log.textShown());
   const fill = async () => { typed.value ||= await log.text(); };

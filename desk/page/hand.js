@@ -118,7 +118,7 @@ function read(event) {
   event.preventDefault();
   const text = byId("typed-text").value.trim();
   const { dealer, wind } = state();
-  const table = [text.includes("dealer=") ? "" : `dealer=${dealer}`, text.includes("wind=") ? "" : `wind=${wind}`];
+  const table = [/dealer[=＝]/i.test(text) ? "" : `dealer=${dealer}`, /wind[=＝]/i.test(text) ? "" : `wind=${wind}`];
   put([text, ...table].join(" "), (answer) => change(fieldsOf(answer)));
 }
 

@@ -34,8 +34,8 @@ function entriesOf(lines) {
 const lineNumbers = (lines) => (lines ?? []).map((line) => line.split(" ").map(Number));
 
 /** Asks the tool about a log, and keeps it. */
-async function take(body, form, from = "") {
-  const given = await game(body, form, from, language());
+async function take(body, form, more = {}) {
+  const given = await game(body, form, language(), more);
   const { own } = given;
   const [dealer, wind, sticks, counter, hands, over] = numbers(own, "now");
   digits = first(own, "log");
@@ -57,16 +57,16 @@ async function take(body, form, from = "") {
 }
 
 /** Other entries of the same log. */
-export const turn = (from) => take(digits, "hex", from);
+export const turn = (from) => take(digits, "hex", { from });
 
 /** The log again, as after a change of the language. */
 export const again = () => take(digits, "hex");
 
-/** Another log, in a form that its content tells. */
-export const load = (content, form = "") => take(content, form);
+/** Another log, in a form that its content tells; `called` is the name of its file. */
+export const load = (content, form = "", called = "") => take(content, form, { called });
 
 /** One more entry, in words. */
-export const book = (line) => take(`${digits === "" ? "" : `bytes ${digits}\n`}${line}\n`, "text");
+export const book = (line) => take(digits, "hex", { more: line });
 
 /** The log up to its last entry. */
 export const takeBack = () => take(digits.slice(0, 2 * answer.last), "hex");

@@ -1,5 +1,6 @@
 """The desk handset's server: python3 desk/server --tool PATH [--port N]. Listens on 127.0.0.1 alone, prints its address, stays until interrupted."""
 import argparse
+import errno
 import signal
 import socket
 import sys
@@ -8,9 +9,10 @@ from threading import Lock
 
 from handler import Handler
 from pages import load
-from tool import Tool
+from tool import Bad, Tool
 
 CONNECTIONS = 100  # at a time
+ANOTHER = "such as bash desk/run.sh {}"
 
 
 class Server(ThreadingHTTPServer):
@@ -67,15 +69,37 @@ def hang_up(request):
         pass
 
 
+def port_of(text):
+    """A port from the command line."""
+    if not (text.isascii() and text.isdigit() and len(text) < 6 and int(text) < 65536):
+        sys.exit(f"desk: {text} is no port; choose a number from 1024 to 65535, {ANOTHER.format(9000)}")
+    return int(text)
+
+
+def listen(port, tool):
+    """A server at a port that nothing else has."""
+    try:
+        return Server(("127.0.0.1", port), tool)
+    except OSError as error:
+        why = {errno.EADDRINUSE: "is taken, perhaps by a desk handset that runs already", errno.EACCES: "needs an administrator"}
+        told = why.get(error.errno, f"cannot be had ({error.strerror})")
+        sys.exit(f"desk: port {port} {told}; choose another one, {ANOTHER.format(9001 if port == 9000 else 9000)}")
+
+
+def tool_at(path):
+    """The tool, which answers."""
+    try:
+        return Tool(path)
+    except (OSError, Bad) as error:
+        sys.exit(f"desk: the tool {path} does not answer ({getattr(error, 'strerror', None) or error}); bash interface/build.sh builds it")
+
+
 def main():
     parser = argparse.ArgumentParser(description="The desk handset's server.")
     parser.add_argument("--tool", required=True, help="the tester's tool")
-    parser.add_argument("--port", type=int, default=8039, help="0 takes a free one")
+    parser.add_argument("--port", type=port_of, default=8039, help="0 takes a free one")
     given = parser.parse_args()
-    try:
-        server = Server(("127.0.0.1", given.port), Tool(given.tool))
-    except (OSError, OverflowError) as error:
-        sys.exit(f"desk: port {given.port}: {error}")
+    server = listen(given.port, tool_at(given.tool))
     for number in (signal.SIGINT, signal.SIGTERM):
         signal.signal(number, signal.default_int_handler)
     print(f"the desk handset is at http://127.0.0.1:{server.server_port}/ (Ctrl-C ends it)", flush=True)

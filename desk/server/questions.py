@@ -1,4 +1,5 @@
-"""What each address asks of the tool. Words come from the browser's text: none may begin with -, so that none is an option."""
+"""What each address asks of the tool. Words come from the browser's text: none may begin with -, so that none is an option. They stand
+behind --typed, so that the tool counts them as the person does."""
 from tool import Bad
 
 LONGEST_WORDS = 1000
@@ -6,18 +7,23 @@ LANGUAGES = ("1", "2", "3", "4")
 SAID = {"score": ["say"], "fu": ["say", "--fu"], "waits": ["say", "waits"], "ready": ["say", "ready"], "refusal": ["say", "refusal"]}
 
 
-def words_of(given):
-    """The words of a text from the browser."""
-    text = given.get("words", "")
+def text_of(given, key):
+    """A text from the browser."""
+    text = given.get(key, "")
     if len(text) > LONGEST_WORDS:
         raise Bad(f"over {LONGEST_WORDS} signs")
     if any(ord(sign) < 32 and sign not in "\t\n\r" or sign == "\x7f" for sign in text):
         raise Bad("a control sign among the words")
-    words = text.split()
+    return text
+
+
+def typed(given):
+    """The words that a person typed."""
+    words = text_of(given, "words").split()
     for word in words:
-        if word.startswith("-") or word == "help":
+        if word.startswith("-") or word.lower() == "help":
             raise Bad(f"\"{word}\" is no word here")
-    return words
+    return ["--typed", *words]
 
 
 def language_of(given):
@@ -37,7 +43,7 @@ def form_of(given):
 
 def draft(given):
     """A hand as far as it was keyed in."""
-    return ["draft", *words_of(given), language_of(given), "--plain"]
+    return ["draft", language_of(given), "--plain", *typed(given)]
 
 
 def number_of(given, key):
@@ -49,8 +55,9 @@ def number_of(given, key):
 
 
 def game(given):
-    """A log on standard input, and its entries from one of them on."""
-    return ["game", "-", *form_of(given), *number_of(given, "from"), language_of(given), "--plain"]
+    """A log on standard input, called as the file that it was loaded from; its entries from one of them on, with one more booked."""
+    more = [f"more={text_of(given, 'more')}"] if given.get("more") else []
+    return ["game", "-", f"called={text_of(given, 'called')}", *form_of(given), *number_of(given, "from"), *more, language_of(given), "--plain"]
 
 
 def text(given):
@@ -65,7 +72,7 @@ def sound(given):
         return ["say", "scores", "-", *form_of(given), language_of(given), "--plain"]
     if kind not in SAID:
         raise Bad("of= is score, fu, waits, ready, refusal or scores")
-    return [*SAID[kind], *words_of(given), language_of(given), "--plain"]
+    return [*SAID[kind], language_of(given), "--plain", *typed(given)]
 
 
 def damage(given):
@@ -73,4 +80,4 @@ def damage(given):
     more = number_of(given, "random")
     if given.get("of") == "log":
         return ["damage", "log", "-", *form_of(given), *more, "--progress", "--plain"]
-    return ["damage", "hand", *words_of(given), *more, "--progress", "--plain"]
+    return ["damage", "hand", *more, "--progress", "--plain", *typed(given)]

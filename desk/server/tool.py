@@ -54,7 +54,7 @@ class Tool:
         """The sound of a message, which the tool writes into a folder that is taken away."""
         with tempfile.TemporaryDirectory() as folder:
             path = os.path.join(folder, "said.wav")
-            self.ask([*words, "--wav", path], given)
+            self.ask([words[0], "--wav", path, *words[1:]], given)
             if not os.path.exists(path):
                 raise Bad("there is nothing to be heard")
             with open(path, "rb") as file:

@@ -9,6 +9,7 @@ import hands
 import keyboard
 import languages
 import looks
+import ports
 import refusals
 import requests
 import silent
@@ -23,7 +24,7 @@ def main():
     desk = Desk(root, tool, folder)
     try:
         only = sys.argv[5:]
-        for module in (hands, refusals, evening, damage, languages, keyboard, requests, speed, looks):
+        for module in (hands, refusals, evening, damage, languages, keyboard, requests, ports, speed, looks):
             if only and module.__name__ not in only:
                 continue
             before, start = desk.checks.passed, time.time()

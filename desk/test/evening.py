@@ -112,6 +112,7 @@ def run(desk):
 
     corrections(desk)
     together(desk)
+    mistyped(desk)
     damaged(desk)
     longest(desk)
 
@@ -150,6 +151,17 @@ def together(desk):
     book(desk, "win", "234m99pPPPFFFCC+C seat=1 tsumo indicator=5s")
     compare(desk, "a pao", text + "pao holder=1 feeder=3 yaku=28\nwin 234m99pPPPFFFCC+C seat=1 tsumo indicator=5s\n")
     desk.checks.same("who pays by pao", desk.browser.texts(".entries tr.remark")[-1], "pao: seat 3, the feeder of seat 1's yaku 28, pays the whole, with the counters")
+
+
+def mistyped(desk):
+    """A mistake is told by the name of the file, or by the line that was typed."""
+    seat = "a seat is 0, 1, 2 or 3, or E S W N by the first deal's winds (up to 15 to see it refused)"
+    load(desk, "mistyped.txt", b"riichi 1\nriichi X\n")
+    desk.checks.same("a mistake in a file", desk.browser.text("#evening .fault"), f"mistyped.txt, line 2, word 2, \"X\": {seat}")
+    desk.browser.run("document.querySelector('#as-text').open = true; document.querySelector('#log-text').value = 'riichi X'")
+    desk.click("#read-log")
+    desk.checks.same("a mistake in a typed line", desk.browser.text("#evening .fault"), f"line 1, word 2, \"X\": {seat}")
+    desk.browser.run("document.querySelector('#as-text').open = false")
 
 
 def damaged(desk):

@@ -148,8 +148,11 @@ def typed(desk):
         same(f"typed {text}: changes", desk.amounts(), desk.ask(f"hand {text} --plain")["changes"][0])
         desk.choose("dealer", 0)
         desk.choose("wind", 0)
+    desk.read("“112233m 778899p 5s + 5s” Seat=S ron=N Dealer=E Wind=南")
+    same("typed as people type", [shown(), desk.amounts()], ["1m 1m 2m 2m 3m 3m 7p 7p 8p 8p 9p 9p 5s 5s", desk.ask("hand 112233m778899p5s+5s seat=1 ron=3 wind=S --plain")["changes"][0]])
+    desk.choose("wind", 0)
     desk.read("234567q")
-    same("what is no tile is told in one line", desk.browser.text("#answer .fault"), "word 2, \"234567q\": sign 7 of \"234567q\", q: a digit 1 to 9, a suit m p s z or an honour E S W N P F C is needed")
+    same("what is no tile is told in one line", desk.browser.text("#answer .fault"), "word 1, \"234567q\": sign 7 of \"234567q\", q: a digit 1 to 9, a suit m p s z or an honour E S W N P F C is needed")
 
 
 def run(desk):

@@ -2,7 +2,7 @@
 import http.client
 import socket
 import subprocess
-from urllib.parse import urlsplit
+from urllib.parse import urlencode, urlsplit
 
 LINE_1 = "/ask/draft?words=234567m345p67s22s%2B8s+seat%3D1+ron%3D3&language=2"
 
@@ -26,8 +26,22 @@ def raw(address, content):
         return b"".join(iter(lambda: link.recv(65536), b""))
 
 
+def messages(desk, address):
+    """What is wrong is told by the words and lines that the person typed, and by the name of the file."""
+    ask = lambda words: asked(address, f"/ask/draft?{urlencode({'words': words, 'language': 2})}")[1].strip()
+    game = lambda body, **more: asked(address, f"/ask/game?{urlencode({'language': 2, **more})}", "POST", body)[1].strip()
+    same, seat = desk.checks.same, "a seat is 0, 1, 2 or 3, or E S W N by the first deal's winds"
+    same("the first word is word 1", ask("seat=9 1m"), f"word 1, \"seat=9\": {seat}")
+    same("quotation marks are left out", ask("“1m” seat=9"), f"word 2, \"seat=9\": {seat}")
+    same("a line of a file", game(b"riichi 1\nchombo X\n", called="my evening.txt"), f"my evening.txt, line 2, word 2, \"X\": {seat} (up to 15 to see it refused)")
+    same("a line that was typed", game(b"draw 0 X\n"), f"line 1, word 3, \"X\": {seat}; draw alone: nobody is ready")
+    same("a booking that is cut", game(b"01", **{"as": "hex", "more": "win b8"}), "\"b8\": refusal 14, the log's entry is bad or cut: bytes missing")
+    desk.checks.true("a booking by keys", "\ntext draw 1\n" in game(b"01", **{"as": "hex", "more": "draw 1"}))
+
+
 def run(desk):
     address = urlsplit(desk.address)
+    messages(desk, address)
     host = f"Host: 127.0.0.1:{address.port}"
     good = lambda: asked(address, LINE_1)[0] == 200
     desk.checks.true("a good question is answered", good())
@@ -39,7 +53,11 @@ def run(desk):
         "a whole path": dict(path="//etc/passwd"),
         "an option": dict(path="/ask/draft?words=--help&language=2"),
         "help": dict(path="/ask/draft?words=help&language=2"),
+        "help in capitals": dict(path="/ask/draft?words=Help&language=2"),
         "an option of a letter": dict(path="/ask/draft?words=-h&language=2"),
+        "an option in quotation marks": dict(path="/ask/draft?words=%E2%80%9C--plain%E2%80%9D&language=2"),
+        "an option in full-width signs": dict(path="/ask/draft?words=%EF%BC%8D%EF%BC%8Dplain&language=2"),
+        "an option behind a dash": dict(path="/ask/draft?words=%E2%80%94plain&language=2"),
         "no such language": dict(path="/ask/draft?words=1m&language=5"),
         "a language that is none": dict(path="/ask/draft?words=1m&language=--plain"),
         "a control sign": dict(path="/ask/draft?words=1m%00&language=2"),
@@ -58,6 +76,8 @@ def run(desk):
         "another method": dict(path="/", method="DELETE"),
         "a method that is none": dict(path="/", method="NONE"),
         "a log that is no text": dict(path="/ask/game?as=text&language=2", method="POST", body=b"\xff\xff"),
+        "a name with a control sign": dict(path="/ask/game?called=%01&language=2", method="POST", body=b""),
+        "a booking too long": dict(path="/ask/game?as=hex&more=" + "1" * 2000 + "&language=2", method="POST", body=b""),
         "a form that is none": dict(path="/ask/game?as=to%3D/tmp/x&language=2", method="POST", body=b""),
         "a body too long": dict(path="/ask/game?language=2", method="POST", body=b"0" * ((1 << 20) + 1)),
         "a sound of nothing": dict(path="/ask/sound?of=all&language=2", method="POST", body=b""),

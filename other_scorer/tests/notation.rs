@@ -4,7 +4,7 @@ use other_scorer::codec::{pack, read};
 use other_scorer::deal::{drawn, near, themed};
 use other_scorer::fault;
 use other_scorer::notation::hex::{from_hex, to_hex};
-use other_scorer::notation::{doubtful, parse, print, text, tiles, Fault};
+use other_scorer::notation::{doubtful, parse, print, seat, text, tiles, unfinished, Fault};
 use other_scorer::rng::Rng;
 use other_scorer::{score, Hand, Scored};
 
@@ -75,6 +75,9 @@ fn tiles_in_other_signs() {
     ] {
         assert_eq!(tiles(text), Ok(orphans.clone()), "{text}");
     }
+    for text in ["19m,19p,19s,ESWN,PFC", "1m,9m,19p,19s、E,S,W,N,p,F，C,"] {
+        assert_eq!(tiles(text), Ok(orphans.clone()), "{text}");
+    }
     assert_eq!(tiles("eesswwnnppffcc"), tiles("EESSWWNNPPFFCC"));
     assert_eq!(tiles("pps"), tiles("PPS"));
     assert_eq!(tiles("11pEp"), tiles("11pEP"));
@@ -94,11 +97,59 @@ fn tiles_in_other_signs() {
 }
 
 #[test]
+fn seats_by_number_and_wind() {
+    for (number, names) in [
+        ["0", "E", "e", "東", "1z", "East"],
+        ["1", "S", "s", "南", "2z", "south"],
+        ["2", "W", "w", "西", "🀂", "WEST"],
+        ["3", "N", "n", "北", "４ｚ", "North"],
+    ]
+    .iter()
+    .enumerate()
+    {
+        for name in names {
+            assert_eq!(seat(name), Ok(number as u8), "{name}");
+        }
+    }
+    for name in ["4", "P", "", "ES", "1m", "Nord", "-1", "256"] {
+        assert!(seat(name).is_err(), "{name}");
+    }
+}
+
+#[test]
+fn unfinished_hands() {
+    let of = |line: &str| unfinished::parse(&line.split_whitespace().collect::<Vec<_>>());
+    let hand = of("567m22456p67s chi=234m");
+    assert_eq!(hand.as_ref().ok().and_then(unfinished::print).as_deref(), Some("567m22456p67s chi=234m"));
+    for line in ["567m22456p67s+8s chi=234m", "567m 22456p 67s + 8s chi=234m", "67s,22456p,567m+ chi=234m"] {
+        assert_eq!(of(line), hand, "{line}");
+    }
+    for (line, word, why) in [
+        ("567m22456p678s chi=234m", 2, "11 tiles, with 1 meld 10 are needed; a finished hand waits for nothing"),
+        ("567m22456p6789s chi=234m", 2, "12 tiles, with 1 meld 10 are needed"),
+        ("567m22456p6s+8s chi=234m", 2, "9 tiles before +, with 1 meld 10 are needed"),
+        ("567m22456p67s+8s+8s chi=234m", 0, "sign 3 of"),
+        ("567m22456p67s+8s 9s chi=234m", 1, "the winning tile is the last one"),
+        ("567m22456p67s chi=234m tsumo", 2, "an unfinished hand is its tiles and melds"),
+        ("567m22456p67s chi=234m Seat=1", 2, "an unfinished hand is its tiles and melds"),
+        ("567m22456p67s chi=234m reach", 2, "the word is riichi"),
+        ("567m22456p67s chi=234m menzen", 2, "neither tiles nor a meld"),
+    ] {
+        let fault = of(line).expect_err(line);
+        assert!(fault.word == word && fault.why.starts_with(why), "{line}: {fault:?}");
+        assert!(fault.why.contains("finished hand waits") == line.contains("678s "), "{line}: {fault:?}");
+    }
+}
+
+#[test]
 fn digits_that_look_like_two_suits() {
     let of = |text| doubtful(text).map(|(stretch, first)| format!("{stretch} {first}"));
     assert_eq!(of("234567345p67s22s"), Some("234567345p 234567".into()));
     assert_eq!(of("234m6722s"), Some("6722s 67".into()));
-    for text in ["234567m345p67s22s", "765432m", "354p", "1122334455667m", "ESWN", "", "123"] {
+    assert_eq!(of("112233m7788995s"), Some("7788995s 778899".into()));
+    assert_eq!(of("6782s"), Some("6782s 678".into()));
+    assert_eq!(of("765432m"), Some("765432m 7".into()));
+    for text in ["234567m345p67s22s", "55p", "1122334455667m", "ESWN", "", "123", "321"] {
         assert_eq!(of(text), None, "{text}");
     }
 }
@@ -168,6 +219,8 @@ fn bad_notation() {
         ("345p", "345pp", 0, "sign 12 of \"234567m345pp2267s\", p: no digit before it"),
         ("345p", "345P", 0, "sign 11 of \"234567m345P2267s\", P: the digits before it have no suit"),
         ("345p", "348z", 0, "8z is no tile"),
+        ("345p", "34,5p", 0, "sign 10 of \"234567m34,5p2267s\", ,: the digits before it have no suit"),
+        ("345p", "345Z", 0, "sign 11 of \"234567m345Z2267s\", Z: a suit is a small letter"),
         ("seat=1 ", "", 2, "the winner is missing"),
         ("seat=1", "seat", 1, "the number is missing"),
         ("seat=1", "seat=4", 1, "a seat is 0, 1, 2 or 3"),
@@ -178,15 +231,21 @@ fn bad_notation() {
         ("ron=3", "ron=4", 2, "a seat is"),
         ("ron=3", "ron=3 tsumo", 3, "an earlier word"),
         ("ron=3", "ron=3 riichi double", 4, "an earlier word"),
-        ("ron=3", "ron=3 last first", 4, "an earlier word"),
+        ("ron=3", "ron=3 last first", 4, "an earlier word has said this already: one of rinshan, chankan, last and first fits"),
         ("ron=3", "ron=3 indicator=44z", 3, "one tile is needed"),
         ("ron=3", "ron=3 indicator=4z indicator=4z", 4, "an earlier word"),
         ("ron=3", "ron=3 dora=4z", 3, "the tile turned up is indicator="),
-        ("ron=3", "ron=3 ura=4z", 3, "ura= is no option"),
+        ("ron=3", "ron=3 ura=4z", 3, "there is no ura-dora in these rules"),
+        ("ron=3", "ron=3 foo=4z", 3, "foo= is no option"),
         ("ron=3", "ron=3 ippatsu", 3, "there is no ippatsu in these rules, leave the word out"),
         ("ron=3", "ron=3 Reach", 3, "the word is riichi"),
         ("ron=3", "ron=3 menzen", 3, "neither tiles nor one of the words tsumo, riichi, double"),
         ("ron=3", "ron=3 riichi=1", 3, "riichi stands alone"),
+        ("ron=3", "ron3", 2, "= is missing, write ron=3"),
+        ("ron=3", "Ron:N", 2, "= is missing, write ron=N"),
+        ("ron=3", "ron=3 indicatorE", 3, "= is missing, write indicator=E"),
+        ("ron=3", "ron=3 ronin", 3, "neither tiles nor one of the words tsumo"),
+        ("ron=3", "from=3", 2, "the word is ron"),
         ("345p", " pong=333p ", 1, "the word is pon, such as pon=222m"),
         ("345p", " chi=345p", 1, "sign 10 of \"345p2267s+8s\", +"),
         ("345p", " chi=891m ", 1, "three neighbours"),

@@ -17,7 +17,7 @@ const WIDTH: usize = 72;
 
 /// A suit by its letter or its number.
 fn suit(word: &str) -> Option<u8> {
-    ["m", "p", "s"].iter().position(|letter| *letter == word).map(|at| at as u8).or_else(|| word.parse().ok())
+    ["m", "p", "s"].iter().position(|letter| letter.eq_ignore_ascii_case(word)).map(|at| at as u8).or_else(|| word.parse().ok())
 }
 
 /// The cards, or why there are none.
@@ -31,11 +31,11 @@ pub fn run(core: &mut Core, mut words: Words) -> Result<String, Bad> {
     words.no_options()?;
     let texts = words.texts();
     let suit = match texts.first() {
-        Some(word) => suit(word).ok_or_else(|| words.bad(0, "a suit m, p, s or a number 0 to 255 is needed"))?,
+        Some(word) => suit(word).ok_or_else(|| words.bad(0, "a suit m, p or s is needed (a number up to 255 to see it refused)"))?,
         None => return Err(words.bad(0, "no suit, such as m")),
     };
     let size: u8 = match texts.get(1) {
-        Some(word) => word.parse().map_err(|_| words.bad(1, "a number of tiles 0 to 255 is needed"))?,
+        Some(word) => word.parse().map_err(|_| words.bad(1, "2, 5 or 8 tiles are needed (a number up to 255 to see it refused)"))?,
         None => return Err(words.bad(1, "no number of tiles: 2, 5 or 8")),
     };
     if texts.len() > 2 {

@@ -32,8 +32,14 @@ fn typed(value: &str) -> Result<Typed, String> {
         "regular" => Typed::Regular,
         "pairs" | "seven-pairs" => Typed::Whole(Reading::SevenPairs),
         "orphans" | "thirteen-orphans" => Typed::Whole(Reading::ThirteenOrphans),
+        points if is_gain(points) => return Err(format!("the points are gain={points}; claim= is the reading: regular, pairs or orphans")),
         digits => Typed::Bytes(from_hex(digits).map_err(|_| NEEDED.to_string())?),
     })
+}
+
+/// Whether a value looks like points: up to five digits, hundreds.
+fn is_gain(value: &str) -> bool {
+    (3..=5).contains(&value.len()) && value.ends_with("00") && value.bytes().all(|sign| sign.is_ascii_digit())
 }
 
 /// The kind of two equal tiles.
@@ -46,16 +52,25 @@ fn pair(value: &str) -> Result<u8, String> {
 
 /// A run or a triplet by its three tiles.
 fn one_group(text: &str) -> Result<Group, String> {
-    let mut list = tiles(text)?;
+    group_of(tiles(text)?, text)
+}
+
+/// The same by kinds, for which a text stands.
+fn group_of(mut list: Vec<u8>, text: &str) -> Result<Group, String> {
     list.sort();
     let low = list.first().copied().unwrap_or(0);
     let named = [low, 34 + low].into_iter().filter_map(group).find(|group| group.tiles()[..] == list[..]);
     named.ok_or(format!("{text}: three neighbours of a suit or three equal tiles are needed, such as 123m or EEE"))
 }
 
-/// The groups with commas between them, as typed; a hand whose melds are four has none.
+/// The groups as typed, with commas between them or three tiles after three; a hand whose melds are four has none.
 fn groups(value: &str) -> Result<Vec<Group>, String> {
-    let list: Vec<Group> = value.split(',').filter(|text| !text.is_empty()).map(one_group).collect::<Result<_, _>>()?;
+    let mut list = Vec::new();
+    for text in value.split(',') {
+        for three in tiles(text)?.chunks(3) {
+            list.push(group_of(three.to_vec(), text)?);
+        }
+    }
     if list.len() > 4 {
         Err("at most four groups, melds left out".into())
     } else {
@@ -64,10 +79,14 @@ fn groups(value: &str) -> Result<Vec<Group>, String> {
 }
 
 /// What the winning tile completes: the pair, or a group by its number from 1 or its tiles.
-fn place(value: &str, groups: &[Group]) -> Result<usize, String> {
-    let by_tiles = || one_group(value).ok().and_then(|group| groups.iter().position(|typed| *typed == group)).map(|at| at + 1);
-    let named = if value == "pair" { Some(0) } else { value.parse().ok().filter(|&number| number <= 7).or_else(by_tiles) };
-    named.ok_or("what the winning tile completes is needed: pair, or one of the groups, such as 123m, or its number from 1".into())
+fn place(value: &str, pair: Option<u8>, groups: &[Group]) -> Result<usize, String> {
+    let group = || one_group(value).ok().and_then(|group| groups.iter().position(|typed| *typed == group)).map(|at| at + 1);
+    let by_tiles = || if pair.is_some_and(|kind| tiles(value) == Ok(vec![kind; 2])) { Some(0) } else { group() };
+    let by_number = || value.parse().ok().filter(|&number| number <= 7);
+    let named = if value.eq_ignore_ascii_case("pair") { Some(0) } else { by_number().or_else(by_tiles) };
+    named.ok_or(
+        "the place, what the winning tile completes, is needed: pair, or one of the groups, such as 123m, or its number from 1".into(),
+    )
 }
 
 /// A regular reading, its groups in the order of their codes; the place stays with its group.
@@ -117,6 +136,7 @@ impl Given {
 
 /// The claim of the words; none if there is no claim=.
 pub fn take(words: &mut Words) -> Result<Option<Given>, Bad> {
+    words.join_digits("claim");
     let claim = words.take("claim", typed)?;
     let gain: Option<u32> = words.take("gain", |value| {
         let number = value.replace(',', "").parse().ok().filter(|gain| *gain <= MOST);
@@ -125,7 +145,7 @@ pub fn take(words: &mut Words) -> Result<Option<Given>, Bad> {
     let pair = words.take("pair", pair)?;
     let groups = words.take("groups", groups)?;
     let named = groups.clone().unwrap_or_default();
-    let place = words.take("place", |value| place(value, &named))?;
+    let place = words.take("place", |value| place(value, pair, &named))?;
     let beside = gain.is_some() || pair.is_some() || groups.is_some() || place.is_some();
     let reading = match (claim, pair, groups, place) {
         (None, ..) if beside => return Err(Bad::new(format!("claim= is missing, {REGULAR}"))),

@@ -6,7 +6,7 @@ use other_scorer::Entry;
 use crate::outcome::{hands, ready, Outcome};
 use crate::text;
 
-const HEADS: [&str; 28] = [
+const HEADS: [&str; 29] = [
     "entry",
     "deal",
     "wind",
@@ -35,6 +35,7 @@ const HEADS: [&str; 28] = [
     "hands",
     "text",
     "remark",
+    "counts",
 ];
 
 /// A cell; one with a comma or a quotation mark stands in quotation marks.
@@ -74,8 +75,9 @@ fn what(outcome: &Outcome) -> [String; 4] {
     [line.split(' ').take(words).collect::<Vec<_>>().join(" "), seats, how.into(), from]
 }
 
-/// The row of an entry with its number, its deal and its remark.
-fn entry(n: usize, deal: &str, outcome: &Outcome, remark: Option<&str>) -> String {
+/// The row of an entry with its number, its deal, its remark and by which entry it is superseded; last whether it counts: accepted, and
+/// not superseded.
+fn entry(n: usize, deal: &str, outcome: &Outcome, remark: Option<String>, superseded: Option<usize>) -> String {
     let (before, after, wins) = (&outcome.position, &outcome.step.after.archive.now, &outcome.wins);
     let mut cells = vec![n.to_string(), deal.into(), deal[..1].into(), before.dealer.to_string()];
     cells.extend(what(outcome));
@@ -86,18 +88,31 @@ fn entry(n: usize, deal: &str, outcome: &Outcome, remark: Option<&str>) -> Strin
     cells.push(each(wins, |win| win.scored.yaku.numbers().iter().map(usize::to_string).collect::<Vec<_>>().join(" ")));
     cells.extend([each(wins, |win| win.scored.h.to_string()), each(wins, |win| win.scored.fu.to_string())]);
     cells.extend([each(wins, |win| win.gain().to_string()), after.hands.to_string()]);
-    cells.extend([text::line(&outcome.step.entry), remark.unwrap_or_default().into()]);
+    let by = superseded.map(|by| format!("superseded by entry {by}"));
+    let counts = outcome.step.refusal == 0 && by.is_none();
+    cells.extend([text::line(&outcome.step.entry), remark.into_iter().chain(by).collect::<Vec<_>>().join("; ")]);
+    cells.push(u8::from(counts).to_string());
     row(&cells)
 }
 
+/// Of each entry the number of the one that supersedes it.
+fn superseded(outcomes: &[Outcome]) -> Vec<Option<usize>> {
+    let (mut by, mut last) = (vec![None; outcomes.len()], None);
+    for (at, outcome) in outcomes.iter().enumerate().filter(|(_, outcome)| outcome.step.refusal == 0) {
+        let wrong: Option<usize> = last.replace(at).filter(|_| matches!(outcome.step.entry, Entry::Correction(_)));
+        wrong.into_iter().for_each(|wrong| by[wrong] = Some(at + 1));
+    }
+    by
+}
+
 /// The sheet of a log's entries, each with its deal and remark; where the log stopped, a last row says so.
-pub fn sheet(outcomes: &[Outcome], deals: &[String], remarks: &[Option<String>], stopped: Option<String>) -> String {
+pub fn sheet(outcomes: &[Outcome], deals: &[String], remarks: Vec<Option<String>>, stopped: Option<String>) -> String {
     let heads = row(&HEADS.map(String::from));
-    let entries = outcomes.iter().zip(deals).zip(remarks).zip(1..);
-    let rows = entries.map(|(((outcome, deal), remark), n)| entry(n, deal, outcome, remark.as_deref()));
+    let entries = outcomes.iter().zip(deals).zip(remarks).zip(superseded(outcomes)).zip(1..);
+    let rows = entries.map(|((((outcome, deal), remark), by), n)| entry(n, deal, outcome, remark, by));
     let end = stopped.map(|why| {
         let mut cells = vec![String::new(); HEADS.len()];
-        (cells[4], cells[8], cells[HEADS.len() - 1]) = ("stopped".into(), "14".into(), why);
+        (cells[4], cells[8], cells[27], cells[28]) = ("stopped".into(), "14".into(), why, "0".into());
         row(&cells)
     });
     [heads].into_iter().chain(rows).chain(end).collect()

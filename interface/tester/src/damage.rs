@@ -22,9 +22,9 @@ const REFUSALS: usize = LAST as usize + 1;
 /// With more changes than this a word is said before they are tried.
 const LOTS: usize = 100_000;
 
-/// What is damaged: a record at a table, or a log with its walk and what is said of its file and length.
+/// What is damaged: a record at a table with what may be meant otherwise, or a log with its walk and what is said of its file and length.
 enum Subject {
-    Hand { record: Vec<u8>, dealer: u8, wind: u8 },
+    Hand { record: Vec<u8>, dealer: u8, wind: u8, said: Vec<String> },
     Log { bytes: Vec<u8>, walk: Walk, said: Vec<String> },
 }
 
@@ -43,9 +43,9 @@ pub fn run(core: &mut Core, mut words: Words) -> Result<String, Bad> {
         (false, true) => Kind::Nothing,
         (false, false) => Kind::Words,
     };
-    let number = words.take_number("random", "of changes, such as 1000,")?;
+    let number = words.take_number("random", "of changes, such as 1000,", usize::MAX)?;
     let seed = match number {
-        Some(_) => words.take_number("seed", "such as 7")?,
+        Some(_) => words.take_number("seed", "such as 7", u64::MAX)?,
         None => words.take("seed", |_| Err("random=N, the number of changes, is missing".to_string()))?,
     };
     let subject = subject(core, words, plain)?;
@@ -103,28 +103,32 @@ impl Shown {
     }
 }
 
-/// The record or log that the words give; for scripts a word is said at once about a log past the limit.
+/// The record or log that the words give; for scripts what is said of them is said at once.
 fn subject(core: &mut Core, mut words: Words, plain: bool) -> Result<Subject, Bad> {
     let what = words.texts().first().map(|word| word.to_string());
     match what.as_deref() {
         Some("hand") => {
             words.take_first();
             let (dealer, wind) = input::table(&mut words)?;
-            Ok(Subject::Hand { record: input::record(core, &words)?, dealer, wind })
+            let said = at_once(plain, input::notes(&words));
+            Ok(Subject::Hand { record: input::record(core, &words)?, dealer, wind, said })
         }
         Some("log") => {
             words.take_first();
-            let Log { mut bytes, read, .. } = input::log(core, words)?;
-            let cut = limit::said(core, &bytes);
-            if plain {
-                cut.iter().for_each(|cut| eprintln!("tester: {cut}"));
-            }
+            let Log { mut bytes, read, notes, .. } = input::log(core, words)?;
+            let said = at_once(plain, notes.into_iter().chain(limit::said(core, &bytes)).collect());
             bytes.truncate(limit::read(&bytes).len());
             let walk = whole(core, &bytes);
-            Ok(Subject::Log { bytes, walk, said: read.into_iter().chain(cut).collect() })
+            Ok(Subject::Log { bytes, walk, said: read.into_iter().chain(said).collect() })
         }
         _ => Err(words.bad(0, "what is to be damaged: hand and its notation, or log and its file")),
     }
+}
+
+/// What is said of a subject; for scripts on standard error too.
+fn at_once(plain: bool, said: Vec<String>) -> Vec<String> {
+    said.iter().filter(|_| plain).for_each(|said| eprintln!("tester: {said}"));
+    said
 }
 
 impl Subject {
@@ -180,18 +184,22 @@ impl Subject {
     /// What is damaged, and how it fares whole.
     fn head(&self, core: &mut Core) -> String {
         match self {
-            Subject::Hand { record, dealer, wind } => {
+            Subject::Hand { record, dealer, wind, said } => {
                 let whole = sentence(core.score(record, *dealer, *wind).refusal, &[]);
-                format!("record {}, {}: {whole}", to_hex(record), count(record.len(), "byte"))
+                lines(said) + &format!("record {}, {}: {whole}", to_hex(record), count(record.len(), "byte"))
             }
             Subject::Log { bytes, walk, said } => {
-                let said: String = said.iter().map(|line| format!("{line}\n")).collect();
                 let refused = walk.steps.iter().filter(|step| step.refusal != 0).count();
                 let end = if walk.stopped.is_some() { ", stopped by 14" } else { "" };
-                format!("{said}log of {}, {}, {refused} refused{end}", count(bytes.len(), "byte"), entries(walk))
+                lines(said) + &format!("log of {}, {}, {refused} refused{end}", count(bytes.len(), "byte"), entries(walk))
             }
         }
     }
+}
+
+/// Texts as lines.
+fn lines(said: &[String]) -> String {
+    said.iter().map(|line| format!("{line}\n")).collect()
 }
 
 /// A line for each kind of change, a column for each refusal met; below them the accepted changes, if they are to be shown.

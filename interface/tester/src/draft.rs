@@ -2,8 +2,7 @@
 //! programs that draw a hand, such as the desk handset.
 
 use other_scorer::notation::hex::is_hex;
-use other_scorer::notation::tiles::plain;
-use other_scorer::notation::{meld, meld_kind, meld_word, seat, text, tiles};
+use other_scorer::notation::{meld, meld_kind, meld_word, no_tiles, one, seat, text, tiles, Typed, WORDS};
 use other_scorer::record::CHI;
 use other_scorer::tiles::{dora_after, starts_run};
 use other_scorer::Meld;
@@ -12,6 +11,7 @@ use crate::answer::Answer;
 use crate::both::Core;
 use crate::names::seat_wind;
 use crate::page::Page;
+use crate::unfinished::discards;
 use crate::words::{Bad, Words};
 use crate::{fu, hand, input, readings, ready, say, sheet, slip, text as log_text, waits};
 
@@ -19,13 +19,14 @@ use crate::{fu, hand, input, readings, ready, say, sheet, slip, text as log_text
 const RIICHI: [&str; 3] = ["", "riichi", "double"];
 const SITUATIONS: [&str; 5] = ["", "rinshan", "chankan", "last", "first"];
 
-/// A hand as far as it was keyed in, and how many tiles it has too many.
+/// A hand as far as it was keyed in, how many tiles it has too many, and the indicator if one was named.
 struct Draft {
     concealed: Vec<u8>,
     winning: Option<u8>,
     over: usize,
     melds: Vec<Meld>,
     discards: Vec<u8>,
+    named: Option<u8>,
     indicator: u8,
     seat: Option<u8>,
     how: Option<String>,
@@ -71,31 +72,29 @@ impl Draft {
     /// What the words give. Of tiles without + the first are concealed, as many as there are beside the melds, and then comes the winning
     /// one.
     fn of(mut words: Words) -> Result<Draft, Bad> {
-        let discards = waits::discards(&mut words)?;
-        let indicator = words.take("indicator", waits::one)?.unwrap_or(waits::NORTH);
+        let discards = discards(&mut words)?;
+        let named = words.take("indicator", one)?;
+        let indicator = named.unwrap_or(waits::NORTH);
         let (seat, how) = (words.take("seat", seat)?, how(&mut words)?);
         let (riichi, situation) = (flag(&mut words, &RIICHI)?, flag(&mut words, &SITUATIONS)?);
         words.no_options()?;
-        let (mut before, mut after, mut melds) = (Vec::new(), None, Vec::new());
+        let (mut typed, mut melds) = (Typed::default(), Vec::new());
         for (at, word) in words.texts().into_iter().enumerate() {
-            let taken = match (word.split_once('='), word.split_once('+')) {
+            let taken = match (word.split_once('='), no_tiles(word, WORDS)) {
                 (Some((key, value)), _) => meld_of(key, value).map(|meld| melds.push(meld)),
-                (_, Some(_)) if after.is_some() => Err("a second +".into()),
-                (_, Some((word, winning))) => tiles(word).and_then(|list| {
-                    before.extend(list);
-                    waits::one(winning).map(|tile| after = Some(tile))
-                }),
-                _ => tiles(word).map(|list| before.extend(list)),
+                (None, Some(why)) => Err(why),
+                (None, None) => typed.take(at, word),
             };
             taken.map_err(|why| words.bad(at, why))?;
             if melds.len() > 4 {
                 return Err(words.bad(at, "a fifth meld, at most 4 fit"));
             }
         }
-        let mut more = before.split_off(before.len().min(needs(melds.len()))).into_iter();
-        before.sort();
-        let winning = after.or_else(|| more.next());
-        Ok(Draft { concealed: before, winning, over: more.len(), melds, discards, indicator, seat, how, riichi, situation })
+        let Typed { mut concealed, winning, .. } = typed;
+        let mut more = concealed.split_off(concealed.len().min(needs(melds.len()))).into_iter();
+        concealed.sort();
+        let winning = winning.or_else(|| more.next());
+        Ok(Draft { concealed, winning, over: more.len(), melds, discards, named, indicator, seat, how, riichi, situation })
     }
 
     /// How many tiles are missing.
@@ -219,9 +218,9 @@ fn finished(core: &mut Core, page: &mut Page, line: &str, language: Option<u8>) 
 /// The answers to an unfinished hand: what it waits for and what that would score, how far it is from ready, and what is said of it.
 fn unfinished(core: &mut Core, page: &mut Page, draft: &Draft, line: &str, table: &str, language: Option<u8>) -> Result<(), Bad> {
     let discards = format!("{line} discards={}", text(&draft.discards));
-    let indicator = text(&[draft.indicator]);
+    let indicator = draft.named.map_or(String::new(), |named| format!("indicator={}", text(&[named])));
     let last = if draft.situation == 3 { "last" } else { "" };
-    let player = draft.seat.map(|seat| format!("seat={seat} indicator={indicator} {} {last} {table}", RIICHI[draft.riichi]));
+    let player = draft.seat.map(|seat| format!("seat={seat} {indicator} {} {last} {table}", RIICHI[draft.riichi]));
     let asked = format!("{discards} {}", player.unwrap_or_default());
     ask(core, page, "waits", asked.clone(), waits::run)?;
     waits::plain_scores(core, page, Words::of_line(String::new(), &asked))?;
@@ -240,8 +239,7 @@ fn record(core: &mut Core, words: &Words) -> Result<Option<String>, Bad> {
 }
 
 /// The draft and its answers, for scripts.
-pub fn run(core: &mut Core, words: Words) -> Result<String, Bad> {
-    let mut words = words.mapped(plain);
+pub fn run(core: &mut Core, mut words: Words) -> Result<String, Bad> {
     words.take_flag("--plain");
     let language = words.take("language", sheet::language)?;
     let (dealer, wind) = input::table(&mut words)?;
@@ -255,6 +253,7 @@ pub fn run(core: &mut Core, words: Words) -> Result<String, Bad> {
             finished(core, &mut page, &format!("{digits} {table_words}"), language)?;
         }
         notation => {
+            input::notes(&words).iter().for_each(|note| page.plain("note", [note]));
             let draft = Draft::of(notation.map_or(words, |line| Words::of_line(String::new(), &line)))?;
             draft.rows(&mut page, dealer, wind);
             if let Some(line) = draft.finished() {

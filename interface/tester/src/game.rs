@@ -20,13 +20,20 @@ use crate::{input, limit, say, sheet, text};
 pub fn run(core: &mut Core, mut words: Words) -> Result<String, Bad> {
     words.take_flag("--plain");
     let language = words.take("language", sheet::language)?;
-    let from: Option<usize> = words.take_number("from", "of an entry, such as 1,")?;
-    let given = input::log(core, words)?;
+    let from: Option<usize> = words.take_number("from", "of an entry, such as 1,", usize::MAX)?;
+    let more = words.take("more", |line| Ok(line.to_string()))?;
+    let mut given = input::log(core, words)?;
+    if let Some(line) = more {
+        let entry = text::after(core, &given.bytes, &line)?;
+        given.bytes.extend(entry);
+        given.notes.extend(input::notes(&Words::unplaced(&line)));
+    }
     let (log, cut) = (limit::read(&given.bytes), limit::said(core, &given.bytes));
     let walk = whole(core, log);
     core.lines(log);
     let mut page = Page::default();
     page.plain("read", given.read);
+    given.notes.iter().for_each(|note| page.plain("note", [note]));
     page.plain("log", [to_hex(log)]);
     page.plain("cut", cut);
     results(&mut page, &walk);

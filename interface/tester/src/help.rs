@@ -23,7 +23,9 @@ tester COMMAND WORDS: asks the proved core, and compares every answer with the o
 
   tester COMMAND --help says more of each
   --plain    output for scripts
+  --typed    for programs: messages count the words behind it alone, which a person has typed
 
+Small letters and capitals of words, quotation marks and commas between words make no difference.
 Exit status 0: answered (a refusal is an answer); 1: the two scorers differ; 2: bad input, told in one line.
 ";
 
@@ -92,18 +94,20 @@ For scripts: the lines of `hand` up to why, slip with its refusal, the six lines
 pub const WAITS: &str = "\
 tester waits TILES [MELDS] [discards=TILES] [seat=N [WORDS]] [--plain]
 tester waits HEX [discards=TILES] [seat=N [WORDS]] [--plain]
-tester waits record=HEX [discards=TILES] [seat=N [WORDS]] [--plain]
+tester waits record=HEX [discards=TILES] [dealer=N] [wind=E|S] [--plain]
 
-  TILES           13 concealed tiles, three fewer for each meld, as for `tester hand`: 567m22456p67s
+  TILES           13 concealed tiles, three fewer for each meld, as for `tester hand`: 567m22456p67s; + and the winning tile of a
+                  finished hand are left out, with what else is said of it
   chi=234m pon=555p kan=EEEE ankan=9999s     melds; ankan is a closed kan
-  discards=TILES  the player's own discards, such as discards=N8s4m
+  discards=TILES  the player's own discards, such as discards=N8s4m or discards=N,8s,4m
   kinds=HEX       the discards as bytes instead, one kind a byte, to see one over 33 refused
   HEX             the hand's bytes instead, in one word or more
-  record=HEX      the record of a finished hand instead, its winning tile left out
+  record=HEX      the record of a finished hand instead, its winning tile left out; its winner, riichi, indicator and last tile say
+                  whose hand it is, unless seat= does
   seat=N          whose hand it is, to see what each wait would score; with dealer=N wind=E|S indicator=TILE riichi double last
 
 Prints the kinds that the hand waits for, yaku or not, and whether it is in furiten, with the discards that are waits. Beside each
-wait stands how many of it neither the hand nor the discards show; with seat= also h, fu and gain by ron and by tsumo, or no yaku.
+wait stands how many of it neither the hand, the discards nor a named indicator show; with seat= also h, fu and gain by ron and by tsumo, or no yaku.
 
 For scripts: notation, bytes, discards (hexadecimal), refusal, why, waits, furiten (1 or 0), of each wait a line wait TILE; LEFT, and
 with seat= ; by ron; by tsumo behind it, differences.
@@ -140,7 +144,7 @@ Without a claim that of the reported reading is made and judged.
 
   claim=regular pair=55s groups=123m,123m,789p,789p place=pair gain=5200
              a reading by its pair and its groups in any order, melds left out; place= is what the winning tile completes:
-             pair, one of the groups, or its number from 1
+             pair, one of the groups, or its number from 1; a wrong place is told, though the tiles are right
   claim=pairs gain=1600       seven pairs; claim=orphans gain=32000, thirteen orphans
   claim=HEX  the claim's bytes instead (docs/RECORDS.md), to see a faulty one refused
 
@@ -162,7 +166,8 @@ their words on the sheet (docs/CLIPS.md), Japanese with kana, Mandarin with piny
   language=L   ja, en, ko, zh, or 1 to 4 as the label has them
   --fu         the items of the hand's fu instead of its score
   buffer=N     lends a buffer of N bytes instead of one for every message
-  --wav FILE   writes the message as sound, spoken by the program espeak-ng; it has to be installed
+  --wav FILE   writes the message as sound into a new FILE, spoken by the program espeak-ng; it has to be installed
+  over=yes     FILE may exist, and what it holds is lost
   --plain      for scripts
 
 For scripts: the lines of `hand` up to why (of waits and ready too; of a refusal number), language, said with its refusal and the number
@@ -186,10 +191,13 @@ score TILE HOW REFUSAL H FU GAIN), ready (with out and in), say, say-ready of an
 ";
 
 pub const GAME: &str = "\
-tester game FILE|-|HEX [as=text|hex|bytes] [from=N] [language=L]
+tester game FILE|-|HEX [as=text|hex|bytes] [called=NAME] [more=LINE] [from=N] [language=L]
 
 The game of a log, text, hex or bytes as for `tester log`, for programs that draw it. Of the entries a hundred are shown, those from N on
 or the last ones.
+
+  called=NAME  what messages call standard input (-)
+  more=LINE    an entry in words, booked after the log
 
 For scripts: read, log (hexadecimal), cut; start with four scores, result HANDS and four scores after each finished hand; entries (how
 many), last (the byte of the last one); of each that is shown a line entry with number, byte, letter, refusal, dealer, wind, counter and sticks
@@ -213,7 +221,7 @@ A text of entries gives the bytes of a log; the bytes of a log, or hexadecimal d
 was read. It is text if a line begins with one of the words below, or if it has no control signs but tabs and line ends; a text that
 has nothing but digits is hex; all else is bytes. Text has to be UTF-8. as= decides instead.
 
-  riichi 1                                  seat 1 declares
+  riichi 1                                  seat 1 declares; seats are E S W N too, by the winds of the first deal
   win 234567m345p67s22s+8s seat=1 ron=3     as for `tester hand`, or win HEX; dealer and wind are the game's
   draw 0 2                                  seats 0 and 2 are ready; draw alone: nobody
   chombo 3
@@ -241,7 +249,8 @@ A game is read from the first 65,536 bytes; of a longer log the tool says which 
   --words    below an entry its changes by seat; dealer, wind, counters and sticks before it; who did what; of a win yaku, h, fu,
              the gain by itself and with counters and sticks; then why it was refused, which entry a correction supersedes, whose
              chombo a draw was, who pays a win by pao, or who takes sticks and counters of a multiple ron; at the end the standings
-  --csv      a sheet instead, for a spreadsheet: a row of heads, then a row an entry
+  --csv      a sheet instead, for a spreadsheet: a row of heads, then a row an entry; what is superseded has a remark,
+             and the last column is 1 for an entry that counts
   --say L    what the handset says of the scores after it, in words and as clips, below it; L as for `tester say`
 
 For scripts: the lines of the program tally; with --words why it was refused and what follows that, at the end of a line; with --say

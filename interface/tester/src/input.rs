@@ -1,23 +1,27 @@
 //! What the words give: a record by notation or hexadecimal, or a log by file or hexadecimal.
 
 use std::fs;
-use std::io::{self, Read};
+use std::io::{self, ErrorKind, Read};
 use std::path::Path;
 
-use other_scorer::codec::pack;
+use other_scorer::codec::{pack, unpack};
 use other_scorer::notation::hex::{from_hex, is_hex};
-use other_scorer::notation::{doubtful, parse, tiles};
+use other_scorer::notation::{doubtful, parse, seat, tiles};
 
 use crate::both::Core;
 use crate::form::{self, Form};
-use crate::names::wind;
+use crate::meant::is_quoted;
 use crate::text;
 use crate::words::{Bad, Words};
 
-/// A number, or the wind with that number by its letter, 0 for East.
+/// A number as it is written: no sign and no zero before it.
+pub fn number(value: &str) -> Option<u8> {
+    value.parse().ok().filter(|number: &u8| number.to_string() == value)
+}
+
+/// A number, or the wind with that number, 0 for East.
 fn number_or_wind(value: &str) -> Option<u8> {
-    let letter = (0..4).find(|&number| wind(number).eq_ignore_ascii_case(value));
-    letter.or_else(|| value.parse().ok())
+    seat(value).ok().or_else(|| number(value))
 }
 
 /// The dealer and round wind, seat 0 and East where they are not given.
@@ -42,19 +46,15 @@ pub fn bytes(words: &Words) -> Option<Result<Vec<u8>, Bad>> {
     all.then(|| texts.iter().enumerate().map(word).collect::<Result<Vec<_>, _>>().map(|parts| parts.concat()))
 }
 
-/// Refuses a word with a space in it, as a hand in quotation marks has.
-pub fn no_spaces(words: &Words, such: &str) -> Result<(), Bad> {
-    let at = words.texts().iter().position(|word| word.contains(char::is_whitespace));
-    at.map_or(Ok(()), |at| Err(words.bad(at, format!("leave the quotation marks out, and write the words as they are, such as {such}"))))
-}
-
 /// Refuses words beside hexadecimal digits that say what those say already.
 pub fn bytes_alone(words: &Words, why: &str) -> Result<(), Bad> {
     let texts = words.texts();
     let is_bytes = |word: &&&str| is_hex(word) && tiles(word).is_err();
     let has_tiles = |word: &&str| !word.contains('=') && word.contains(|sign: char| sign.is_ascii_digit()) && !is_hex(word);
     match (texts.first().filter(is_bytes), texts.iter().position(|word| !is_hex(word))) {
-        (Some(_), Some(at)) if !texts.iter().any(has_tiles) => Err(words.bad(at, why)),
+        (Some(_), Some(_)) if texts.iter().any(has_tiles) => Ok(()),
+        (Some(first), Some(1)) if is_number(first) => Err(words.bad(0, NO_SUIT)),
+        (Some(_), Some(at)) => Err(words.bad(at, why)),
         _ => Ok(()),
     }
 }
@@ -67,15 +67,35 @@ pub fn notes(words: &Words) -> Vec<String> {
         let number = stretch.chars().count() - 1;
         format!("{stretch} is read as {number} tiles, all {letter}; if {first} is of another suit, its letter is missing after {first}")
     };
-    words.texts().iter().filter_map(tiles_of).filter_map(|tiles| doubtful(&tiles)).map(said).collect()
+    let digits = has_no_suit(words).then(|| NO_SUIT.to_string());
+    words.texts().iter().filter_map(tiles_of).filter_map(|tiles| doubtful(&tiles)).map(said).chain(digits).collect()
+}
+
+/// What is said where tiles may be meant, and nothing but digits is there.
+const NO_SUIT: &str = "digits alone are bytes, two digits for each; tiles have a suit m, p, s or z behind their digits";
+
+/// Whether a word is made of digits 0 to 9.
+fn is_number(word: &str) -> bool {
+    !word.is_empty() && word.bytes().all(|sign| sign.is_ascii_digit())
+}
+
+/// Whether all words are made of digits 0 to 9, and are no record.
+fn has_no_suit(words: &Words) -> bool {
+    let texts = words.texts().concat();
+    is_number(&texts) && from_hex(&texts).is_ok_and(|bytes| unpack(&bytes).is_err())
+}
+
+/// The bytes of a hand, where words are all hexadecimal digits.
+pub fn hand_bytes(words: &Words) -> Option<Result<Vec<u8>, Bad>> {
+    let is_number = is_number(&words.texts().concat());
+    bytes(words).map(|bytes| bytes.map_err(|bad| if is_number { words.bad(0, NO_SUIT) } else { bad }))
 }
 
 /// The record of notation or of hexadecimal digits.
 pub fn record(core: &mut Core, words: &Words) -> Result<Vec<u8>, Bad> {
     words.no_options()?;
-    no_spaces(words, "234567m345p67s22s+8s seat=1 ron=3")?;
     bytes_alone(words, "the record's bytes say this already, leave the word out (dealer= and wind= may stand beside them)")?;
-    if let Some(bytes) = bytes(words) {
+    if let Some(bytes) = hand_bytes(words) {
         return bytes;
     }
     let texts = words.texts();
@@ -95,11 +115,22 @@ pub fn record(core: &mut Core, words: &Words) -> Result<Vec<u8>, Bad> {
     })
 }
 
-/// A log, whether it was given as text, and in words as what a file was read.
+/// A log, whether it was given as text, in words as what a file was read, and what of it may be meant otherwise.
 pub struct Log {
     pub bytes: Vec<u8>,
     pub from_text: bool,
     pub read: Option<String>,
+    pub notes: Vec<String>,
+}
+
+/// Why a file cannot be read or written.
+pub fn told(error: &io::Error) -> String {
+    match error.kind() {
+        ErrorKind::NotFound => "there is no such file or folder".into(),
+        ErrorKind::IsADirectory => "this is a folder and no file".into(),
+        ErrorKind::PermissionDenied => "you may not read or write this file".into(),
+        _ => error.to_string(),
+    }
 }
 
 /// The form that as= names; --bytes is as=bytes.
@@ -113,39 +144,64 @@ fn named_form(words: &mut Words) -> Result<Option<Form>, Bad> {
     }
 }
 
-/// The log of a file, of standard input (-), or of hexadecimal digits; as= says what a file holds, or its content does.
+/// The log of a file, of standard input (-), or of hexadecimal digits; as= says what a file holds, or its content does. called= is what
+/// messages call standard input.
 pub fn log(core: &mut Core, mut words: Words) -> Result<Log, Bad> {
     let named = named_form(&mut words)?;
+    let called = words.take("called", |name| Ok(name.to_string()))?;
     words.no_options()?;
     let texts = words.texts();
     let (name, content) = match texts[..] {
         [] => return Err(words.bad(0, "no log: a file, - for standard input, or hexadecimal digits")),
         ["-"] => {
             let mut content = Vec::new();
-            io::stdin().read_to_end(&mut content).map_err(|error| words.bad(0, error))?;
-            ("standard input", content)
+            io::stdin().read_to_end(&mut content).map_err(|error| words.bad(0, told(&error)))?;
+            (called.as_deref().unwrap_or("standard input"), content)
         }
-        [file, _, ..] if Path::new(file).exists() => return Err(words.bad(1, "one file is enough")),
-        [file] if Path::new(file).exists() => (file, fs::read(file).map_err(|error| words.bad(0, error))?),
-        _ => return Ok(Log { bytes: typed(&words, named)?, from_text: false, read: None }),
+        [file, option @ ("words" | "csv" | "say" | "show" | "plain"), ..] if Path::new(file).exists() => {
+            return Err(words.bad(1, format!("an option has two hyphens, --{option}")));
+        }
+        [file, word, ..] if Path::new(file).exists() => return Err(words.bad(1, beside_file(word))),
+        [file] if Path::new(file).exists() => (file, fs::read(file).map_err(|error| words.bad(0, told(&error)))?),
+        _ => {
+            let notes = looks_like_name(&texts).into_iter().collect();
+            return Ok(Log { bytes: typed(&words, named)?, from_text: false, read: None, notes });
+        }
     };
     let form = named.unwrap_or_else(|| Form::of(&content));
-    let read = format!("{name}: read as {}", form.name()).replace(char::is_control, "?");
-    let bytes = match form {
+    let read = format!("{name}: read as {}", form.name()).trim_start_matches(": ").replace(char::is_control, "?");
+    let (bytes, notes) = match form {
         Form::Text => text::log(core, name, form::utf8(name, &content)?)?,
-        Form::Hex => digits(name, form::utf8(name, &content)?)?,
-        Form::Bytes => content,
+        Form::Hex => (digits(name, form::utf8(name, &content)?)?, Vec::new()),
+        Form::Bytes => (content, Vec::new()),
     };
-    Ok(Log { bytes, from_text: form == Form::Text, read: Some(read) })
+    Ok(Log { bytes, from_text: form == Form::Text, read: Some(read), notes })
+}
+
+/// What is said to a word beside a file.
+fn beside_file(word: &str) -> String {
+    match word.split_once('=') {
+        None if word == "to" => "the file to write is missing, such as to=evening.bin".into(),
+        Some(("to", file)) => format!("to= is an option of tester log; write > {file} to keep what is printed"),
+        _ => "one file is enough".into(),
+    }
+}
+
+/// What is said first of one word of digits, which may be meant as the name of a file, such as a date.
+fn looks_like_name(texts: &[&str]) -> Option<String> {
+    let is_name = matches!(texts, [word] if word.len() > 2 && is_number(word));
+    is_name.then(|| format!("no file of the name {}: read as hex", texts[0]))
 }
 
 /// The bytes of digits among the words of a command.
 fn typed(words: &Words, named: Option<Form>) -> Result<Vec<u8>, Bad> {
-    let other = words.texts().iter().position(|word| !is_hex(word));
-    match (named, bytes(words)) {
+    let texts = words.texts();
+    let other = texts.iter().position(|word| !is_hex(word)).unwrap_or(0);
+    match (named, bytes(&words.clone().spread())) {
         (None | Some(Form::Hex), Some(bytes)) => bytes,
         (Some(form), Some(_)) => Err(words.bad(0, format!("no file of this name, and as={} is said of a file", form.name()))),
-        (_, None) => Err(words.bad(other.unwrap_or(0), "no file of this name, nor hexadecimal digits")),
+        (_, None) if is_quoted(texts[0]) => Err(words.bad(0, "no file of this name; leave the quotation marks out")),
+        (_, None) => Err(words.bad(other, "no file of this name, nor hexadecimal digits")),
     }
 }
 

@@ -1,9 +1,13 @@
 //! `judge`: another scorer's claim for a hand, as the core judges it, in words.
 
+use archive::Judged;
 use other_scorer::claim::{parse, Claim, FAULTS, FAULTY};
 use other_scorer::notation::hex::to_hex;
+use other_scorer::notation::text;
+use other_scorer::reading::Reading;
+use other_scorer::Hand;
 
-use crate::answer::{columns, Answer};
+use crate::answer::{columns, parts, Answer};
 use crate::both::Core;
 use crate::claim;
 use crate::hand::in_words;
@@ -20,6 +24,35 @@ const VERDICTS: [&str; 5] = [
     "3, its reading does not pay that gain",
     "4, another reading with a yaku pays more",
 ];
+
+/// Of a claim with the pair and the groups of a reading: what the winning tile completes in them, if the claim has another place.
+fn wrong_place(answer: &Answer, hand: &Hand, claimed: &Reading) -> Option<String> {
+    let Reading::Regular { place, .. } = claimed else { return None };
+    let own = parts(claimed);
+    let at = |listed: &Reading| match listed {
+        Reading::Regular { place, .. } if parts(listed) == own => Some(*place),
+        _ => None,
+    };
+    let right: Vec<usize> = answer.readings.iter().filter_map(|listed| at(&listed.reading)).collect();
+    let all = [vec![own.0], own.1].concat();
+    let named = |places: &[usize]| {
+        let mut names: Vec<&str> = places.iter().filter_map(|&place| all.get(place)).map(String::as_str).collect();
+        names.dedup();
+        names.join(" or ")
+    };
+    let is_wrong = !right.is_empty() && !right.contains(place);
+    is_wrong.then(|| format!("the place is wrong, {} completes {} and not {}", text(&[hand.winning]), named(&right), named(&[*place])))
+}
+
+/// The verdict or the refusal in words, with what is at fault.
+fn told(judged: &Judged, fault: Option<String>) -> String {
+    let fault: Vec<String> = fault.into_iter().collect();
+    match (judged.refusal, VERDICTS.get(judged.verdict as usize)) {
+        (0, Some(verdict)) => [vec![verdict.to_string()], fault].concat().join(": "),
+        (0, None) => "no verdict of document 02".into(),
+        (refusal, _) => sentence(refusal, &fault),
+    }
+}
 
 /// The verdict on a claim, or why it is refused.
 pub fn run(core: &mut Core, mut words: Words) -> Result<String, Bad> {
@@ -38,6 +71,11 @@ pub fn run(core: &mut Core, mut words: Words) -> Result<String, Bad> {
     let named = answer.sound().map(|hand| parse(&claim, hand.m));
     let fault = named.clone().and_then(Result::err).filter(|_| judged.refusal == FAULTY).map(|fault| FAULTS[fault]);
     let named = named.and_then(Result::ok);
+    let misplaced = match (answer.sound(), &named, judged.refusal, judged.verdict) {
+        (Some(hand), Some(claim), 0, 1) => wrong_place(&answer, hand, &claim.reading),
+        _ => None,
+    };
+    let fault = fault.map(String::from).or(misplaced);
 
     let mut page = Page::default();
     if plain {
@@ -59,13 +97,7 @@ pub fn run(core: &mut Core, mut words: Words) -> Result<String, Bad> {
         page.row("claimed", in_words(hand, reading));
         page.row("its gain", points(*gain as i64));
     }
-    page.row(
-        "judged",
-        match judged.refusal {
-            0 => VERDICTS.get(judged.verdict as usize).unwrap_or(&"no verdict of document 02").to_string(),
-            refusal => sentence(refusal, &fault.map(String::from).into_iter().collect::<Vec<_>>()),
-        },
-    );
+    page.row("judged", told(&judged, fault));
     page.line("");
     page.line(core.verdict());
     Ok(page.finish())

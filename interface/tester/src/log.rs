@@ -1,8 +1,5 @@
 //! `log`: the bytes of a text of entries, or the text of a log's bytes.
 
-use std::fs::OpenOptions;
-use std::io::{ErrorKind, Write};
-
 use other_scorer::notation::hex::to_hex;
 
 use crate::both::Core;
@@ -11,6 +8,7 @@ use crate::limit;
 use crate::names::count;
 use crate::page::{table, Page};
 use crate::refusals::{of_part, sentence};
+use crate::target::Target;
 use crate::text;
 use crate::walk::{whole, Walk};
 use crate::words::{Bad, Words};
@@ -21,7 +19,10 @@ pub fn run(core: &mut Core, mut words: Words) -> Result<String, Bad> {
     let target = target(&mut words)?;
     let log = input::log(core, words)?;
     let walk = whole(core, &log.bytes);
-    let said: Vec<String> = log.read.iter().cloned().chain(limit::said(core, &log.bytes)).collect();
+    let said: Vec<String> = log.read.iter().chain(&log.notes).cloned().chain(limit::said(core, &log.bytes)).collect();
+    if plain {
+        log.notes.iter().for_each(|note| eprintln!("tester: {note}"));
+    }
     let made = match log.from_text {
         true => log.bytes.clone(),
         false => lines(&log.bytes, &walk).into_bytes(),
@@ -38,42 +39,13 @@ pub fn run(core: &mut Core, mut words: Words) -> Result<String, Bad> {
     })
 }
 
-/// The file of to=, and whether it may be written over.
-struct Target {
-    file: String,
-    over: bool,
-}
-
-/// What to= and over= say.
+/// The file of to=.
 fn target(words: &mut Words) -> Result<Option<Target>, Bad> {
     let to = words.take("to", |file| match file {
         "" => Err("the name of a file is missing".to_string()),
         _ => Ok(file.to_string()),
     })?;
-    let over = words.take("over", |word| match (word, &to) {
-        ("yes", Some(_)) => Ok(()),
-        (_, None) => Err("to=FILE, the file to write, is missing".to_string()),
-        _ => Err("yes is needed, or leave the word out".to_string()),
-    })?;
-    Ok(to.map(|file| Target { file, over: over.is_some() }))
-}
-
-impl Target {
-    /// Writes a new file; one that exists only where over=yes was said.
-    fn write(&self, content: &[u8]) -> Result<(), Bad> {
-        let mut options = OpenOptions::new();
-        match self.over {
-            true => options.write(true).create(true).truncate(true),
-            false => options.write(true).create_new(true),
-        };
-        let written = options.open(&self.file).and_then(|mut file| file.write_all(content));
-        written.map_err(|error| match error.kind() {
-            ErrorKind::AlreadyExists => {
-                Bad::new(format!("to={}: this file exists; take another name, or write over=yes to lose what it holds", self.file))
-            }
-            _ => Bad::new(format!("{}: {error}", self.file)),
-        })
-    }
+    Target::of(words, "to=", to)
 }
 
 /// Lines that say as what a file was read, and that it is past the limit; a text has them behind a mark.

@@ -20,6 +20,7 @@ mod input;
 mod judge;
 mod limit;
 mod log;
+mod meant;
 mod names;
 mod outcome;
 mod page;
@@ -35,7 +36,9 @@ mod sheet;
 mod sides;
 mod slip;
 mod tally;
+mod target;
 mod text;
+mod unfinished;
 mod waits;
 mod walk;
 mod wav;
@@ -76,6 +79,12 @@ fn names(last: &str) -> String {
     format!("{} {last} {}", all[..all.len() - 1].join(", "), all[all.len() - 1])
 }
 
+/// Whether the words of a command name a file, whose name may have any signs.
+fn names_file(command: &str, words: &Words) -> bool {
+    let has = |word: &str| words.texts().contains(&word);
+    matches!(command, "log" | "tally" | "game") || command == "say" && has("scores") || command == "damage" && has("log")
+}
+
 /// Runs the command that the first word names.
 fn run(core: &mut Core, mut words: Words) -> Result<String, Bad> {
     let wants_help = words.take_flag("--help") | words.take_flag("-h") | words.take_flag("help");
@@ -85,9 +94,9 @@ fn run(core: &mut Core, mut words: Words) -> Result<String, Bad> {
             false => Err(Bad::new(format!("no command: {}; --help says more", names("or")))),
         };
     };
-    match COMMANDS.iter().find(|(command, ..)| *command == name) {
+    match COMMANDS.iter().find(|(command, ..)| command.eq_ignore_ascii_case(&name)) {
         Some((.., help)) if wants_help => Ok(help.to_string()),
-        Some((_, command, _)) => command(core, words),
+        Some((name, command, _)) => command(core, if names_file(name, &words) { words } else { words.spread() }),
         None => Err(Bad::new(format!("word 1, \"{name}\": no command; there are {}", names("and")))),
     }
 }

@@ -112,7 +112,8 @@ impl<'a> Outcome<'a> {
             Entry::Draw(15) => "a draw, everybody is ready".into(),
             Entry::Draw(bits) => format!("a draw, ready: {}", seats(&ready(*bits))),
             Entry::Pao { holder, feeder, yaku: n } => {
-                format!("{} is named as feeder of {}, yaku {n} {}", self.seat(*feeder), self.seat(*holder), yaku((*n).into()))
+                let name = if *n == 29 { "four wind triplets" } else { yaku((*n).into()) };
+                format!("{} is named as feeder of {}, yaku {n} {name}", self.seat(*feeder), self.seat(*holder))
             }
             booking => {
                 let won: Vec<String> = hands(booking).iter().map(|hand| self.won(hand)).collect();

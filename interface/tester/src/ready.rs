@@ -5,10 +5,9 @@ use other_scorer::notation::{text, unfinished};
 use other_scorer::unfinished::{pack, unpack, Unfinished};
 
 use crate::both::Core;
-use crate::input;
 use crate::names::count;
 use crate::page::Page;
-use crate::waits::{bytes, fields, kinds, Asked};
+use crate::unfinished::{fields, kinds, record, Asked};
 use crate::words::{Bad, Words};
 
 /// The tiles of one list that another lacks.
@@ -31,8 +30,8 @@ fn swapped(hand: &Unfinished, near: &Unfinished) -> (String, String) {
 
 /// For scripts, the tiles swapped: out, in.
 pub fn plain_swaps(core: &mut Core, page: &mut Page, mut words: Words) -> Result<(), Bad> {
-    let bytes = bytes(core, &mut words)?;
-    if let Some((hand, near)) = pair(&bytes, &core.ready(&bytes)) {
+    let asked = Asked::of(core, &mut words, None)?;
+    if let Some((hand, near)) = pair(&asked.bytes, &core.ready(&asked.bytes)) {
         let (out, new) = swapped(&hand, &near);
         page.plain("out", [out]);
         page.plain("in", [new]);
@@ -43,10 +42,11 @@ pub fn plain_swaps(core: &mut Core, page: &mut Page, mut words: Words) -> Result
 /// The swaps and a nearest ready hand, or why there is no answer.
 pub fn run(core: &mut Core, mut words: Words) -> Result<String, Bad> {
     let plain = words.take_flag("--plain");
-    let bytes = bytes(core, &mut words)?;
-    let answer = core.ready(&bytes);
-    let asked = Asked { bytes: &bytes, discards: None, refusal: answer.refusal, notes: input::notes(&words) };
-    let hands = pair(&bytes, &answer);
+    let record = record(&mut words)?;
+    let mut asked = Asked::of(core, &mut words, record)?;
+    let answer = if asked.is_refused() { Ready { refusal: asked.refusal, ..Ready::default() } } else { core.ready(&asked.bytes) };
+    asked.refusal = answer.refusal;
+    let hands = pair(&asked.bytes, &answer);
     let near = hands.map(|(_, near)| near);
     let waits = near.map_or(Vec::new(), |near| core.waits(&pack(&near), &[]).waits.list());
 

@@ -13,6 +13,7 @@ const LETTERS: [char; 3] = ['m', 'p', 's'];
 
 /// The suits that m, p and s become, by three letters.
 fn suits(value: &str) -> Result<Suits, String> {
+    let value = value.replace(',', "");
     let suit = |letter: char| LETTERS.iter().position(|&one| one == letter.to_ascii_lowercase());
     let list: Vec<usize> = value.chars().filter_map(suit).collect();
     let each_once = (0..3).all(|suit| list.contains(&suit));
@@ -27,8 +28,8 @@ pub fn run(core: &mut Core, mut words: Words) -> Result<String, Bad> {
     let plain = words.take_flag("--plain");
     let suits = words.take("suits", suits)?;
     let missing = words.bad(words.texts().len(), "what the suits become is missing, such as suits=psm");
-    let first = Answer::of(core, words)?;
     let suits = suits.ok_or(missing)?;
+    let first = Answer::of(core, words)?;
     let Some(hand) = first.sound() else {
         return Ok(alone(core, &first, plain, "a hand that is refused so is not renamed"));
     };

@@ -12,10 +12,10 @@ use crate::words::{Bad, Words};
 /// Winner, discarder and dealer moved on, both scores, and whether the changes alone have moved on (02, S-12).
 pub fn run(core: &mut Core, mut words: Words) -> Result<String, Bad> {
     let plain = words.take_flag("--plain");
-    let by: Option<u8> = words.take_number("by", "of seats, such as 1,")?;
+    let by: Option<u8> = words.take_number("by", "of seats, such as 1,", u8::MAX)?;
     let missing = words.bad(words.texts().len(), "the number of seats is missing, such as by=1");
-    let first = Answer::of(core, words)?;
     let by = by.ok_or(missing)?;
+    let first = Answer::of(core, words)?;
     let Some(hand) = first.sound() else {
         return Ok(alone(core, &first, plain, "a hand that is refused so is not rotated"));
     };

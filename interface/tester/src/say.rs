@@ -11,7 +11,9 @@ use crate::names::count;
 use crate::page::{table, Page};
 use crate::refusals::{refusal, sentence};
 use crate::sheet::{self, parts};
-use crate::waits::{bytes, discards, Asked};
+use crate::tally::stopped;
+use crate::target::Target;
+use crate::unfinished::{discards, record, Asked};
 use crate::walk::whole;
 use crate::wav;
 use crate::words::{Bad, Words};
@@ -24,13 +26,14 @@ struct Wish {
     plain: bool,
     language: u8,
     buffer: usize,
-    wav: Option<String>,
+    wav: Option<Target>,
 }
 
 /// A language, a buffer's length and a file from the words of a command.
 fn wish(words: &mut Words) -> Result<Wish, Bad> {
     let plain = words.take_flag("--plain");
     let wav = words.take_after("--wav", "the name of a file is missing")?;
+    let wav = Target::of(words, "--wav ", wav)?;
     let buffer = words.take("buffer", |value| match value.parse() {
         Ok(length) if length <= LONGEST => Ok(length),
         _ => Err(format!("a number 0 to {LONGEST} is needed")),
@@ -51,12 +54,13 @@ pub fn run(core: &mut Core, mut words: Words) -> Result<String, Bad> {
     let (said, clips) = match kind.as_deref() {
         Some("waits") => of_waits(core, &mut page, &wish, words)?,
         Some("ready") => of_ready(core, &mut page, &wish, words)?,
-        Some("scores") => of_scores(core, &wish, words)?,
+        Some("scores") => of_scores(core, &mut page, &wish, words)?,
         Some(_) => of_refusal(core, &mut page, &wish, words)?,
         None => of_hand(core, &mut page, &wish, words)?,
     };
-    if let (Some(file), 0) = (&wish.wav, said.refusal) {
-        wav::write(file, wish.language, &clips)?;
+    if let (Some(target), 0) = (&wish.wav, said.refusal) {
+        target.check()?;
+        wav::write(&target.file, wish.language, &clips)?;
     }
     if wish.plain {
         plain(&mut page, wish.language, said, &clips);
@@ -87,35 +91,47 @@ fn of_hand(core: &mut Core, page: &mut Page, wish: &Wish, mut words: Words) -> R
 
 /// The message of what an unfinished hand waits for.
 fn of_waits(core: &mut Core, page: &mut Page, wish: &Wish, mut words: Words) -> Result<(Said, Vec<u8>), Bad> {
+    let goes_on = words.goes_on("discards");
     let discards = discards(&mut words)?;
-    let bytes = bytes(core, &mut words)?;
-    let refusal = core.waits(&bytes, &discards).refusal;
-    let asked = Asked { bytes: &bytes, discards: Some(&discards), refusal, notes: input::notes(&words) };
-    if wish.plain {
-        asked.plain_head(page)
-    } else {
-        asked.head(page)
+    let record = record(&mut words)?;
+    let mut asked = Asked::of(core, &mut words, record).map_err(|bad| bad.and(goes_on))?;
+    if !asked.is_refused() {
+        asked.refusal = core.waits(&asked.bytes, &discards).refusal;
     }
-    Ok(core.say_waits(wish.language, &bytes, &discards, wish.buffer))
+    asked.discards = Some(discards.clone());
+    of_asked(page, wish, &asked, || core.say_waits(wish.language, &asked.bytes, &discards, wish.buffer))
 }
 
 /// The message of how far an unfinished hand is from ready.
 fn of_ready(core: &mut Core, page: &mut Page, wish: &Wish, mut words: Words) -> Result<(Said, Vec<u8>), Bad> {
-    let bytes = bytes(core, &mut words)?;
-    let refusal = core.ready(&bytes).refusal;
-    let asked = Asked { bytes: &bytes, discards: None, refusal, notes: input::notes(&words) };
+    let record = record(&mut words)?;
+    let mut asked = Asked::of(core, &mut words, record)?;
+    if !asked.is_refused() {
+        asked.refusal = core.ready(&asked.bytes).refusal;
+    }
+    of_asked(page, wish, &asked, || core.say_ready(wish.language, &asked.bytes, wish.buffer))
+}
+
+/// The unfinished hand, and the message of it; of a record that is refused there is none.
+fn of_asked(page: &mut Page, wish: &Wish, asked: &Asked, say: impl FnOnce() -> (Said, Vec<u8>)) -> Result<(Said, Vec<u8>), Bad> {
     if wish.plain {
         asked.plain_head(page)
     } else {
         asked.head(page)
     }
-    Ok(core.say_ready(wish.language, &bytes, wish.buffer))
+    Ok(if asked.is_refused() { (Said { refusal: asked.refusal.into(), len: 0 }, Vec::new()) } else { say() })
 }
 
-/// The message of the scores after a log's last entry.
-fn of_scores(core: &mut Core, wish: &Wish, words: Words) -> Result<(Said, Vec<u8>), Bad> {
-    let log = input::log(core, words)?;
-    let walk = whole(core, limit::read(&log.bytes));
+/// The message of the scores after a log's last entry, and what is said of the log; for scripts on standard error.
+fn of_scores(core: &mut Core, page: &mut Page, wish: &Wish, words: Words) -> Result<(Said, Vec<u8>), Bad> {
+    let given = input::log(core, words)?;
+    let log = limit::read(&given.bytes);
+    let walk = whole(core, log);
+    let said: Vec<String> = given.notes.into_iter().chain(stopped(log, &walk)).chain(limit::said(core, &given.bytes)).collect();
+    match wish.plain {
+        true => said.iter().for_each(|said| eprintln!("tester: {said}")),
+        false => given.read.iter().chain(&said).for_each(|said| page.line(said)),
+    }
     Ok(core.say_scores(wish.language, &position(&walk), wish.buffer))
 }
 
@@ -151,7 +167,7 @@ fn rows(page: &mut Page, wish: &Wish, said: Said, clips: &[u8]) {
                 refusal => sentence(refusal as u8, &[]),
             },
         );
-        wish.wav.iter().for_each(|file| page.line(format!("\nnothing is said, and {file} is not written")));
+        wish.wav.iter().for_each(|target| page.line(format!("\nnothing is said, and {} is not written", target.file)));
         return;
     }
     page.row("message", count(clips.len(), "clip"));
@@ -161,7 +177,7 @@ fn rows(page: &mut Page, wish: &Wish, said: Said, clips: &[u8]) {
         vec![numbers(part), format!("{}{reading}", sheet::words(wish.language, part))]
     });
     table(&each.collect::<Vec<_>>(), &[]).iter().for_each(|line| page.line(line));
-    wish.wav.iter().for_each(|file| page.line(format!("\nwritten into {file}")));
+    wish.wav.iter().for_each(|target| page.line(format!("\nwritten into {}", target.file)));
 }
 
 /// Clips as numbers.

@@ -31,7 +31,8 @@ fn word(clip: u8, column: usize) -> &'static str {
 
 /// A language's number, by its letters or as it is.
 pub fn language(value: &str) -> Result<u8, String> {
-    let by_letters = (1..).zip(LANGUAGES).find(|(_, (letters, _))| *letters == value).map(|(number, _)| number);
+    let is_named = |(letters, name): (&str, &str)| letters.eq_ignore_ascii_case(value) || name.eq_ignore_ascii_case(value);
+    let by_letters = (1..).zip(LANGUAGES).find(|(_, language)| is_named(*language)).map(|(number, _)| number);
     by_letters.or_else(|| value.parse().ok()).ok_or("ja, en, ko, zh or 1 to 4 is needed (a number up to 255 to see it refused)".into())
 }
 

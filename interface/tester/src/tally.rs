@@ -31,17 +31,16 @@ pub fn run(core: &mut Core, mut words: Words) -> Result<String, Bad> {
     let (log, cut) = (limit::read(&given.bytes), limit::said(core, &given.bytes));
     let walk = whole(core, log);
     let (lines, said) = (core.lines(log), said(core, &walk, language));
-    let stopped = walk.stopped.map(|at| format!("stopped at byte {at}, {:02x}: {}", log[at], sentence(14, &of_part(&log[at..]))));
+    let stopped = stopped(log, &walk);
+    if plain || sheet {
+        given.notes.iter().chain(&cut).for_each(|said| eprintln!("tester: {said}"));
+    }
     if sheet {
-        cut.iter().for_each(|cut| eprintln!("tester: {cut}"));
         let deals: Vec<String> = walk.steps.iter().map(|step| deal(&made_in(step))).collect();
-        return Ok(csv::sheet(&outcomes(core, &walk), &deals, &remarks(&walk), stopped));
+        return Ok(csv::sheet(&outcomes(core, &walk), &deals, remarks(&walk), stopped));
     }
     let remarks = if why { remarks(&walk) } else { vec![None; walk.steps.len()] };
     let mut page = Page::default();
-    if plain {
-        cut.iter().for_each(|cut| eprintln!("tester: {cut}"));
-    }
     if plain && !why && language.is_none() {
         return Ok(lines);
     }
@@ -52,7 +51,7 @@ pub fn run(core: &mut Core, mut words: Words) -> Result<String, Bad> {
         }
         return Ok(page.finish());
     }
-    given.read.iter().for_each(|read| page.line(read));
+    given.read.iter().chain(&given.notes).for_each(|said| page.line(said));
     let outcomes = if why { outcomes(core, &walk) } else { Vec::new() };
     let mut rows = listing(&walk, &outcomes).into_iter();
     rows.by_ref().take(1).for_each(|heads| page.line(heads));
@@ -74,6 +73,11 @@ pub fn run(core: &mut Core, mut words: Words) -> Result<String, Bad> {
     }
     page.line(core.verdict());
     Ok(page.finish())
+}
+
+/// Where a walk over a log was stopped by 14, in words.
+pub fn stopped(log: &[u8], walk: &Walk) -> Option<String> {
+    walk.stopped.map(|at| format!("stopped at byte {at}, {:02x}: {}", log[at], sentence(14, &of_part(&log[at..]))))
 }
 
 /// What each entry came to.

@@ -67,6 +67,23 @@ fn a_hand_in_other_signs() {
 }
 
 #[test]
+fn a_named_indicator_is_seen() {
+    let left = |words: &str| {
+        answer(&format!("waits 567m22456p67s chi=234m {words} --plain"))
+            .lines()
+            .filter_map(|line| line.strip_prefix("wait ").and_then(|wait| wait.split("; ").nth(1)).map(String::from))
+            .collect::<Vec<String>>()
+            .join(" ")
+    };
+    assert_eq!(left("seat=1"), "4 4");
+    assert_eq!(left("seat=1 indicator=5s"), "3 4");
+    assert_eq!(left("seat=1 indicator=5s discards=5s8s5s5s"), "0 3");
+    assert!(answer("waits record=b81964808828c51461a72ec0 --plain").contains("\nwait 8s; 3; "));
+    let north = |words: &str| answer(&format!("draft 123456789m11pNN seat=1 {words}")).lines().any(|line| line.starts_with("wait N; 2"));
+    assert!(north("") && !north("indicator=N"));
+}
+
+#[test]
 fn a_suit_letter_that_may_be_missing() {
     let note = "\nnote       234567345p is read as 9 tiles, all p; if 234567 is of another suit, its letter is missing after 234567\n";
     let hand = "234567345p67s22s+8s seat=1 ron=3";
@@ -76,7 +93,23 @@ fn a_suit_letter_that_may_be_missing() {
     for line in ["waits 234567345p67s22s".to_string(), "ready 234567345p67s22s".into(), "say ready 234567345p67s22s language=en".into()] {
         assert!(answer(&line).contains(note), "{line}");
     }
-    for line in ["hand 234567m345p67s22s+8s seat=1 ron=3", "hand 765432m345p67s22s+8s seat=1 ron=3", "waits 1112345678999m"] {
+    let plain = &note["\nnote       ".len()..];
+    for (line, start) in [(format!("damage hand {hand} random=2"), ""), (format!("draft {hand}"), "note ")] {
+        assert!(answer(&line).lines().any(|said| format!("{said}\n") == format!("{start}{plain}")), "{line}");
+    }
+    let text = format!("riichi 0\nwin {hand}\nmulti {hand} / {hand}\ncorrect win {hand}\n");
+    let placed = |start: &str| [2, 3, 3, 4].map(|line| format!("{start}standard input, line {line}: {plain}")).concat();
+    for line in ["tally -", "tally - --words", "log -", "damage log - random=2", "say scores - language=en"] {
+        let ran = run_in(Path::new("."), line, text.as_bytes());
+        assert!(ran.out.contains(&placed("")) && ran.err.is_empty(), "{line}: {ran:?}");
+    }
+    for line in ["tally - --csv", "tally - --plain", "log - --plain", "damage log - random=2 --plain", "say scores - language=en --plain"] {
+        let ran = run_in(Path::new("."), line, text.as_bytes());
+        assert!(ran.err == placed("tester: ") && !ran.out.contains("is read as"), "{line}: {ran:?}");
+    }
+    assert!(run_in(Path::new("."), "game -", text.as_bytes()).out.contains(&placed("note ")));
+    assert!(answer("hand 112233m7788995s+5s seat=1 ron=3").contains("\nnote       7788995s is read as 7 tiles, all s; if 778899 is "));
+    for line in ["hand 234567m345p67s22s+8s seat=1 ron=3", "waits 1112345678999m"] {
         assert!(!answer(line).contains("note "), "{line}");
     }
 }
@@ -112,7 +145,7 @@ SEAT 3             -2000
 
 #[test]
 fn waits_of_unfinished_hands() {
-    for typed in ["67s567m22456p chi=234m", "20220a31451869cbb0", "20 22 0a31451869cbb0", "record=b81e64808828c51461a72ec0"] {
+    for typed in ["67s567m22456p chi=234m", "20220a31451869cbb0", "20 22 0a31451869cbb0"] {
         let out = answer(&format!("waits {typed} discards=N8s4m8s"));
         let wanted = "\
 hand       567m22456p67s chi=234m
@@ -146,7 +179,8 @@ both scorers agree
         let rest: String = out.lines().filter(of_waits).map(|line| format!("{line}\n")).collect();
         assert!(rest.ends_with(&format!("{lines}differences 0\n")), "{out}");
     }
-    assert_eq!(answer("ready record=b81e640210620a31661a9a6bb0"), answer("ready 234567m345p67s22s"));
+    let of_record = answer("ready record=b81e640210620a31661a9a6bb0");
+    assert_eq!(of_record.replace("record     b81e640210620a31661a9a6bb0, 13 bytes\n", ""), answer("ready 234567m345p67s22s"));
     // What Score gives the finished records of document 01's table.
     let out = answer("waits 234567m345p67s22s seat=1 --plain");
     assert!(
@@ -204,11 +238,81 @@ fn cards() {
 }
 
 #[test]
+fn waits_of_a_record() {
+    let record = "b81e64808828c51461a72ec0";
+    let wanted = "\
+hand       567m22456p67s chi=234m
+discards   N8s4m8s
+record     b81e64808828c51461a72ec0, 12 bytes
+bytes      20220a31451869cbb0, 9 bytes
+answer     accepted
+waits      58s
+furiten    yes, by 8s
+player     seat=1 indicator=N dealer=0 wind=E
+
+wait  left  by ron             by tsumo
+5s       4  h 1, fu 30, 1,000  h 1, fu 30, 1,100
+8s       2  h 1, fu 30, 1,000  h 1, fu 30, 1,100
+
+both scorers agree
+";
+    for typed in [record.to_string(), "b8 1e 64 80 88 28 c5 14 61 a7 2e c0".into(), record.to_uppercase()] {
+        assert_eq!(answer(&format!("waits record={typed} discards=N8s4m8s")), wanted, "{typed}");
+    }
+    // The record's winner, riichi, indicator and last tile are the player's; seat= says another.
+    let plain = |line: &str| answer(&format!("{line} --plain"));
+    let tiles = "234567m345p67s22s";
+    let own = answer(&format!("hand {tiles}+8s seat=2 tsumo double last indicator=4p --plain"));
+    let digits = own.lines().find_map(|line| line.strip_prefix("record ")).expect("a record");
+    for (more, player) in
+        [("dealer=2 wind=S", "seat=2 double last indicator=4p dealer=2 wind=S"), ("seat=1 riichi dealer=3", "seat=1 riichi dealer=3")]
+    {
+        assert_eq!(plain(&format!("waits record={digits} {more}")), plain(&format!("waits {tiles} {player}")), "{more}");
+    }
+    let (tiles, melds) = ("567m22p67s", "chi=234m kan=9999p");
+    let rinshan = answer(&format!("hand {tiles}+8s {melds} seat=2 tsumo rinshan --plain"));
+    let digits = rinshan.lines().find_map(|line| line.strip_prefix("record ")).expect("a record");
+    assert_eq!(plain(&format!("waits record={digits}")), plain(&format!("waits {tiles} {melds} seat=2")));
+    assert!(
+        answer(&format!("waits {record}")).contains(&format!("\nnote       these bytes have a record's length: write record={record}\n"))
+    );
+}
+
+#[test]
+fn a_refused_record_is_an_answer() {
+    for (record, refusal, why) in [
+        ("b8", 1, "under 4 bytes"),
+        ("b81e64808828c51461a72ec1", 2, "a padding bit set"),
+        ("ba1e64808828c51461a72ec0", 5, "riichi without a closed hand"),
+    ] {
+        let head = format!("refusal {refusal}\nwhy {why}\n");
+        for (line, rest) in [
+            ("waits", "waits\nfuriten 0\ndifferences 0\n".to_string()),
+            ("ready", "swaps 0\nready\nwaits\ndifferences 0\n".into()),
+            ("say waits language=2", format!("language 2\nsaid {refusal} 0\nclips\ndifferences 0\n")),
+            ("say ready language=2", format!("language 2\nsaid {refusal} 0\nclips\ndifferences 0\n")),
+        ] {
+            let out = answer(&format!("{line} record={record} --plain"));
+            assert!(out.starts_with("notation\nbytes\n") && out.ends_with(&format!("{head}{rest}")), "{line}: {out}");
+            let out = answer(&format!("{line} record={record}"));
+            assert!(out.contains(&format!("\nanswer     refusal {refusal}, ")) && out.contains(why), "{out}");
+            assert!(out.contains(&format!("record     {record}, ")) && out.ends_with("both scorers agree\n"), "{out}");
+        }
+    }
+}
+
+#[test]
 fn claims() {
     let (five, seven) = ("112233m778899p5s+5s seat=1 ron=3", "456p78s234s99p+9s chi=123m seat=1 ron=3");
     for (hand, claim, judged, words) in [
         (five, "16000078f01450", "0 0", "accepted"),
-        (five, "16000078f21450", "0 1", "1, its reading is not one of those tiles"),
+        (five, "16000078f21450", "0 1", "1, its reading is not one of those tiles: the place is wrong, 5s completes 55s and not 123m"),
+        (
+            five,
+            "16 00 00 78 f2 14 50",
+            "0 1",
+            "1, its reading is not one of those tiles: the place is wrong, 5s completes 55s and not 123m",
+        ),
         (seven, "11184cc301f400", "0 2", "2, its reading has no yaku"),
         (five, "40d480", "0 3", "3, its reading does not pay that gain"),
         (five, "40c800", "0 4", "4, another reading with a yaku pays more"),
@@ -219,12 +323,14 @@ fn claims() {
         let out = answer(&format!("judge {hand} claim={claim}"));
         assert!(out.contains(&format!("\njudged     {words}\n")) && out.ends_with("both scorers agree\n"), "{out}");
         let out = answer(&format!("judge {hand} claim={claim} --plain"));
-        assert!(out.contains(&format!("\nclaim {claim}").trim_end().to_string()), "{out}");
+        assert!(out.contains(&format!("\nclaim {}", claim.replace(' ', "")).trim_end().to_string()), "{out}");
         assert!(out.contains(&format!("\njudged {judged}\n")) && out.ends_with("differences 0\n"), "{out}");
     }
     for (hand, words, claim) in [
         (five, "regular pair=55s groups=123m,123m,789p,789p place=pair gain=5200", "16000078f01450"),
         (five, "REGULAR pair=55s groups=789p,321m,789p,123m, place=0 gain=5,200", "16000078f01450"),
+        (five, "regular pair=55s groups=123m, 123m, 789p, 789p place=55s gain=5200", "16000078f01450"),
+        (five, "regular pair=55s groups=123m123m789p789p place=Pair gain=5200", "16000078f01450"),
         (five, "pairs gain=1600", "40c800"),
         (seven, "Orphans gain=32000", "8fa000"),
         (seven, "regular pair=99p groups=456p,234s,789s place=789s gain=1000", "11184cc301f400"),
@@ -234,6 +340,10 @@ fn claims() {
         assert_eq!(in_words, answer(&format!("judge {hand} claim={claim}")), "{words}");
         assert!(in_words.contains(&format!("\nclaim      {claim}, ")), "{in_words}");
     }
+    // A place that no reading of the pair and groups has is told as that, with those that have the winning tile.
+    let nine = "1112333444555m+2m seat=1 ron=3";
+    let out = answer(&format!("judge {nine} claim=regular pair=55m groups=234m,234m,345m,111m place=111m gain=12000 --plain"));
+    assert!(out.contains("\njudged 0 1\nfault the place is wrong, 2m completes 234m and not 111m\n"), "{out}");
     // So many equal tiles in groups are no fault of the claim.
     let out = answer(&format!("judge {five} claim=regular pair=55s groups=555s,555s,555s,EEE place=EEE gain=0"));
     assert!(out.contains("\njudged     1, its reading is not one of those tiles\n"), "{out}");
@@ -516,11 +626,23 @@ fn entries_in_words() {
         "\n      dealer seat 1, wind E, 0 counters, 0 sticks: seat 9 declares riichi\n      refusal 8, ",
         "\n      dealer seat 1, wind E, 0 counters, 0 sticks: a draw, nobody is ready\n",
         "seat 0 (N) wins by ron from seat 1 (E), seat 2 (S) wins by ron from seat 1 (E)\n      refusal ",
-        "0 sticks: seat 0 (W) is named as feeder of seat 1 (N), yaku 29 three wind triplets and pair, or four\n",
+        "0 sticks: seat 0 (W) is named as feeder of seat 1 (N), yaku 29 four wind triplets\n",
         "\nstandings: 1 seat 3 with 35,500; 2 seat 1, seat 2 with 28,600; 4 seat 0 with 27,300; 0 sticks on the table\nboth scorers agree\n",
     ] {
         assert!(ran.out.contains(row), "{row} in\n{}", ran.out);
     }
+}
+
+#[test]
+fn a_sheet_marks_what_is_superseded() {
+    let sheet = answer("tally 01 24 60 10 ba1e640210620a31661a9a6bb0 04 60 33 60 2f 02 60 2f --csv");
+    let remarks: Vec<String> = sheet.lines().skip(1).map(|row| row.split(',').skip(27).collect::<Vec<_>>().join(",")).collect();
+    let (remarks, counts): (Vec<&str>, Vec<&str>) = remarks.iter().map(|row| row.rsplit_once(',').expect("two cells")).unzip();
+    assert_eq!(counts, ["1", "0", "0", "0", "0", "1", "1", "0"], "{sheet}");
+    let refused = "\"refusal 20, there is no result to supersede: a riichi has been accepted since\"";
+    let wanted = ["", "superseded by entry 3", "supersedes entry 2; superseded by entry 5"];
+    assert_eq!(remarks[..3], wanted, "{sheet}");
+    assert_eq!(remarks[4..], ["supersedes entry 3; superseded by entry 6", "supersedes entry 5", "", refused][..], "{sheet}");
 }
 
 #[test]
@@ -530,19 +652,19 @@ fn an_evening_as_a_sheet() {
     let rows: Vec<&str> = sheet.lines().collect();
     let wanted = [
         "entry,deal,wind,dealer,kind,seats,how,from,refusal,change 0,change 1,change 2,change 3,score 0,score 1,score 2,score 3,sticks before,counter before,\
-            sticks,counter,yaku,h,fu,gain,hands,text,remark",
-        "1,E1,E,0,draw,0 1 2 3,,,0,0,0,0,0,30000,30000,30000,30000,0,0,0,1,,,,,1,draw 0 1 2 3,",
+            sticks,counter,yaku,h,fu,gain,hands,text,remark,counts",
+        "1,E1,E,0,draw,0 1 2 3,,,0,0,0,0,0,30000,30000,30000,30000,0,0,0,1,,,,,1,draw 0 1 2 3,,1",
         "2,E1,E,0,multi,1 and 2,ron,3,0,0,2300,2000,-4300,30000,32300,32000,25700,0,1,0,0,2 4 and 2 4,2 and 2,30 and 30,2000 and 2000,2,\
-            multi 234567m345p2267s+8s seat=1 ron=3 indicator=N / 234567m345p2267s+8s seat=2 ron=3 indicator=N,sticks and counters are seat 1's",
-        "3,E2,E,1,riichi,4,,,8,0,0,0,0,30000,32300,32000,25700,0,0,0,0,,,,,2,riichi 4,\"refusal 8, an argument is out of range: seat 4 over 3\"",
-        "4,E2,E,1,pao,1,,3,0,0,0,0,0,30000,32300,32000,25700,0,0,0,0,,,,,2,pao holder=1 feeder=3 yaku=28,",
+            multi 234567m345p2267s+8s seat=1 ron=3 indicator=N / 234567m345p2267s+8s seat=2 ron=3 indicator=N,sticks and counters are seat 1's,1",
+        "3,E2,E,1,riichi,4,,,8,0,0,0,0,30000,32300,32000,25700,0,0,0,0,,,,,2,riichi 4,\"refusal 8, an argument is out of range: seat 4 over 3\",0",
+        "4,E2,E,1,pao,1,,3,0,0,0,0,0,30000,32300,32000,25700,0,0,0,0,,,,,2,pao holder=1 feeder=3 yaku=28,,1",
     ];
     assert_eq!(rows[..5], wanted);
     assert!(
         rows[5].starts_with("5,E2,E,1,win,1,ron,2,0,0,48000,-24000,-24000,30000,80300,8000,1700,0,0,0,1,28,0,0,48000,3,win 234m"),
         "{sheet}"
     );
-    assert!(rows[6].starts_with(",,,,stopped,,,,14,") && rows.len() == 7, "{sheet}");
+    assert!(rows[6].starts_with(",,,,stopped,,,,14,") && rows[6].ends_with(",0") && rows.len() == 7, "{sheet}");
     for row in &rows {
         let quoted = row.split('"').step_by(2).map(|part| part.matches(',').count());
         assert_eq!(quoted.sum::<usize>(), rows[0].matches(',').count(), "{row}");

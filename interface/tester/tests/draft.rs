@@ -103,8 +103,8 @@ fn a_record_by_its_bytes() {
 fn what_is_bad_in_a_draft() {
     for (words, err) in [
         ("1q", "word 2, \"1q\": sign 2 of \"1q\", q: a digit 1 to 9, a suit m p s z or an honour E S W N P F C is needed"),
-        ("1m+2m 3m+4m", "word 3, \"3m+4m\": a second +"),
-        ("chi=8s", "word 2, \"chi=8s\": three neighbours of one suit, such as 234m, are needed"),
+        ("1m+2m 3m+4m", "word 3, \"3m+4m\": a second +; between two hands of a multiple ron stands /"),
+        ("chi=8s", "word 2, \"chi=8s\": three neighbours of one suit, such as 234m, are needed; behind = tiles have commas or nothing between them"),
         ("pon=1m pon=2m pon=3m pon=4m pon=5m", "word 6, \"pon=5m\": a fifth meld, at most 4 fit"),
         ("tsumo ron=3", "tsumo and ron=: one of them is enough"),
         ("riichi double", "riichi and double: one of them is enough"),

@@ -3,6 +3,7 @@
 mod run;
 
 use std::fs;
+use std::path::Path;
 use std::process::{Command, Stdio};
 
 use run::{answer, folder, root, run_alone, run_in};
@@ -118,6 +119,33 @@ fn without_espeak_it_says_so_in_a_line() {
 }
 
 #[test]
+fn a_file_that_exists_is_left_as_it_is() {
+    let file = folder("wav").join("keep.txt");
+    fs::write(&file, "keep").expect("a file");
+    let line = format!("say refusal 7 language=en --wav {}", file.display());
+    let exists =
+        format!("tester: --wav {}: this file exists; take another name, or write over=yes to lose what it holds\n", file.display());
+    let ran = run_alone(&line);
+    assert_eq!((ran.status, ran.out.as_str(), ran.err), (2, "", exists));
+    assert_eq!(fs::read(&file).expect("the file"), b"keep");
+    assert!(run_alone(&format!("{line} over=yes")).err.starts_with("tester: --wav needs the program espeak-ng"));
+    let none = run_alone("say refusal 7 language=en over=yes");
+    assert_eq!((none.status, none.err.as_str()), (2, "tester: word 5, \"over=yes\": --wav FILE, the file to write, is missing\n"));
+}
+
+#[test]
+fn the_scores_of_a_log_have_what_is_said_of_it() {
+    let stopped = "stopped at byte 2, 99: refusal 14, the log's entry is bad or cut: kind over 6\n";
+    assert!(answer("say scores 01 24 99 language=en").starts_with(stopped));
+    let plain = run_in(Path::new("."), "say scores 01 24 99 language=en --plain", &[]);
+    assert_eq!((plain.status, plain.err), (0, format!("tester: {stopped}")));
+    let long = run_in(Path::new("."), "say scores - as=bytes language=en", &[0x24; 65_537]).out;
+    let cut =
+        "standard input: read as bytes\nthe log has 65,537 bytes, and a game is read from the first 65,536: the cut is after entry 65536\n";
+    assert!(long.starts_with(cut), "{long}");
+}
+
+#[test]
 fn with_espeak_a_file_is_written() {
     let version = Command::new("espeak-ng").arg("--version").stdout(Stdio::null()).status();
     if !version.is_ok_and(|status| status.success()) {
@@ -125,11 +153,11 @@ fn with_espeak_a_file_is_written() {
     }
     let folder = folder("wav");
     for language in LANGUAGES {
-        let ran = run_in(&folder, &format!("say {HAND} language={language} --wav {language}.wav"), &[]);
+        let ran = run_in(&folder, &format!("say {HAND} language={language} --wav {language}.wav over=yes"), &[]);
         assert!(ran.status == 0 && ran.out.contains(&format!("\nwritten into {language}.wav\n")), "{ran:?}");
         let bytes = fs::read(folder.join(format!("{language}.wav"))).expect("the file");
         assert!(bytes.starts_with(b"RIFF") && bytes.len() > 50_000, "{language}: {} bytes", bytes.len());
     }
     let ran = run_in(&folder, &format!("say {HAND} language=en --wav none/a.wav"), &[]);
-    assert_eq!((ran.status, ran.err.as_str()), (2, "tester: none/a.wav: espeak-ng could not write it\n"));
+    assert_eq!((ran.status, ran.err.as_str()), (2, "tester: --wav none/a.wav: there is no folder none; make it first\n"));
 }

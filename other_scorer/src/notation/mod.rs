@@ -4,11 +4,13 @@ pub mod hex;
 pub mod parse;
 pub mod print;
 pub mod tiles;
+pub mod typed;
 pub mod unfinished;
 
-pub use parse::{meld, meld_kind, parse, seat, Fault};
+pub use parse::{meld, meld_kind, parse, seat, Fault, WORDS};
 pub use print::{meld as meld_word, print};
 pub use tiles::{doubtful, text, tiles};
+pub use typed::{no_tiles, one, Typed};
 
 use crate::record::{Hand, Meld};
 

@@ -1,11 +1,18 @@
 //! From notation to a hand.
 
 use super::tiles::{plain, tiles};
+use super::typed::{no_tiles, not_here, one, Typed};
 use crate::record::*;
 use crate::tiles::{starts_run, EAST};
 
 /// The indicator when none is given: North (01, Table of hands).
 const NORTH: u8 = 30;
+
+/// The winds by their names.
+const WINDS: [&str; 4] = ["east", "south", "west", "north"];
+
+/// The words that stand alone.
+pub const WORDS: &str = "one of the words tsumo, riichi, double, rinshan, chankan, last and first";
 
 /// What is wrong with notation: the word's place from 0, the number of words where one is missing; and why.
 #[derive(Clone, Debug, PartialEq, Eq)]
@@ -20,9 +27,7 @@ type Given<T> = Option<(usize, T)>;
 /// What the words have given so far.
 #[derive(Default)]
 struct Draft {
-    concealed: Vec<u8>,
-    plus: Option<usize>,
-    winning: Given<u8>,
+    typed: Typed,
     melds: Vec<Meld>,
     seat: Given<u8>,
     win: Given<(u8, u8)>,
@@ -42,35 +47,21 @@ fn set<T>(field: &mut Given<T>, at: usize, value: T) -> Result<(), String> {
     }
 }
 
-/// A seat by its number, 0 to 3, or by its wind in the first deal.
+/// A seat by its number, one digit 0 to 3, or by its wind in the first deal, a tile or its name.
 pub fn seat(text: &str) -> Result<u8, String> {
+    let is_digit = |sign: u8| (b'0'..=b'3').contains(&sign);
+    let by_number = text.bytes().next().filter(|&sign| text.len() == 1 && is_digit(sign)).map(|sign| sign - b'0');
+    let by_name = (0..).zip(WINDS).find(|(_, name)| name.eq_ignore_ascii_case(text)).map(|(seat, _)| seat);
     let by_wind = || tiles(text).ok().filter(|list| list.len() == 1).and_then(|list| list[0].checked_sub(EAST));
-    let seat = text.parse().ok().or_else(by_wind).filter(|&seat| seat <= 3);
-    seat.ok_or("a seat is 0, 1, 2 or 3, or E S W N by the first deal's winds".into())
-}
-
-/// What is said to a word that others use: the word here, or that there is none.
-fn instead(word: &str) -> Option<&'static str> {
-    Some(match word {
-        "reach" | "richi" | "liichi" => "the word is riichi",
-        "ippatsu" => "there is no ippatsu in these rules, leave the word out",
-        "daburi" | "double-riichi" | "double-reach" => "the word is double",
-        "haitei" | "houtei" | "hotei" => "the word is last",
-        "tenhou" | "tenho" | "chiihou" | "chiho" => "the word is first",
-        "pon" | "chi" | "kan" | "ankan" => "the tiles are missing, such as pon=222m",
-        "indicator" => "the tile is missing, such as indicator=4m",
-        "dealer" => "the seat is missing, such as dealer=1",
-        "wind" => "the wind is missing, such as wind=S",
-        _ => return None,
-    })
-}
-
-/// One tile.
-fn one(text: &str) -> Result<u8, String> {
-    match tiles(text)?.as_slice() {
-        [tile] => Ok(*tile),
-        list => Err(format!("one tile is needed, {} given", list.len())),
-    }
+    let seat = by_number.or(by_name).or_else(by_wind).filter(|&seat| seat <= 3);
+    let several = text.len() > 1 && text.bytes().all(is_digit);
+    let why = match text {
+        _ if text.contains('#') => "a space is missing before #",
+        _ if text.contains(['=', ',']) => "a space is missing before the next word",
+        _ if several => "a seat is one digit; put spaces between seats",
+        _ => "a seat is 0, 1, 2 or 3, or E S W N by the first deal's winds",
+    };
+    seat.ok_or(why.into())
 }
 
 /// The kind of a meld by its word.
@@ -83,7 +74,17 @@ pub fn meld_kind(key: &str) -> Result<u8, String> {
         "pong" | "pung" => Err("the word is pon, such as pon=222m".into()),
         "chii" | "chow" => Err("the word is chi, such as chi=234m".into()),
         "kong" | "minkan" | "daiminkan" => Err("the word is kan, such as kan=EEEE, or ankan for a closed one".into()),
-        _ => Err(format!("{key}= is no option here; melds are chi=, pon=, kan= and ankan=")),
+        "dora" => Err("the tile turned up is indicator=, dora is the next one".into()),
+        "tsumo" => Err("tsumo stands alone, the winner is seat=".into()),
+        "riichi" | "double" => Err(format!("{key} stands alone, the winner is seat=")),
+        "reach" => Err("the word is riichi, and stands alone".into()),
+        "winner" => Err("the word is seat, such as seat=1".into()),
+        "from" | "discarder" => Err("the word is ron, such as ron=3".into()),
+        "discard" => Err("the word is discards, such as discards=N8s4m".into()),
+        "discards" => Err("there are no discards here, leave the word out".into()),
+        small => {
+            Err(not_here(small).map_or_else(|| format!("{key}= is no option here; melds are chi=, pon=, kan= and ankan="), String::from))
+        }
     }
 }
 
@@ -100,7 +101,8 @@ pub fn meld(key: &str, text: &str) -> Result<Meld, String> {
             PON => "three equal tiles, such as 555p",
             _ => "four equal tiles, such as EEEE",
         };
-        return Err(format!("{needed}, are needed"));
+        let spaces = if list.len() < 3 { "; behind = tiles have commas or nothing between them" } else { "" };
+        return Err(format!("{needed}, are needed{spaces}"));
     }
     Ok(meld)
 }
@@ -120,9 +122,6 @@ impl Draft {
             "seat" => return set(&mut self.seat, at, seat(value)?),
             "ron" => return set(&mut self.win, at, (RON, seat(value)?)),
             "indicator" => return set(&mut self.indicator, at, one(value)?),
-            "dora" => return Err("the tile turned up is indicator=, dora is the next one".into()),
-            "tsumo" => return Err("tsumo stands alone, the winner is seat=".into()),
-            "riichi" | "double" => return Err(format!("{key} stands alone, the winner is seat=")),
             _ => meld_kind(key)?,
         };
         if self.melds.len() == 4 {
@@ -132,60 +131,36 @@ impl Draft {
         Ok(())
     }
 
+    /// The situation, once.
+    fn set_situation(&mut self, at: usize, situation: u8) -> Result<(), String> {
+        set(&mut self.situation, at, situation).map_err(|why| format!("{why}: one of rinshan, chankan, last and first fits"))
+    }
+
     /// A word alone: an option, or tiles.
     fn take_alone(&mut self, at: usize, word: &str) -> Result<(), String> {
         match word.to_ascii_lowercase().as_str() {
             "tsumo" => set(&mut self.win, at, (TSUMO, 0)),
             "riichi" => set(&mut self.riichi, at, 1),
             "double" => set(&mut self.riichi, at, 2),
-            "rinshan" => set(&mut self.situation, at, RINSHAN),
-            "chankan" => set(&mut self.situation, at, CHANKAN),
-            "last" => set(&mut self.situation, at, LAST_TILE),
-            "first" => set(&mut self.situation, at, FIRST_TURN),
-            "ron" => Err("whose discard is missing, such as ron=3".into()),
-            "seat" => Err("the number is missing, such as seat=1".into()),
-            other => instead(other).map_or_else(|| self.take_tiles(at, word), |why| Err(why.into())),
+            "rinshan" => self.set_situation(at, RINSHAN),
+            "chankan" => self.set_situation(at, CHANKAN),
+            "last" => self.set_situation(at, LAST_TILE),
+            "first" => self.set_situation(at, FIRST_TURN),
+            _ => match no_tiles(word, WORDS) {
+                Some(why) => Err(why),
+                None => self.typed.take(at, word),
+            },
         }
-    }
-
-    /// Tiles: concealed ones, then + and the winning tile.
-    fn take_tiles(&mut self, at: usize, word: &str) -> Result<(), String> {
-        let is_word = |word: &str| word.len() > 1 && word.chars().all(char::is_alphabetic);
-        if is_word(word) && tiles(word).is_err() {
-            return Err("neither tiles nor one of the words tsumo, riichi, double, rinshan, chankan, last and first".into());
-        }
-        let winning = match (word.split_once('+'), self.plus) {
-            (Some((before, after)), None) => {
-                self.concealed.extend(tiles(before)?);
-                self.plus = Some(at);
-                after
-            }
-            (None, None) => {
-                self.concealed.extend(tiles(word)?);
-                return Ok(());
-            }
-            (Some(_), Some(_)) => return Err("a second +".into()),
-            (None, Some(_)) => word,
-        };
-        if winning.is_empty() {
-            return Ok(());
-        }
-        if self.winning.is_some() {
-            return Err("the winning tile is the last one, after +".into());
-        }
-        set(&mut self.winning, at, one(winning)?)
     }
 
     /// The hand, once all words are in; the error has the place of the word it is about, none if one is missing.
     fn hand(mut self) -> Result<Hand, (Option<usize>, String)> {
         let missing = |what: &str| (None, what.to_string());
-        let plus = self.plus.ok_or(missing("no winning tile: put + before it, as in 234567m345p67s22s+8s"))?;
-        let (_, winning) = self.winning.ok_or((Some(plus), "no winning tile after +".to_string()))?;
+        let plus = self.typed.plus.ok_or(missing("no winning tile: put + before it, as in 234567m345p67s22s+8s"))?;
+        let winning = self.typed.winning.ok_or((Some(plus), "no winning tile after +".to_string()))?;
         let m = self.melds.len();
-        let (given, needed) = (self.concealed.len(), 13 - 3 * m);
-        if given != needed {
-            let melds = if m == 1 { "1 meld".to_string() } else { format!("{m} melds") };
-            return Err((Some(plus), format!("{given} tiles before +, with {melds} {needed} are needed")));
+        if let Some(why) = self.typed.number_fault(m) {
+            return Err((Some(plus), why));
         }
         let (_, winner) = self.seat.ok_or(missing("the winner is missing, such as seat=1"))?;
         let (_, (how, discarder)) = self.win.ok_or(missing("tsumo or ron=, such as ron=3, is missing"))?;
@@ -201,9 +176,10 @@ impl Draft {
             m: m as u8,
             ..Hand::default()
         };
-        self.concealed.sort();
+        let concealed = &mut self.typed.concealed;
+        concealed.sort();
         hand.melds[..m].copy_from_slice(&self.melds);
-        hand.concealed[..needed].copy_from_slice(&self.concealed);
+        hand.concealed[..concealed.len()].copy_from_slice(concealed);
         Ok(hand)
     }
 }

@@ -1,5 +1,5 @@
 //! Tiles as text: digits, then m, p or s, or z for honours 1 to 7; or a letter for an honour (01, Tiles and the hand record). Lower
-//! case, 東南西北白發中, the tiles of Unicode and full-width signs are read too.
+//! case, 東南西北白發中, the tiles of Unicode, full-width signs and commas between tiles are read too.
 
 use crate::tiles::{is_honour, EAST};
 
@@ -56,7 +56,7 @@ pub fn tiles(text: &str) -> Result<Vec<u8>, String> {
             digits.push(sign);
         } else if let Some(kind) = alone(sign, free && digits.is_empty()) {
             if !digits.is_empty() {
-                return wrong("the digits before it have no suit m, p, s or z");
+                return wrong("the digits before it have no suit m, p, s or z, a small letter");
             }
             kinds.push(kind);
             free = true;
@@ -69,8 +69,15 @@ pub fn tiles(text: &str) -> Result<Vec<u8>, String> {
             }
             kinds.extend(digits.drain(..).map(|digit| 9 * suit as u8 + (digit as u8 - b'1')));
             free = false;
+        } else if matches!(sign, ',' | '、') {
+            if !digits.is_empty() {
+                return wrong("the digits before it have no suit m, p, s or z");
+            }
+            free = true;
         } else if sign == '0' {
             return wrong("there are no red fives here, write 5");
+        } else if matches!(sign, 'M' | 'Z') {
+            return wrong("a suit is a small letter, m p s or z");
         } else {
             return wrong("a digit 1 to 9, a suit m p s z or an honour E S W N P F C is needed");
         }
@@ -81,15 +88,15 @@ pub fn tiles(text: &str) -> Result<Vec<u8>, String> {
     }
 }
 
-/// Digits before one suit letter that look like those of two suits: they ascend, fall back once or more, and no piece is a single one.
-/// Gives the stretch with its letter, and its first piece.
+/// Digits before one suit letter that look like those of two suits: they go down somewhere. Gives the stretch with its letter, and the
+/// digits before the first descent.
 pub fn doubtful(text: &str) -> Option<(String, String)> {
     let signs: Vec<char> = text.chars().map(plain).collect();
     let stretches = signs.split_inclusive(|sign| !sign.is_ascii_digit());
     stretches.filter(|stretch| stretch.last().is_some_and(|sign| SUITS.contains(sign))).find_map(|stretch| {
-        let pieces: Vec<&[char]> = stretch[..stretch.len() - 1].chunk_by(|one, next| one <= next).collect();
-        let looks = pieces.len() > 1 && pieces.iter().all(|piece| piece.len() > 1);
-        looks.then(|| (stretch.iter().collect(), pieces[0].iter().collect()))
+        let digits = &stretch[..stretch.len() - 1];
+        let descent = digits.windows(2).position(|two| two[0] > two[1])?;
+        Some((stretch.iter().collect(), digits[..=descent].iter().collect()))
     })
 }
 

@@ -2,17 +2,45 @@
 
 use super::parse::{meld, Fault};
 use super::print::meld as word;
-use super::tiles::{plain, text, tiles};
+use super::tiles::{plain, text};
+use super::typed::{no_tiles, Typed};
 use crate::unfinished::{field_faults, Unfinished};
 
-/// An unfinished hand from its words: tiles, in any order, and melds.
+/// The words that are said of a finished hand, or of a player: alone, and before =.
+const ALONE: [&str; 7] = ["tsumo", "riichi", "double", "rinshan", "chankan", "last", "first"];
+const KEYS: [&str; 5] = ["seat", "ron", "indicator", "dealer", "wind"];
+
+/// Whether a word is said of a finished hand, or of a player.
+pub fn is_of_finished(word: &str) -> bool {
+    let is_among = |list: &[&str], word: &str| list.iter().any(|known| known.eq_ignore_ascii_case(word));
+    word.split_once('=').map_or_else(|| is_among(&ALONE, word), |(key, _)| is_among(&KEYS, key))
+}
+
+/// Takes in a word without =.
+fn take(typed: &mut Typed, at: usize, word: &str) -> Result<(), String> {
+    match no_tiles(word, "a meld, such as chi=234m") {
+        Some(why) => Err(why),
+        None => typed.take(at, word),
+    }
+}
+
+/// Why the number of tiles is wrong; a tile too many finishes the hand.
+fn number_fault(typed: &Typed, m: usize) -> Option<String> {
+    let why = typed.number_fault(m)?;
+    let finished = typed.plus.is_none() && typed.concealed.len() == 14 - 3 * m;
+    let advice = "a finished hand waits for nothing: leave its winning tile out, or put + before it, as in 234567m345p67s22s+8s";
+    Some(if finished { format!("{why}; {advice}") } else { why })
+}
+
+/// An unfinished hand from its words: tiles, in any order, and melds; + and the winning tile of a finished one are left out.
 pub fn parse(words: &[&str]) -> Result<Unfinished, Fault> {
-    let (mut concealed, mut melds) = (Vec::new(), Vec::new());
+    let (mut typed, mut melds) = (Typed::default(), Vec::new());
     for (word, text) in words.iter().enumerate() {
         let text: String = text.chars().map(plain).collect();
         let taken = match text.split_once('=') {
+            _ if is_of_finished(&text) => Err("an unfinished hand is its tiles and melds, leave the word out".into()),
             Some((key, value)) => meld(key, value).map(|meld| melds.push(meld)),
-            None => tiles(&text).map(|list| concealed.extend(list)),
+            None => take(&mut typed, word, &text),
         };
         taken.map_err(|why| Fault { word, why })?;
         if melds.len() > 4 {
@@ -20,15 +48,13 @@ pub fn parse(words: &[&str]) -> Result<Unfinished, Fault> {
         }
     }
     let m = melds.len();
-    let (given, needed) = (concealed.len(), 13 - 3 * m);
-    if given != needed {
-        let melds = if m == 1 { "1 meld".to_string() } else { format!("{m} melds") };
-        return Err(Fault { word: words.len(), why: format!("{given} tiles, with {melds} {needed} are needed") });
+    if let Some(why) = number_fault(&typed, m) {
+        return Err(Fault { word: words.len(), why });
     }
-    concealed.sort();
+    typed.concealed.sort();
     let mut hand = Unfinished { m: m as u8, ..Unfinished::default() };
     hand.melds[..m].copy_from_slice(&melds);
-    hand.concealed[..needed].copy_from_slice(&concealed);
+    hand.concealed[..typed.concealed.len()].copy_from_slice(&typed.concealed);
     Ok(hand)
 }
 
