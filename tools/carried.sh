@@ -2,7 +2,7 @@
 # Mistakes carried through definition and laws: carried.sh [NAME ..]. Applies each tools/carried/NAME.patch (all of them where none is named) to a copy
 # of the tree and runs `rt dev game_rules` there: `position` and `game` must be proved, and `game_rules` refused at the law that the patch says.
 # One line a patch, then how many there are; exits 1 where one is not refused so. Each proves `position` and `game` again; the crates below them are
-# proved once, or not at all where target/ has them: then 17 patches took 6 minutes, with other checks beside them on two cores.
+# proved once, or not at all where target/ has them: then 19 patches took 11 minutes, with other work beside them on two cores.
 tools=$(cd -- "$(dirname -- "${BASH_SOURCE[0]}")" && pwd)
 copy=$(mktemp -d)
 trap 'rm -rf -- "$copy"' EXIT
