@@ -1,4 +1,5 @@
 // Writes the practice cards (02, S-9): every set of 2, 5 or 8 tiles of one suit that splits into a pair and groups.
+#![tactic(auto)]
 ghost use Rattle.std.specs.Prelude.{◌≡◌, ◌+◌, ◌-◌, ◌≤◌, length, take};
 ghost use Rattle.card_writer.specs.Call.{is_size, refused_cards, answer_of, card_buffer};
 ghost use Rattle.text.specs.Put.{Put};
@@ -6,7 +7,7 @@ ghost use Rattle.card_writer.specs.search.Written.{written, counted};
 
 // What the call says: refusal 19, or the number of sets.
 #[repr(C)]
-#[derive(Drop)]
+#[derive(Clone, Copy)]
 pub struct Cards {
     pub refusal: u8,
     pub count: u16,

@@ -3,9 +3,9 @@ use mathlib.Core.List.{List, flatten}
 use Rattle.std.specs.Prelude.{ℕ}
 use Rattle.tiles.specs.One.{ExactlyOne}
 use Rattle.reading.specs.Order.{Lex}
-use Rattle.reading.specs.laws.Readings.{lex_irreflexive}
+use Rattle.reading.proofs.laws.Readings.{lex_irreflexive}
 use Rattle.cards.specs.Cards.{IsCardList}
-use Rattle.cards.specs.laws.Exact as laws
+use Rattle.cards.proofs.laws.Exact as laws
 
 -- "State it over the size, with one argument for all three": there is such a list, and every such list is that one
 pub exactly_one_card_list : (suit size : ℕ) → ExactlyOne (IsCardList suit size)

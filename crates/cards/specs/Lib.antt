@@ -1,8 +1,6 @@
 -- Cards   what a card is, and a list of all cards of a suit and a size
 -- CardList    there is exactly one such list
 -- search  how the code finds the cards
--- laws    what is proved of them; a reader of the meaning needs neither search nor laws
 pub mod Cards
 pub mod search
-pub mod laws
 pub mod CardList

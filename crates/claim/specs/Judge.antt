@@ -3,7 +3,7 @@ use Rattle.std.specs.Prelude.{List, ◌≡◌, ℕ}
 use Rattle.tiles.specs.One.{ExactlyOne}
 use Rattle.claim.specs.declared.Judged.{Judged}
 use Rattle.claim.specs.IsJudged.{judged_as, IsJudged}
-use Rattle.claim.specs.laws.Exact as laws
+use Rattle.claim.proofs.laws.Exact as laws
 
 -- there is an answer, and every answer is that one
 pub exactly_one_answer : (s claim : List ℕ) (dealer wind : ℕ) → ExactlyOne (IsJudged s claim dealer wind)

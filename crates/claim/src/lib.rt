@@ -1,9 +1,10 @@
 // Judge: a claim of another scorer, a reading and the winner's gain, held against the record of a hand (02, S-13).
+#![tactic(auto)]
 ghost use Rattle.std.specs.Prelude.{◌≡◌, ◌++◌, ◌+◌, ◌*◌, ◌-◌, ◌<◌, ◌≤◌, length, take, replicate};
 ghost use Rattle.bits.specs.Bits.{bits_of};
 ghost use Rattle.claim.specs.IsJudged.{refused_with, IsJudged};
 ghost use Rattle.claim.specs.Judge.{judged_of};
-ghost use Rattle.claim.specs.search.Claimed.{shape_in, codes_in, ascends as ascendsOf, length_of, nothing as nothingOf, claimed_in, claimed_of};
+ghost use Rattle.claim.specs.search.Claimed.{shape_in, codes_in, ascends as ascends_of, length_of, nothing as nothing_of, claimed_in, claimed_of};
 ghost use Rattle.claim.specs.search.Verdict.{IsFormed, strip, regularly, reads, weighed_as, verdict_of};
 
 use hand::Hand;
@@ -19,14 +20,14 @@ const PADS: [usize; 5] = [0, 7, 6, 5, 4];
 
 // What Judge gives: a refusal and 0, or 0 and the verdict: 0 accepted, 1 to 4 the first condition that is false.
 #[repr(C)]
-#[derive(Drop)]
+#[derive(Clone, Copy)]
 pub struct Judged {
     pub refusal: u8,
     pub verdict: u8,
 }
 
 // What a claim names where it is sound: a reading and the winner's gain.
-#[derive(Drop)]
+#[derive(Clone, Copy)]
 struct Claimed {
     sound: bool,
     reading: Reading,
@@ -48,7 +49,7 @@ fn groups_in(s: &[u8], m: usize) -> [u8; 4]
 // The first n codes are groups' and do not descend.
 fn ascend(g: [u8; 4], n: usize) -> bool
     requires { n ≤ 4 }
-    ensures { result ≡ ascendsOf 0 (take n g) }
+    ensures { result ≡ ascends_of 0 (take n g) }
 {
     let mut low: u8 = 0;
     let mut i: usize = 0;
@@ -65,7 +66,7 @@ fn ascend(g: [u8; 4], n: usize) -> bool
 
 // What a faulty claim names.
 fn nothing() -> Claimed
-    ensures { result ≡ nothingOf }
+    ensures { result ≡ nothing_of }
 {
     let r = reading::of_shape(1);
     Claimed {

@@ -3,7 +3,7 @@ use Rattle.std.specs.Prelude.{List, ◌≡◌, ℕ}
 use Rattle.hand_record.specs.declared.Written.{Written}
 use Rattle.claim_writer.specs.declared.Claim.{Claim}
 use Rattle.claim_writer.specs.Writes.{Writes}
-use Rattle.claim_writer.specs.laws.Exact as laws
+use Rattle.claim_writer.proofs.laws.Exact as laws
 
 -- there is an answer with what is left, and every other is that one
 pub exactly_one_answer : (c : Claim) (buf : List ℕ)

@@ -1,4 +1,5 @@
 // Write claim: a reading and the winner's gain as the bytes of a claim (02, S-13), which Judge reads. It takes all input.
+#![tactic(auto)]
 ghost use Rattle.std.specs.Prelude.{◌≡◌, [], ◌∷◌, ◌≤◌, ◌<◌};
 ghost use Rattle.bits.specs.Bits.{pack, fill};
 ghost use Rattle.claim.specs.search.Claimed.{widths};
@@ -11,7 +12,7 @@ use units::Points;
 
 // A claim's gain and reading, and the m of its hand. Shape, pair, groups and place are as `Reading` has them.
 #[repr(C)]
-#[derive(Drop)]
+#[derive(Clone, Copy)]
 pub struct Claim {
     pub gain: Points,
     pub shape: u8,

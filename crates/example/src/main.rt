@@ -1,4 +1,5 @@
 // Program `tally` once more, for the gate to run it on document 01's own example, hexadecimal 01 24.
+#![tactic(auto)]
 use libc::STDIN_FILENO;
 
 fn main() {

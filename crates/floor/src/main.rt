@@ -3,6 +3,7 @@
 // 199 in the last. Before it seat 1 declares riichi, which costs it 1,000 in the first hand and is refused with 21 in the others, since it has no 1,000
 // left. Seat 1 then has 30,000 - 1,000 - 200 * 112,000 - 300 * 19,900 = -28,341,000, and the game is over. The floor, -28,540,000, has a stick in each
 // hand.
+#![tactic(auto)]
 use libc::STDOUT_FILENO;
 use position::Position;
 

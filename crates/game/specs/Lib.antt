@@ -1,10 +1,6 @@
 -- Game     what is booked in a game, its refusal and the game after it; the bookings left standing
 -- Runs     a list of entries, each lent the game as the last one left it
 -- Demand3  what demand 3 claims of such a list
--- Claims   the theorems: demand 3; what a correction supersedes
--- laws     what they stand on
 pub mod Game
 pub mod Runs
 pub mod Demand3
-pub mod laws
-pub mod Claims

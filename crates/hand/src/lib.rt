@@ -1,4 +1,5 @@
 // The hand: its fields, the tiles held, the tallies of its tiles (01, Tiles and the hand record).
+#![tactic(auto)]
 ghost use Rattle.std.specs.Prelude.{◌≡◌, cond, ℕ, ◌+◌, ◌-◌, ◌*◌, ◌/◌, ◌%◌, ◌≤◌, ◌<◌, eqb, get_or};
 ghost use Rattle.tiles.specs.Below.{count_below};
 ghost use Rattle.tiles.specs.Tally.{tally_of};
@@ -7,7 +8,7 @@ ghost use Rattle.hand.specs.Hand.{concealed_tally, hand_tally};
 
 // The numbers of a hand, in the record's order: how 0 tsumo, 1 ron.
 #[repr(C)]
-#[derive(Drop)]
+#[derive(Clone, Copy)]
 pub struct Fields {
     pub how: u8,
     pub winner: u8,
@@ -20,7 +21,7 @@ pub struct Fields {
 
 // The tiles held: m melds, each 64 times its kind plus its tile, and 13 - 3m concealed tiles beside the winning one. Unused places are 0.
 #[repr(C)]
-#[derive(Drop)]
+#[derive(Clone, Copy)]
 pub struct Held {
     pub m: u8,
     pub melds: [u8; 4],
@@ -29,7 +30,7 @@ pub struct Held {
 
 // A finished hand.
 #[repr(C)]
-#[derive(Drop)]
+#[derive(Clone, Copy)]
 pub struct Hand {
     pub fields: Fields,
     pub held: Held,

@@ -1,4 +1,5 @@
 // The hand record, Read, and how long the record is that bytes start with (01, Tiles and the hand record). It takes all input.
+#![tactic(auto)]
 ghost use Rattle.std.specs.Prelude.{◌≡◌, ◌+◌, ◌*◌, ◌-◌, ◌≤◌, length};
 ghost use Rattle.bits.specs.Bits.{bits_of};
 ghost use Rattle.hand_record.specs.search.Offsets.{held_in};
@@ -17,21 +18,21 @@ pub const LENGTHS: [usize; 5] = [13, 12, 11, 10, 8];
 pub const PADS: [usize; 5] = [1, 3, 5, 7, 1];
 
 // The head of a record: the fields, and then the meld count.
-#[derive(Drop)]
+#[derive(Clone, Copy)]
 struct Head {
     fields: Fields,
     m: u8,
 }
 
 // The fields that read, or the refusal.
-#[derive(Drop)]
+#[derive(Clone, Copy)]
 pub enum Answer {
     Sound(Fields),
     Refused(u8),
 }
 
 // What Read gives: the tiles held stand beside the answer, all zero where it is refused.
-#[derive(Drop)]
+#[derive(Clone, Copy)]
 pub struct HandRead {
     pub answer: Answer,
     pub held: Held,
@@ -39,7 +40,7 @@ pub struct HandRead {
 
 // What Read gives, flat: 0 and the hand, or the refusal and an all-zero hand.
 #[repr(C)]
-#[derive(Drop)]
+#[derive(Clone, Copy)]
 pub struct ReadHand {
     pub refusal: u8,
     pub hand: Hand,
@@ -47,7 +48,7 @@ pub struct ReadHand {
 
 // What Write gives: 0 and the record's length, or the refusal and 0.
 #[repr(C)]
-#[derive(Drop)]
+#[derive(Clone, Copy)]
 pub struct Written {
     pub refusal: u8,
     pub len: usize,

@@ -1,11 +1,12 @@
 // What a hand is refused for: 2 to 5, first match wins, for Read and for Write (01, Read; Write). What 2, 3 and 4 ask of the tiles held
 // stands apart: an unfinished hand has no fields.
+#![tactic(auto)]
 ghost use Rattle.std.specs.Prelude.{◌≡◌, true, false, ◌&&◌, ◌||◌, not, ◌+◌, ◌-◌, ◌*◌, ◌/◌, ◌%◌, ◌≤◌, ltb, eqb, get_or};
 ghost use Rattle.tiles.specs.Below.{all_below, any_below};
 ghost use Rattle.tiles.specs.Kinds.{is_run_start};
 ghost use Rattle.tiles.specs.Tally.{tally_of};
-ghost use Rattle.hand.specs.Held.{tile_over33, chi_without_run, wrong_held, descends as descendsOf, over_four, unused_not_zero, has_kan};
-ghost use Rattle.hand.specs.Refusals.{wrong_discarder, wrong_fields, in_record, wrong_by, refusal_of, too_large, unwritable as unwritableOf};
+ghost use Rattle.hand.specs.Held.{tile_over33, chi_without_run, wrong_held, descends as descends_of, over_four, unused_not_zero, has_kan};
+ghost use Rattle.hand.specs.Refusals.{wrong_discarder, wrong_fields, in_record, wrong_by, refusal_of, too_large, unwritable as unwritable_of};
 
 use hand::{Fields, Hand, Held};
 
@@ -86,7 +87,7 @@ fn falls(c: [u8; 13], n: usize) -> bool
 
 // 3: the concealed tiles descend somewhere.
 pub fn descends(x: Held) -> bool
-    ensures { result ≡ descendsOf x }
+    ensures { result ≡ descends_of x }
 {
     let c = x.concealed;
     falls(c, followed(x.m))
@@ -225,7 +226,7 @@ fn too_large(h: Hand) -> bool
 
 // What Write refuses of a hand before it looks at the buffer: 2 to 5, or 0.
 pub fn unwritable(h: Hand) -> u8
-    ensures { result ≡ unwritableOf h }
+    ensures { result ≡ unwritable_of h }
 {
     if too_large(h) | unused_not_zero(h.held) {
         2

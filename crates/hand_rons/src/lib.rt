@@ -1,5 +1,6 @@
 // Records that lie end to end (02, S-6): the hands that they are or the refusal of the first that does not read, whether the hands are rons on one tile,
 // and who wins first. Each record is read once.
+#![tactic(auto)]
 ghost use Rattle.std.specs.Prelude.{◌≡◌, List, map, ℕ, ◌≤◌, take};
 ghost use Rattle.hand_rons.specs.Records.{hand_for, records_of, first_unreadable, conflict, not_on_one_tile, is_winner, first_after, cut_of, IsFirst};
 
@@ -7,7 +8,7 @@ use hand::{Fields, Hand, Held};
 use hand_record::Answer;
 
 // One record of several: its hand and where it ends, or its refusal.
-#[derive(Drop)]
+#[derive(Clone, Copy)]
 struct First {
     refusal: u8,
     end: usize,
@@ -15,7 +16,7 @@ struct First {
 }
 
 // The hands of one to three records, or the refusal of the first that does not read.
-#[derive(Drop)]
+#[derive(Clone, Copy)]
 pub struct Hands {
     pub refusal: u8,
     pub hands: [Hand; 3],

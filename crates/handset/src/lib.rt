@@ -1,5 +1,6 @@
 // The public calls as the handset's firmware links them, with one prefix. They take all input. The bookings and the corrections are lent the game and update it
 // there: each gives 0, or its refusal with the game as it was.
+#![tactic(auto)]
 ghost use Rattle.std.specs.Prelude.{◌≡◌, [], ◌++◌, ◌+◌, ◌≤◌, ◌<◌, length, take, drop, cond, ltb};
 ghost use Rattle.hand_record.specs.Record.{read_hand_of, written_of, buffer_of};
 ghost use Rattle.score.specs.IsScore.{IsScore};
@@ -10,12 +11,12 @@ ghost use Rattle.score_readings.specs.Count.{count_of};
 ghost use Rattle.claim.specs.IsJudged.{IsJudged};
 ghost use Rattle.claim.specs.Judge.{judged_of};
 ghost use Rattle.claim_writer.specs.Writes.{Writes};
-ghost use Rattle.claim_writer.specs.Write.{written_of as claimWrittenOf, buffer_of as claimBufferOf};
+ghost use Rattle.claim_writer.specs.Write.{written_of as claim_written_of, buffer_of as claim_buffer_of};
 ghost use Rattle.slip.specs.Slip.{slip_refusal, slip_page};
 ghost use Rattle.waits.specs.Waits.{IsWaits};
 ghost use Rattle.waits.specs.Answer.{waits_of};
 ghost use Rattle.unfinished.specs.Unfinished.{refusal_of};
-ghost use Rattle.unfinished_writer.specs.Write.{written_of as unfinishedWritten, buffer_of as unfinishedBuffer, written_from, buffer_from};
+ghost use Rattle.unfinished_writer.specs.Write.{written_of as unfinished_written, buffer_of as unfinished_buffer, written_from, buffer_from};
 ghost use Rattle.ready.specs.Ready.{IsAnswer};
 ghost use Rattle.ready.specs.Answer.{fewest_swaps};
 ghost use Rattle.card_writer.specs.Call.{answer_of, card_buffer};
@@ -44,7 +45,7 @@ use waits::Waits;
 
 // What Next entry gives: an entry with its letter in `tally` and its length, header included; the log's end; or refusal 14. Else all zero.
 #[repr(C)]
-#[derive(Drop)]
+#[derive(Clone, Copy)]
 pub struct NextEntry {
     pub refusal: u8,
     pub end: bool,
@@ -127,8 +128,8 @@ pub extern "C" fn hb_ready(s: &[u8]) -> Ready
 // Write, of an unfinished hand: the bytes of the tiles held at the start of a buffer, as Waits and Ready take them, and their length, or the refusal.
 #[unsafe(no_mangle)]
 pub extern "C" fn hb_write_unfinished(x: Held, buf: &mut [u8]) -> Written
-    ensures value { result ≡ unfinishedWritten x buf.old }
-    ensures buf_after { buf.new ≡ unfinishedBuffer x buf.old }
+    ensures value { result ≡ unfinished_written x buf.old }
+    ensures buf_after { buf.new ≡ unfinished_buffer x buf.old }
 {
     unfinished_writer::write(x, buf)
 }
@@ -165,8 +166,8 @@ pub extern "C" fn hb_judge(s: &[u8], claim: &[u8], dealer: u8, wind: u8) -> Judg
 #[unsafe(no_mangle)]
 pub extern "C" fn hb_write_claim(claim: Claim, buf: &mut [u8]) -> Written
     ensures writes { Writes claim buf.old result buf.new }
-    ensures value { result ≡ claimWrittenOf claim buf.old }
-    ensures buf_after { buf.new ≡ claimBufferOf claim buf.old }
+    ensures value { result ≡ claim_written_of claim buf.old }
+    ensures buf_after { buf.new ≡ claim_buffer_of claim buf.old }
 {
     claim_writer::write(claim, buf)
 }

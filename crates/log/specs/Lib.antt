@@ -1,12 +1,8 @@
 -- Entry   what an entry of a log is, a constructor a kind, and its letter
 -- Next    what Next entry gives at an offset
 -- Log     there is exactly one such thing; and the entries of the walk
--- Claims  the theorems: what the walk hands back and where it ends
 -- search  how the code finds an entry: its length, and which it is
--- laws    what they stand on, and examples
 pub mod Entry
 pub mod Next
 pub mod search
 pub mod Log
-pub mod laws
-pub mod Claims

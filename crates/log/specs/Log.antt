@@ -2,7 +2,7 @@
 use Rattle.std.specs.Prelude.{List, [], ◌∷◌, ◌++◌, ℕ, zero, suc, length, drop}
 use Rattle.tiles.specs.One.{ExactlyOne}
 use Rattle.log.specs.Next.{LogEntry, Next, end, entry, bad, IsNext}
-use Rattle.log.specs.laws.Exact as laws
+use Rattle.log.proofs.laws.Exact as laws
 
 -- there is one, and every other is that one: so at most one prefix of bytes is an entry
 pub exactly_one : (log : List ℕ) (at : ℕ) → ExactlyOne (IsNext log at)

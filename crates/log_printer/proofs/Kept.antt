@@ -7,7 +7,7 @@ use lib.ListN.{length}
 use Rattle.log_walk.specs.declared.Walk.{Walk}
 use Rattle.log_walk.specs.declared.Printed.{Printed}
 use Rattle.log_walk.specs.Walk.{started, printed_text, text_left, lines_of}
-use Rattle.log_walk.specs.laws.Through.{moved, lengths, text_whole}
+use Rattle.log_walk.proofs.laws.Through.{moved, lengths, text_whole}
 
 abbrev pub Kept : List ℕ → List ℕ → Walk → ℕ → Type 0
 Kept s page w printed =

@@ -1,4 +1,5 @@
 // What program `tally` does with a log (01, Log): it prints the text that `log_text::lines` writes, a buffer at a time.
+#![tactic(auto)]
 ghost use Rattle.std.specs.Prelude.{◌≡◌, ◌≤◌, length};
 ghost use Rattle.log_walk.specs.Walk.{printed_text};
 

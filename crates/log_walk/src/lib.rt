@@ -1,4 +1,5 @@
 // A log booked in a game, entry by entry, and where a walk over it stands (01, Log; 02, S-6, S-8 and S-10). The public calls take all input.
+#![tactic(auto)]
 ghost use Rattle.std.specs.Prelude.{◌≡◌, ◌≤◌, ◌<◌, length, get_or, drop};
 ghost use Rattle.position.specs.Booking as Booking;
 ghost use Rattle.game.specs.Game.{booking, correction};
@@ -12,7 +13,7 @@ use game_bookings::Booked;
 
 // An entry booked: its refusal, its letter, its length, header included, and the game after it. Where there is no entry the letter and the length are 0,
 // the refusal is 0 at the log's end and 14 otherwise, and the game is as it was.
-#[derive(Drop)]
+#[derive(Clone, Copy)]
 pub struct Step {
     pub refusal: u8,
     pub letter: u8,
@@ -153,7 +154,7 @@ pub fn book_entry(g: Game, s: &[u8]) -> Booked
 
 // Where a walk over a log stands: the game so far, and the number and the offset of the next entry.
 #[repr(C)]
-#[derive(Drop)]
+#[derive(Clone, Copy)]
 pub struct Walk {
     pub game: Game,
     pub entry: u32,
@@ -174,7 +175,7 @@ pub fn start() -> Walk
 
 // How many bytes were written, and where the walk then stands.
 #[repr(C)]
-#[derive(Drop)]
+#[derive(Clone, Copy)]
 pub struct Printed {
     pub written: usize,
     pub walk: Walk,

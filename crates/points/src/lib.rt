@@ -1,12 +1,13 @@
 // From han and fu to the basic points, the payments, the winner's gain and the four changes (01, Fu and points).
+#![tactic(auto)]
 ghost use Rattle.std.specs.Prelude.{◌≡◌, cond, ◌<◌, ◌≤◌, pos, ◌-ℤ◌};
-ghost use Rattle.points.specs.Points.{plain as plain_of, limit as limitOf, ordinary as ordinaryOf, basic as basic_of, hundreds as hundreds_of, times_a};
-ghost use Rattle.points.specs.Points.{pays as paysOf, gain as gain_of, changes as changes_of};
+ghost use Rattle.points.specs.Points.{plain as plain_of, limit as limit_of, ordinary as ordinary_of, basic as basic_of, hundreds as hundreds_of, times_a};
+ghost use Rattle.points.specs.Points.{pays as pays_of, gain as gain_of, changes as changes_of};
 
 use units::{Fu, Han, Points};
 
 // Who won, who deals, and who discarded the winning tile.
-#[derive(Drop)]
+#[derive(Clone, Copy)]
 pub struct Seats {
     pub winner: u8,
     pub dealer: u8,
@@ -39,7 +40,7 @@ fn plain(h: Han, f: Fu) -> Points
 
 // What A is where h is 5 or more, or A exceeds 2,000.
 fn limit(h: Han) -> Points
-    ensures result_value { result.0 ≡ limitOf h.0 }
+    ensures result_value { result.0 ≡ limit_of h.0 }
     ensures result_bound { result.0 ≤ 6000 }
 {
     if h.0 <= 5 {
@@ -55,7 +56,7 @@ fn limit(h: Han) -> Points
 
 // A without a yakuman.
 fn ordinary(h: Han, f: Fu) -> Points
-    ensures result_value { result.0 ≡ ordinaryOf h.0 f.0 }
+    ensures result_value { result.0 ≡ ordinary_of h.0 f.0 }
     ensures result_bound { result.0 ≤ 6000 }
 {
     let n = h.0;
@@ -113,7 +114,7 @@ fn times_a(s: Seats, ron: bool, seat: u8) -> u32
 // What a seat pays for a win of basic points a.
 fn pays(s: Seats, ron: bool, a: Points, seat: u8) -> Points
     requires { a.0 ≤ 8000 }
-    ensures result_value { result.0 ≡ paysOf s ron a.0 seat }
+    ensures result_value { result.0 ≡ pays_of s ron a.0 seat }
     ensures result_bound { result.0 ≤ 48000 }
 {
     let n = a.0;

@@ -1,16 +1,17 @@
 // Fu, item by item, and their sum.
+#![tactic(auto)]
 ghost use Rattle.std.specs.Prelude.{◌≡◌, cond, ◌≤◌};
 ghost use Rattle.yaku_basics.specs.search.Ways.{ways_at};
 ghost use Rattle.yaku.specs.search.Common.{group_tests_of, place_tests_of};
-ghost use Rattle.points_fu.specs.search.Items.{items_by, earned as earnedOf};
-ghost use Rattle.points_fu.specs.Fu.{fu, triplet_fu, group_fu, added as addedOf, rounded as roundedOf, base_alone, items_of};
+ghost use Rattle.points_fu.specs.search.Items.{items_by, earned as earned_of};
+ghost use Rattle.points_fu.specs.Fu.{fu, triplet_fu, group_fu, added as added_of, rounded as rounded_of, base_alone, items_of};
 
 use units::Fu;
 use yaku::{FullReading, GroupTests, PlaceTests, Won};
 
 // What each thing earns, in fu, and what rounding adds: the groups are the reading's in its order, then the melds' in the record's.
 #[repr(C)]
-#[derive(Drop)]
+#[derive(Clone, Copy)]
 pub struct Items {
     pub base: Fu,
     pub ron: Fu,
@@ -110,8 +111,8 @@ pub fn items_at(all: [Fu; 4], g: [u8; 4], ways: [u8; 4], ron: bool, place: u8) -
 fn earned(w: Won, k: GroupTests, q: PlaceTests, p: FullReading, group: [Fu; 4]) -> Items
     requires k_value { k ≡ group_tests_of w p.shape p.pair p.groups }
     requires q_value { (q ≡ place_tests_of w p) × (group ≡ items_by p.groups p.ways) }
-    ensures value { result ≡ earnedOf w p 0 }
-    ensures result_bound { addedOf result ≤ 164 }
+    ensures value { result ≡ earned_of w p 0 }
+    ensures result_bound { added_of result ≤ 164 }
 {
     let ron = fu_if(w.closed & w.ron, Fu(10));
     let pair = fu_if(k.value, Fu(2));
@@ -130,8 +131,8 @@ fn earned(w: Won, k: GroupTests, q: PlaceTests, p: FullReading, group: [Fu; 4]) 
 
 // The fu of a reading: the sum of its items.
 pub fn added(i: Items) -> Fu
-    requires { addedOf i ≤ 255 }
-    ensures { result.0 ≡ addedOf i }
+    requires { added_of i ≤ 255 }
+    ensures { result.0 ≡ added_of i }
 {
     let g = i.group;
     Fu(
@@ -151,7 +152,7 @@ pub fn added(i: Items) -> Fu
 // Up to tens, and an open 20 to 30.
 fn rounded(closed: bool, f: Fu) -> Fu
     requires { f.0 ≤ 164 }
-    ensures result_value { result.0 ≡ roundedOf closed f.0 }
+    ensures result_value { result.0 ≡ rounded_of closed f.0 }
     ensures f_le_result { (f.0 ≤ result.0) × (result.0 ≤ 170) }
 {
     let n = (f.0 + 9) / 10 * 10;
@@ -163,7 +164,7 @@ pub fn items_of(w: Won, k: GroupTests, q: PlaceTests, p: FullReading, group: [Fu
     requires k_value { k ≡ group_tests_of w p.shape p.pair p.groups }
     requires q_value { (q ≡ place_tests_of w p) × (group ≡ items_by p.groups p.ways) }
     ensures value { result ≡ items_of w p }
-    ensures result_bound { addedOf result ≤ 170 }
+    ensures result_bound { added_of result ≤ 170 }
 {
     let shape = p.shape;
     if q.yakuman {

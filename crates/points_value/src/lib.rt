@@ -1,4 +1,5 @@
 // What a reading is worth: its yaku, h, fu, the basic points and the winner's gain.
+#![tactic(auto)]
 ghost use Rattle.std.specs.Prelude.{◌≡◌, cond, ◌+◌, ◌<◌, ◌≤◌, eqb};
 ghost use Rattle.yaku_tiles.specs.search.TileTests.{tile_tests_of};
 ghost use Rattle.yaku.specs.Yaku.{is_yakuman, yaku_of, has_yaku};
@@ -16,7 +17,7 @@ use yaku_tiles::TileTests;
 mod yaku_han;
 
 // What a reading is worth: its yaku, h, the items of fu and their sum, the basic points A and the winner's gain.
-#[derive(Drop)]
+#[derive(Clone, Copy)]
 pub struct Value {
     pub yaku: [bool; 37],
     pub han: Han,
@@ -27,7 +28,7 @@ pub struct Value {
 }
 
 // What a reading is worth, and whether a yakuman or any yaku is listed for it.
-#[derive(Drop)]
+#[derive(Clone, Copy)]
 pub struct Worth {
     pub value: Value,
     pub yakuman: bool,
@@ -36,7 +37,7 @@ pub struct Worth {
 
 // What is the same at each place of the winning tile: the four groups, and what they and the pair say. `han` is h without the yaku that go by the
 // place or the ways. By the ways alone, `ankou` triplets are concealed, `kan` groups are kans, and `items` is what each group earns.
-#[derive(Drop)]
+#[derive(Clone, Copy)]
 pub struct Common {
     pub groups: [u8; 4],
     pub tests: GroupTests,

@@ -1,4 +1,5 @@
 // Riichi, pao, draw and chombo in a position, by value. Any value of the struct may be given; no sum wraps.
+#![tactic(auto)]
 ghost use Rattle.std.specs.Prelude.{◌≡◌, false, ◌&&◌, not, ◌≤◌, eqb, pos, get_or};
 ghost use Rattle.std.specs.Int.Signed.{lt_z};
 ghost use Rattle.tiles.specs.Below.{any, tabulate};
@@ -8,7 +9,7 @@ ghost use Rattle.position.specs.Ledger.{is_set, fresh, is_ready, wrong_pao, Move
 use position::Position;
 
 // What a booking gives: 0 and the position after it, or the refusal and the position as it was.
-#[derive(Drop)]
+#[derive(Clone, Copy)]
 pub struct Moved {
     pub refusal: u8,
     pub position: Position,

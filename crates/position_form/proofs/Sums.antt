@@ -8,9 +8,9 @@ use lib.IntN.{ℤ, pos, negsuc, ◌+ℤ◌, ◌*ℤ◌}
 use mir.Syntax.{w64}
 use mir.Val.{SFits, to_z, of_z}
 use mir.Facts.{to_z-of_z, to_z_pos}
-use Rattle.score.specs.laws.Z.{Within, within_add, parts_mag}
+use Rattle.score.proofs.laws.Z.{Within, within_add, parts_mag}
 use Rattle.position.specs.Ledger.{points_in_play, eq_z}
-use Rattle.position.specs.laws.Form.{same_leb, sum_of}
+use Rattle.position.proofs.laws.Form.{same_leb, sum_of}
 
 abbrev pub B : ℤ → ℤ
 B z = to_z w64 (of_z w64 z)

@@ -1,4 +1,5 @@
 // The booking of a win, by value. Any value of the struct may be given; no sum wraps.
+#![tactic(auto)]
 ghost use Rattle.std.specs.Prelude.{◌≡◌, false, ◌&&◌, not, cond, List, ℕ, ◌+◌, ◌≤◌, ltb, get_or};
 ghost use Rattle.hand.specs.Refusals.{wrong_discarder};
 ghost use Rattle.hand_record.specs.Record.{refusal_in, read_of};
@@ -58,7 +59,7 @@ fn pao_of(p: Position, h: Hand, yaku: [bool; 37]) -> u8
 }
 
 // What a win comes to: 0, the winner and what it gives each seat; or the refusal, and nothing.
-#[derive(Drop)]
+#[derive(Clone, Copy)]
 pub struct Settled {
     pub refusal: u8,
     pub winner: u8,

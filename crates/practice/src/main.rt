@@ -1,5 +1,6 @@
 // Practice cards as they are printed (02, S-9), for the gate to hold them to those of another scorer: of two tiles of man, five of pin and
 // eight of sou, how many there are, then each on a line.
+#![tactic(auto)]
 use libc::STDOUT_FILENO;
 
 // Prints a number in three digits.

@@ -2,11 +2,7 @@
 -- Order     which reading comes before which
 -- All       a list of all readings of a hand, in order
 -- search    how the code finds the readings: the list `readings`, the kinds tried for the pair, the fold `folded`; its claims: all, once, in order
--- laws      what is proved of them; a reader of the meaning needs neither search nor laws
--- Claims    there is exactly one list of all readings in order
 pub mod Reading
 pub mod Order
 pub mod All
 pub mod search
-pub mod laws
-pub mod Claims

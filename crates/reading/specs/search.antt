@@ -1,5 +1,4 @@
 pub mod Readings
 pub mod Pairs
 pub mod Folded
-pub mod Claims
 pub mod Stored

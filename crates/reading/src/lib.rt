@@ -1,10 +1,11 @@
 // Readings of the concealed tiles with the winning tile. What they are is said in specs/; what a search for them tests stands in `reading_steps`.
+#![tactic(auto)]
 ghost use Rattle.std.specs.Prelude.{◌≡◌};
 ghost use Rattle.reading.specs.Reading.{of_shape};
 
 // A reading: shape 0 regular, 1 seven pairs, 2 thirteen orphans. groups: the 4 - m codes in order, then 68 in each place that a meld takes.
 // A shape without a pair has pair 34; place 0 is the pair, i + 1 the group at i.
-#[derive(Drop)]
+#[derive(Clone, Copy)]
 pub struct Reading {
     pub shape: u8,
     pub pair: u8,

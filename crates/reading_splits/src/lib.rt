@@ -1,12 +1,13 @@
 // Whether a tally is a pair and groups (01, Readings; 02, S-9).
+#![tactic(auto)]
 ghost use Rattle.std.specs.Prelude.{◌≡◌, true, false, ◌↔◌, suc, ◌-◌, ◌≤◌, length, get_or};
 ghost use Rattle.reading_splits.specs.Splits.{Splits};
-ghost use Rattle.reading_splits.specs.search.SplitsInto.{lowest as lowestOf, splits_into};
+ghost use Rattle.reading_splits.specs.search.SplitsInto.{lowest as lowest_of, splits_into};
 
 // The lowest kind, not below `from`, that the tally has, or 34.
 fn lowest(t: &[u8; 34], from: u8) -> u8
     requires { (from ≤ 34) × (length t.now ≡ 34) }
-    ensures { (result ≡ lowestOf (34 - from) from t.now) × (result ≤ 34) }
+    ensures { (result ≡ lowest_of (34 - from) from t.now) × (result ≤ 34) }
 {
     let mut k = from;
     while k < 34 {
@@ -20,7 +21,7 @@ fn lowest(t: &[u8; 34], from: u8) -> u8
 
 // The tally is so many groups. The lowest tile, which is not below `from`, is in a triplet where there are three of it, else in a run.
 fn is_groups(t: [u8; 34], from: u8, pieces: usize) -> bool
-    requires { (from ≤ 34) × (lowestOf (34 - from) from t ≡ lowestOf 34 0 t) }
+    requires { (from ≤ 34) × (lowest_of (34 - from) from t ≡ lowest_of 34 0 t) }
     ensures { result ≡ splits_into pieces false t }
 {
     if pieces == 0 {

@@ -1,10 +1,11 @@
 // What a search for the readings of a tally tests and takes off it.
 // A tally is handed over whole, and each removal gives a new one.
+#![tactic(auto)]
 ghost use Rattle.std.specs.Prelude.{◌≡◌, true, false, ℕ, ◌+◌, ◌*◌, ◌<◌, ◌≤◌, length, get_or};
 ghost use Rattle.tiles.specs.Below.{sum};
 ghost use Rattle.tiles.specs.Groups.{is_group};
 ghost use Rattle.reading.specs.Reading.{holds as holds_of, is_seven_pairs, is_orphans};
-ghost use Rattle.reading.specs.search.Readings.{is_empty, less, fits as fits_of, without as withoutOf, passes as passesOf};
+ghost use Rattle.reading.specs.search.Readings.{is_empty, less, fits as fits_of, without as without_of, passes as passes_of};
 ghost use Rattle.reading.specs.search.Pairs.{OnlyPairs, weighed};
 
 // No tile is left.
@@ -49,7 +50,7 @@ pub fn fits(t: [u8; 34], code: u8) -> bool
 // The tally without the tiles of a group.
 pub fn without(t: [u8; 34], code: u8) -> [u8; 34]
     requires { fits_of t code ≡ true }
-    ensures { result ≡ withoutOf t code }
+    ensures { result ≡ without_of t code }
 {
     let mut u = t;
     if code < 34 {
@@ -67,7 +68,7 @@ pub fn without(t: [u8; 34], code: u8) -> [u8; 34]
 // Groups of later codes can still take what the tally has.
 pub fn passes(t: [u8; 34], code: u8) -> bool
     requires { code < 68 }
-    ensures { result ≡ passesOf t code }
+    ensures { result ≡ passes_of t code }
 {
     if code < 34 {
         let c = code as usize;
@@ -95,7 +96,7 @@ fn next_kind(t: &[u8; 34], k: usize) -> usize
 
 // The first code, from `code` on, whose lowest kind has a tile; 68 where no code below 68 has one. The codes passed over do not fit.
 pub fn next_code(t: &[u8; 34], code: u8) -> u8
-    ensures { (code ≤ result) × ((c : ℕ) → code ≤ c → c < result → (c < 68) × (fits_of t.now c ≡ false) × (passesOf t.now c ≡ true)) }
+    ensures { (code ≤ result) × ((c : ℕ) → code ≤ c → c < result → (c < 68) × (fits_of t.now c ≡ false) × (passes_of t.now c ≡ true)) }
 {
     if 68 <= code {
         return code;
@@ -127,14 +128,14 @@ fn wide(x: u8) -> u32
 }
 
 // Kinds that may be the pair: first, first + 3, .. up to last; none where last is below first.
-#[derive(Drop)]
+#[derive(Clone, Copy)]
 pub struct Pairs {
     pub first: u8,
     pub last: u8,
 }
 
 // The tiles of a suit, and their sum with the weights 9 to 1.
-#[derive(Drop)]
+#[derive(Clone, Copy)]
 struct Suit {
     tiles: u32,
     weight: u32,

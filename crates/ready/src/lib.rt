@@ -1,4 +1,5 @@
 // How far an unfinished hand is from ready (02, S-14): its tallies, the nearest ready tally, and that written out as tiles. It takes all input.
+#![tactic(auto)]
 ghost use Rattle.std.specs.Prelude.{◌≡◌, ◌≤◌, get_or};
 ghost use Rattle.tiles.specs.Below.{sum_below};
 ghost use Rattle.tiles.specs.Tally.{tally_of};
@@ -12,7 +13,7 @@ use hand::Held;
 
 // What the call gives: 0, the fewest swaps and a ready hand that many swaps away, its tiles in order and zeros after them; or the refusal and zeros.
 #[repr(C)]
-#[derive(Drop)]
+#[derive(Clone, Copy)]
 pub struct Ready {
     pub refusal: u8,
     pub swaps: u8,

@@ -1,6 +1,7 @@
 // A complete hand is made kind by kind: a state says what is begun and what is left to do, and each choice at a kind leads to another.
+#![tactic(auto)]
 ghost use Rattle.std.specs.Prelude.{◌≡◌, ℕ, ◌+◌, ◌-◌, ◌<◌, ◌≤◌, min};
-ghost use Rattle.ready_choices.specs.search.Moves.{choices as choicesOf, tetra as tetraOf, triangle as triangleOf};
+ghost use Rattle.ready_choices.specs.search.Moves.{choices as choices_of, tetra as tetra_of, triangle as triangle_of};
 ghost use Rattle.ready_choices.specs.search.Moves.{x_of, y_of, z_of, state as state_of, live as live_of};
 ghost use Rattle.ready_choices.specs.search.Made.{tries_of, Parted, takes, Makes, value_of};
 
@@ -11,7 +12,7 @@ const BEGUN: [u8; 35] = [
 ];
 
 // What the state of a regular hand has: runs begun at the kind before and at the one before that, groups and pairs left to begin.
-#[derive(Drop)]
+#[derive(Clone, Copy)]
 pub struct Begun {
     pub a: u8,
     pub b: u8,
@@ -20,7 +21,7 @@ pub struct Begun {
 }
 
 // What a choice does: whether it can be made, the state after it, and the tiles that it takes.
-#[derive(Drop)]
+#[derive(Clone, Copy)]
 pub struct Move {
     pub fine: bool,
     pub to: u8,
@@ -58,7 +59,7 @@ pub fn begun_in(s: u8) -> Begun
 // How many triples a, b, g have a sum under n.
 fn tetra(n: u8) -> u8
     requires { n ≤ 4 }
-    ensures { (result ≡ tetraOf n) × (result ≤ 20) }
+    ensures { (result ≡ tetra_of n) × (result ≤ 20) }
 {
     n * (n + 1) * (n + 2) / 6
 }
@@ -66,7 +67,7 @@ fn tetra(n: u8) -> u8
 // How many pairs a, b have a sum under n.
 fn triangle(n: u8) -> u8
     requires { n ≤ 4 }
-    ensures { (result ≡ triangleOf n) × (result ≤ 10) }
+    ensures { (result ≡ triangle_of n) × (result ≤ 10) }
 {
     n * (n + 1) / 2
 }
@@ -74,7 +75,7 @@ fn triangle(n: u8) -> u8
 // How many triples a, b, g have a sum under n - y. Every choice in a state takes it from the same two numbers, those of n.
 fn smaller(n: u8, y: u8) -> u8
     requires { (n ≤ 4) × (y ≤ n) × (y ≤ 1) }
-    ensures { (result ≡ tetraOf (n - y)) × (result ≤ 20) }
+    ensures { (result ≡ tetra_of (n - y)) × (result ≤ 20) }
 {
     if y == 0 {
         return tetra(n);
@@ -235,7 +236,7 @@ pub fn value(m: Move, later: u8, have: u8, room: u8) -> u8
 
 // The choices that begin g groups at most.
 fn choices(g: u8) -> u8
-    ensures { (result ≡ choicesOf g) × (result ≤ 10) }
+    ensures { (result ≡ choices_of g) × (result ≤ 10) }
 {
     if g == 0 {
         2

@@ -1,5 +1,6 @@
 // How far a tally is from ready: the complete hand that keeps most of its tiles, with one tile less. It is found kind by kind: a table of 35 rows
 // of 80 states has the most that can be kept from each state on, one row for each kind and one after the last.
+#![tactic(auto)]
 ghost use Rattle.std.specs.Prelude.{◌≡◌, true, ℕ, ◌+◌, ◌*◌, ◌<◌, ◌≤◌, max, length, get_or};
 ghost use Rattle.tiles.specs.Below.{sum_below};
 ghost use Rattle.ready_choices.specs.search.Tallies.{HandTally, MeldsTally, NearestTally};
@@ -26,7 +27,7 @@ const SEVEN_PAIRS: u8 = 77;
 const THIRTEEN_ORPHANS: u8 = 79;
 
 // The best choice: one more than the tiles kept from its kind on (0 for none), the state after it, and the tiles that it takes.
-#[derive(Drop)]
+#[derive(Clone, Copy)]
 pub struct Choice {
     pub value: u8,
     pub to: u8,
@@ -34,7 +35,7 @@ pub struct Choice {
 }
 
 // The fewest swaps, and a ready hand that many swaps away.
-#[derive(Drop)]
+#[derive(Clone, Copy)]
 pub struct Near {
     pub swaps: u8,
     pub hand: [u8; 34],

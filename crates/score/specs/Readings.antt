@@ -1,11 +1,11 @@
 -- The readings of a hand in document 01's order (02, S-4): the one list of them all.
 use Rattle.std.specs.Prelude.{List, ◌≡◌, ℕ, length}
-use Rattle.tiles.specs.laws.Tally.{length_tally}
+use Rattle.tiles.proofs.laws.Tally.{length_tally}
 use Rattle.hand.specs.declared.Hand.{Hand}
 use Rattle.hand.specs.Hand.{in_concealed, concealed_tally}
 use Rattle.reading.specs.declared.Reading.{Reading}
 use Rattle.reading.specs.All.{IsAll}
-use Rattle.reading.specs.Claims.{exactly_one_list}
+use Rattle.reading.proofs.Claims.{exactly_one_list}
 
 -- the list has every reading "of the concealed tiles with the winning tile" and nothing else, in "document 01's order"
 abbrev pub AreReadingsOf : Hand → List Reading → Type 0

@@ -3,7 +3,7 @@ use Rattle.std.specs.Prelude.{List, ℕ}
 use Rattle.tiles.specs.One.{ExactlyOne}
 use Rattle.score.specs.declared.Scored.{Scored}
 use Rattle.score.specs.IsScore.{IsScore}
-use Rattle.score.specs.laws.Exact as laws
+use Rattle.score.proofs.laws.Exact as laws
 
 -- there is an answer, and every answer is that one
 pub exactly_one : (s : List ℕ) (dealer wind : ℕ) → ExactlyOne (IsScore s dealer wind)

@@ -1,5 +1,6 @@
 // Score: a record, the dealer and the round wind give the best reading's h, fu with its items, yaku and four changes, and how many readings were
 // tried, or a refusal (01, Score; 02, S-3 and S-4).
+#![tactic(auto)]
 ghost use Rattle.std.specs.Prelude.{◌≡◌, false, cond, ◌-◌, ◌<◌, ◌≤◌, ltb, get_or};
 ghost use Rattle.hand.specs.Hand.{concealed_tally};
 ghost use Rattle.hand.specs.Refusals.{wrong_discarder};
@@ -23,7 +24,7 @@ use yaku::Won;
 // What Score gives: 0 and h, fu, the items that add up to it, the yaku set (yaku n at n), how many readings were tried and the four changes, or the
 // refusal and zeros.
 #[repr(C)]
-#[derive(Drop)]
+#[derive(Clone, Copy)]
 pub struct Scored {
     pub refusal: u8,
     pub h: Han,

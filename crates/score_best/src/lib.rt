@@ -1,9 +1,10 @@
 // What a reading of a hand is worth, beside what is the same in every one of them; and the better of two readings: what a search keeps, and a
 // reading held against it.
+#![tactic(auto)]
 ghost use Rattle.std.specs.Prelude.{◌≡◌, false, cond, ◌≤◌, eqb};
 ghost use Rattle.yaku.specs.Yaku.{is_yakuman, has_yaku};
-ghost use Rattle.score_best.specs.search.HandCommon.{joined as joinedOf, full_reading_in, worth_in, IsHandCommon, IsCommonIn};
-ghost use Rattle.score_best.specs.search.Best.{beats as beatsOf, counted as countedOf, none_of, keep_of, keep_better};
+ghost use Rattle.score_best.specs.search.HandCommon.{joined as joined_of, full_reading_in, worth_in, IsHandCommon, IsCommonIn};
+ghost use Rattle.score_best.specs.search.Best.{beats as beats_of, counted as counted_of, none_of, keep_of, keep_better};
 
 use points::Seats;
 use points_value::{Common, Value, Worth};
@@ -13,7 +14,7 @@ use yaku::{FullReading, Won};
 use yaku_tiles::TileTests;
 
 // What is the same in every reading: how the hand was won, the tests of its tiles, the seats, the dora's kind, the melds' groups and ways.
-#[derive(Drop)]
+#[derive(Clone, Copy)]
 pub struct HandCommon {
     pub won: Won,
     pub tests: TileTests,
@@ -26,7 +27,7 @@ pub struct HandCommon {
 // What the search keeps. `valued` says that a reading had a yaku; `value` and `reading` are the best of those. `done` says that the last reading had a
 // yakuman, which ends the search; `tried` is how many were tried. Where `wanted` is not 0, it is the number, from 1, of the reading to keep: then `valued`
 // says that it was reached, and nothing ends the search.
-#[derive(Drop)]
+#[derive(Clone, Copy)]
 pub struct Best {
     pub valued: bool,
     pub value: Value,
@@ -47,7 +48,7 @@ fn pick(g: u8, c: u8) -> u8
 
 // The groups of a reading and of the melds, in four places.
 fn joined(g: [u8; 4], c: [u8; 4]) -> [u8; 4]
-    ensures { result ≡ joinedOf g c }
+    ensures { result ≡ joined_of g c }
 {
     [
         pick(g[0], c[0]),
@@ -72,7 +73,7 @@ pub fn common_of(t: HandCommon, r: Reading) -> Common
 
 // The reading with the melds.
 fn full_reading(t: HandCommon, k: Common, r: Reading) -> FullReading
-    requires { (k.groups ≡ joinedOf r.groups t.codes) × (r.place ≤ 4) }
+    requires { (k.groups ≡ joined_of r.groups t.codes) × (r.place ≤ 4) }
     ensures { result ≡ full_reading_in t r }
 {
     let mw = t.ways;
@@ -103,7 +104,7 @@ fn worth_at(t: HandCommon, k: Common, r: Reading) -> Worth
 
 // The value v is above w: by gain, then h, then fu.
 fn beats(v: Value, w: Value) -> bool
-    ensures { result ≡ beatsOf v w }
+    ensures { result ≡ beats_of v w }
 {
     (w.gain.0 < v.gain.0)
         | ((v.gain.0 == w.gain.0)
@@ -137,7 +138,7 @@ pub fn none(wanted: u32) -> Best
 
 // One more is tried.
 fn counted(n: u32) -> u32
-    ensures { result ≡ countedOf n }
+    ensures { result ≡ counted_of n }
 {
     if n < 4294967295 { n + 1 } else { n }
 }

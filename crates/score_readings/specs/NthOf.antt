@@ -3,7 +3,7 @@ use Rattle.std.specs.Prelude.{List, ℕ}
 use Rattle.tiles.specs.One.{ExactlyOne}
 use Rattle.score_readings.specs.declared.NthReading.{NthReading}
 use Rattle.score_readings.specs.IsNth.{IsNth}
-use Rattle.score_readings.specs.laws.Exact as laws
+use Rattle.score_readings.proofs.laws.Exact as laws
 
 -- there is an answer, and every answer is that one
 pub exactly_one : (s : List ℕ) (dealer wind n : ℕ) → ExactlyOne (IsNth s dealer wind n)

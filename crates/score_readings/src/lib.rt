@@ -1,8 +1,9 @@
 // Every reading of a record's tiles, not only the one that Score reports: how many there are, and the n-th of them, from 1, in document 01's order,
 // with what it is worth.
+#![tactic(auto)]
 ghost use Rattle.std.specs.Prelude.{◌≡◌, false, cond, ◌<◌, ◌≤◌, length, get_or};
 ghost use Rattle.hand.specs.Refusals.{wrong_discarder};
-ghost use Rattle.points_value.specs.Han.{han as hanIs};
+ghost use Rattle.points_value.specs.Han.{han as han_is};
 ghost use Rattle.score_best.specs.search.HandCommon.{IsHandCommon};
 ghost use Rattle.score.specs.Readings.{readings_of};
 ghost use Rattle.score_readings.specs.Shown.{paid_of};
@@ -24,7 +25,7 @@ use units::{Fu, Han, Points};
 // each listed yaku (of yaku n at n); its shape, pair, groups and place as `Reading` has them; whether Score reports it; fu and its items; the yaku
 // set. Or the refusal, and all else zero.
 #[repr(C)]
-#[derive(Drop)]
+#[derive(Clone, Copy)]
 pub struct NthReading {
     pub count: u32,
     pub basic: Points,
@@ -46,14 +47,14 @@ pub struct NthReading {
 
 // How many readings there are, or the refusal and 0.
 #[repr(C)]
-#[derive(Drop)]
+#[derive(Clone, Copy)]
 pub struct ReadingCount {
     pub count: u32,
     pub refusal: u8,
 }
 
 // What a reading pays: A, the winner's gain and the four changes.
-#[derive(Drop)]
+#[derive(Clone, Copy)]
 pub struct Paid {
     pub basic: Points,
     pub gain: Points,
@@ -133,7 +134,7 @@ fn paid_of(v: Value, s: Seats, ron: bool) -> Paid
 // How many dora count: none with a yakuman.
 fn dora_in(t: HandCommon, yakuman: bool) -> Han
     requires { t.dora < 34 }
-    ensures { result ≡ hanIs (cond yakuman 0 (get_or t.won.tally t.dora 0)) }
+    ensures { result ≡ han_is (cond yakuman 0 (get_or t.won.tally t.dora 0)) }
 {
     if yakuman {
         return Han(0);

@@ -1,1 +1,3 @@
+-- laws  how the parts of a message are written
+pub mod laws
 pub mod Written

@@ -7,7 +7,7 @@ use native.Mathlib.Omega.{arith}
 use lib.ListN.{length, set, length-set}
 use Rattle.text.specs.Put.{Put}
 use Rattle.speech_told.specs.Phrases.{chosen}
-use Rattle.speech_phrases.specs.laws.Put.{put_first, put_chosen, put_passed}
+use Rattle.speech_phrases.proofs.laws.Put.{put_first, put_chosen, put_passed}
 
 module _ (first n : ℕ) (p : ℕ → Bool) (old : List ℕ) (at : ℕ) where
   pub record Written (buf : List ℕ) (e k : ℕ) : Type 0 where

@@ -1,2 +1,0 @@
--- laws  how the parts of a message are written
-pub mod laws

@@ -1,7 +1,8 @@
 // The parts of what the handset says, written one after the other into a buffer with room for the work (SPEECH, Messages).
+#![tactic(auto)]
 ghost use Rattle.std.specs.Prelude.{◌≡◌, [], ◌∷◌, ◌+◌, ◌≤◌, length};
 ghost use Rattle.text.specs.Put.{Put};
-ghost use Rattle.speech_told.specs.Phrases.{player as playerOf, yaku_clips, limit_clips, worth_clips, amount_clips, pays_clips, payments_clips, counted_clips};
+ghost use Rattle.speech_told.specs.Phrases.{player as player_of, yaku_clips, limit_clips, worth_clips, amount_clips, pays_clips, payments_clips, counted_clips};
 ghost use Rattle.speech_told.specs.Phrases.{score_clips, tile_clips};
 ghost use Rattle.speech_told.specs.Phrases.{is_limit, limit_clip};
 
@@ -19,7 +20,7 @@ pub fn put_clip(buf: &mut [u8], at: usize, clip: u8) -> usize
 // The clip of a player, by the seat's wind.
 pub fn player(dealer: u8, seat: u8) -> u8
     requires { seat ≤ 3 }
-    ensures { result ≡ playerOf dealer seat }
+    ensures { result ≡ player_of dealer seat }
 {
     60 + (seat + 4 - dealer % 4) % 4
 }

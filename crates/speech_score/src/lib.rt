@@ -1,5 +1,6 @@
 // What the handset says of a scored record and of a refusal (SPEECH, Messages and Calls): a list of clips at the start of a lent buffer. The public
 // calls take all input.
+#![tactic(auto)]
 ghost use Rattle.std.specs.Prelude.{◌≡◌, cond, ◌∷◌, ◌≤◌, ltb, pos, nat_abs, length, get_or};
 ghost use Rattle.text.specs.Put.{Put};
 ghost use Rattle.speech_told.specs.Phrases.{yaku_clips};
@@ -11,7 +12,7 @@ use score::Scored;
 
 // What a call gives: 0 and how many clips, or the refusal and 0; two numbers of 16 bits, so that there is no padding.
 #[repr(C)]
-#[derive(Drop)]
+#[derive(Clone, Copy)]
 pub struct Said {
     pub refusal: u16,
     pub len: u16,

@@ -1,4 +1,5 @@
 // Reads a log of up to 65,536 bytes from standard input and prints a line for every entry (01, Log).
+#![tactic(auto)]
 use libc::STDIN_FILENO;
 
 fn main() {

@@ -1,4 +1,5 @@
 // Numbers as text and a line of `tally` (01, Log). `line` takes all input.
+#![tactic(auto)]
 ghost use Rattle.std.specs.Prelude.{◌≡◌, [], ◌∷◌, ◌++◌, ◌+◌, ◌≤◌, length, nat_abs};
 ghost use Rattle.text.specs.Text.{digits_of, signed_of, line_of, length_in, buffer_with, scores_text};
 ghost use Rattle.text.specs.Put.{Put};

@@ -3,12 +3,8 @@
 -- Kinds   the 34 kinds of tile and the sorts that the rules name
 -- Groups  runs and triplets by their codes
 -- Tally   how many of each kind there are
--- Claims  the dora of each kind, written out
--- laws    what is proved of them; a reader of the meaning needs none of it
 pub mod Below
 pub mod One
 pub mod Kinds
 pub mod Groups
 pub mod Tally
-pub mod Claims
-pub mod laws

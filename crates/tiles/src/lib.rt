@@ -1,6 +1,7 @@
 // The 34 kinds of tile: tests of a kind, the dora, and tallies of how many there are of each. A test takes any number.
+#![tactic(auto)]
 ghost use Rattle.std.specs.Prelude.{◌≡◌, ◌<◌, ◌≤◌, ◌+◌, get_or};
-ghost use Rattle.tiles.specs.Tally.{more as moreOf};
+ghost use Rattle.tiles.specs.Tally.{more as more_of};
 ghost use Rattle.tiles.specs.Kinds.{is_yaochu, is_run_start, dora_of};
 
 // A terminal or an honour.
@@ -36,7 +37,7 @@ pub fn dora(k: u8) -> u8
 // A tally with n more tiles of kind k; the same tally where k is no kind.
 pub fn add(t: [u8; 34], k: u8, n: u8) -> [u8; 34]
     requires { get_or t k 0 + n ≤ 255 }
-    ensures { result ≡ moreOf t k n }
+    ensures { result ≡ more_of t k n }
 {
     let mut u = t;
     let i = k as usize;

@@ -1,4 +1,5 @@
 // The reader of an unfinished hand (02, S-1 and S-14): m melds and 13 - 3m tiles. It takes all input.
+#![tactic(auto)]
 ghost use Rattle.std.specs.Prelude.{◌≡◌, ◌≤◌, length};
 ghost use Rattle.bits.specs.Bits.{bits_of};
 ghost use Rattle.hand_record.specs.search.Offsets.{held_in, padding_after};
@@ -13,7 +14,7 @@ pub const LENGTHS: [usize; 5] = [11, 9, 8, 7, 6];
 pub const PADS: [usize; 5] = [7, 1, 3, 5, 7];
 
 // What the reader gives: 0 and the tiles held, or the refusal and none.
-#[derive(Drop)]
+#[derive(Clone, Copy)]
 pub struct Unfinished {
     pub refusal: u8,
     pub held: Held,

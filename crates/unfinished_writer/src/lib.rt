@@ -1,8 +1,9 @@
 // The writers of an unfinished hand (02, S-1): from the tiles held, and from a record without its winning tile. They take all input.
+#![tactic(auto)]
 ghost use Rattle.std.specs.Prelude.{◌≡◌, ◌≤◌};
-ghost use Rattle.bits.specs.Bits.{pack as packBits, fill};
+ghost use Rattle.bits.specs.Bits.{pack as pack_bits, fill};
 ghost use Rattle.unfinished.specs.Unfinished.{widths};
-ghost use Rattle.unfinished_writer.specs.Write.{values_of, unwritable as unwritableOf, refusal_after, written_by, buffer_by, written_of, buffer_of};
+ghost use Rattle.unfinished_writer.specs.Write.{values_of, unwritable as unwritable_of, refusal_after, written_by, buffer_by, written_of, buffer_of};
 ghost use Rattle.unfinished_writer.specs.Write.{written_from, buffer_from};
 
 use hand::Held;
@@ -10,7 +11,7 @@ use hand_record::Written;
 
 // What the writer refuses of the tiles held before it looks at the buffer: 2 to 4, or 0.
 fn unwritable(x: Held) -> u8
-    ensures { result ≡ unwritableOf x }
+    ensures { result ≡ unwritable_of x }
 {
     if (4 < x.m) | hand_refusals::unused_not_zero(x) {
         2
@@ -22,7 +23,7 @@ fn unwritable(x: Held) -> u8
 // The bits of an unfinished hand, with zeros after them.
 fn pack(x: Held) -> [u8; 88]
     requires { x.m ≤ 4 }
-    ensures { result ≡ fill 88 (packBits (widths x.m) (values_of x)) }
+    ensures { result ≡ fill 88 (pack_bits (widths x.m) (values_of x)) }
 {
     let m = x.m;
     let mut b = [0u8; 88];

@@ -1,19 +1,20 @@
 // "Han, fu and points are the rules' three units, and a figure in one is never passed where another belongs" (01, Fu and points).
+#![tactic(auto)]
 ghost use Rattle.std.specs.Prelude.{◌≡◌, ◌<◌};
 
 // Han: of a yaku, of the dora, and their sum h.
 #[repr(C)]
-#[derive(Drop)]
+#[derive(Clone, Copy)]
 pub struct Han(pub u16);
 
 // Fu: of an item, and the sum of the items.
 #[repr(C)]
-#[derive(Drop)]
+#[derive(Clone, Copy)]
 pub struct Fu(pub u8);
 
 // Points: the basic points A, a payment, the winner's gain.
 #[repr(C)]
-#[derive(Drop)]
+#[derive(Clone, Copy)]
 pub struct Points(pub u32);
 
 // A count as han.

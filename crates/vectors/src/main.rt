@@ -1,6 +1,7 @@
 // Holds Score against another scorer: reads hands with that one's answers and says how many agree, with the number of each that differs.
 // An entry is 54 bytes: the record's length, 16 bytes of it, dealer, wind, refusal, h, fu, the yaku set (yaku n is bit n % 8 of byte 22 + n / 8),
 // how many readings are tried, four changes of 4 bytes from the least significant on, and the ten items of fu.
+#![tactic(auto)]
 ghost use Rattle.std.specs.Prelude.{◌≡◌, ◌+◌, ◌<◌, ◌≤◌, length};
 
 use libc::{STDIN_FILENO, STDOUT_FILENO};

@@ -3,7 +3,7 @@ use Rattle.std.specs.Prelude.{List, ℕ}
 use Rattle.tiles.specs.One.{ExactlyOne}
 use Rattle.waits.specs.declared.Waits.{Waits}
 use Rattle.waits.specs.Waits.{IsWaits}
-use Rattle.waits.specs.laws.Exact as laws
+use Rattle.waits.proofs.laws.Exact as laws
 
 -- there is an answer, and every answer is that one
 pub exactly_one : (s discards : List ℕ) → ExactlyOne (IsWaits s discards)

@@ -1,8 +1,6 @@
 -- Waits   what an unfinished hand waits for, and what the call answers
 -- Answer  there is exactly one answer
 -- search  how the code finds the waits
--- laws    what they stand on, and a worked hand
 pub mod Waits
 pub mod search
-pub mod laws
 pub mod Answer

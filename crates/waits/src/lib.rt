@@ -1,4 +1,5 @@
 // What an unfinished hand waits for, and whether it is in furiten (02, S-1).
+#![tactic(auto)]
 ghost use Rattle.std.specs.Prelude.{◌≡◌, ◌&&◌, true, false, cond, ℕ, suc, ◌-◌, ◌<◌, ◌≤◌, ltb, length, get_or};
 ghost use Rattle.tiles.specs.Tally.{more};
 ghost use Rattle.waits.specs.Waits.{refused_with, IsWaits};
@@ -11,7 +12,7 @@ use hand::Held;
 
 // What the call gives: 0, the set of waits and furiten; or the refusal, no wait and no furiten.
 #[repr(C)]
-#[derive(Drop)]
+#[derive(Clone, Copy)]
 pub struct Waits {
     pub refusal: u8,
     pub waits: [bool; 34],

@@ -1,4 +1,5 @@
 // The 36 yaku of a reading, and which of them are listed.
+#![tactic(auto)]
 ghost use Rattle.std.specs.Prelude.{◌≡◌, ◌<◌, ◌≤◌};
 ghost use Rattle.yaku_basics.specs.Tests.{concealed, kans};
 ghost use Rattle.yaku_tiles.specs.search.TileTests.{tile_tests_of};
@@ -10,7 +11,7 @@ use yaku_tiles::TileTests;
 
 // What is the same in every reading of a hand. The tally has all tiles, kans whole; round and own are kinds of wind;
 // meldless says that no meld is held.
-#[derive(Drop)]
+#[derive(Clone, Copy)]
 pub struct Won {
     pub tally: [u8; 34],
     pub win: u8,
@@ -26,7 +27,7 @@ pub struct Won {
 // A reading with its melds. Shape 0 is regular, 1 seven pairs, 2 thirteen orphans. The four groups are the reading's in its
 // order and then the melds; a way is 0 concealed, 1 open, 2 an open kan, 3 a closed kan. Where there is none, the pair is 34
 // and a group 68.
-#[derive(Drop)]
+#[derive(Clone, Copy)]
 pub struct FullReading {
     pub shape: u8,
     pub pair: u8,
@@ -37,7 +38,7 @@ pub struct FullReading {
 
 // What the pair and the groups say, the same at each place of the winning tile. `yaku` has the tests; those that go by the place or the ways are false.
 // `yakuman` and `any` say what is among them, `values` is the han of yaku 3, `runs` yaku 4 but for the place, `value` that the pair is a value tile.
-#[derive(Drop)]
+#[derive(Clone, Copy)]
 pub struct GroupTests {
     pub yaku: [bool; 37],
     pub yakuman: bool,
@@ -49,7 +50,7 @@ pub struct GroupTests {
 
 // What the place of the winning tile says, and the ways with it: whether the wait earns fu; yaku 4; how many triplets are concealed and how many
 // groups are kans; and whether a yakuman, or any yaku, is among all tests.
-#[derive(Drop)]
+#[derive(Clone, Copy)]
 pub struct PlaceTests {
     pub wait: bool,
     pub pinfu: bool,

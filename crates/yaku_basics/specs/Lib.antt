@@ -1,8 +1,6 @@
 -- Melds   the groups that a hand's melds are, and their ways
 -- Tests   what the yaku and fu ask of the four groups and the pair
 -- search  the ways of four places as the code has them
--- laws    what is proved of them; a reader of the meaning needs neither search nor laws
 pub mod Melds
 pub mod Tests
 pub mod search
-pub mod laws

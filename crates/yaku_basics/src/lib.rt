@@ -1,10 +1,11 @@
 // The groups of a hand with its melds, and what yaku and fu both ask of them: value tiles, waits, pinfu. The codes may be any.
+#![tactic(auto)]
 ghost use Rattle.std.specs.Prelude.{◌≡◌, ◌&&◌, not, cond, ◌<◌, ◌≤◌, ◌-◌, ◌%◌, get_or};
 ghost use Rattle.tiles.specs.Below.{all};
 ghost use Rattle.tiles.specs.Groups.{is_run};
 ghost use Rattle.yaku_basics.specs.Melds.{meld_code, meld_way};
 ghost use Rattle.yaku_basics.specs.search.Ways.{ways_at};
-ghost use Rattle.yaku_basics.specs.Tests.{has as has_of, is_value, dragons as dragonsOf, little_dragons, value_han, earns_wait};
+ghost use Rattle.yaku_basics.specs.Tests.{has as has_of, is_value, dragons as dragons_of, little_dragons, value_han, earns_wait};
 
 use units::Han;
 
@@ -72,7 +73,7 @@ pub fn is_value(round: u8, own: u8, k: u8) -> bool
 
 // How many dragon triplets there are.
 pub fn dragons(g: [u8; 4]) -> u8
-    ensures value { result ≡ dragonsOf g }
+    ensures value { result ≡ dragons_of g }
     ensures upper_bound { result ≤ 3 }
 {
     one_has(g, 65) + one_has(g, 66) + one_has(g, 67)

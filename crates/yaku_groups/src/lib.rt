@@ -1,10 +1,11 @@
 // What the yaku ask of the four groups: twin runs, the same group in three suits, straight; and of each group, whatever the codes: outside,
 // triplets, kans, winds.
+#![tactic(auto)]
 ghost use Rattle.std.specs.Prelude.{◌≡◌, ◌&&◌, cond, ◌+◌, ◌≤◌, ◌%◌, ltb, leb, get_or};
 ghost use Rattle.tiles.specs.Below.{all, any};
 ghost use Rattle.tiles.specs.Groups.{is_run};
-ghost use Rattle.yaku_basics.specs.Tests.{has as has_of, twins as twinsOf, in_three_suits, straight as straightOf, winds as windsOf};
-ghost use Rattle.yaku_basics.specs.Tests.{has_yaochu as hasYaochuOf, outside as outsideOf, triplets as tripletsOf, is_concealed, concealed as concealedOf, kans as kansOf, four_winds};
+ghost use Rattle.yaku_basics.specs.Tests.{has as has_of, twins as twins_of, in_three_suits, straight as straight_of, winds as winds_of};
+ghost use Rattle.yaku_basics.specs.Tests.{has_yaochu as has_yaochu_of, outside as outside_of, triplets as triplets_of, is_concealed, concealed as concealed_of, kans as kans_of, four_winds};
 ghost use Rattle.yaku_basics.specs.search.Ways.{ways_at};
 
 use yaku_basics::{has, one, one_has};
@@ -21,7 +22,7 @@ fn after_odd(c: u8, n: u8) -> u8
 
 // How many twin runs: the second and the fourth of equal runs make one.
 pub fn twins(g: [u8; 4]) -> u8
-    ensures { result ≡ twinsOf g }
+    ensures { result ≡ twins_of g }
 {
     let a = g[0];
     let b = g[1];
@@ -72,7 +73,7 @@ fn straight_from(g: [u8; 4], c: u8) -> bool
 
 // Yaku 14: 123 456 789 of a suit.
 pub fn straight(g: [u8; 4]) -> bool
-    ensures { result ≡ straightOf g }
+    ensures { result ≡ straight_of g }
 {
     straight_from(g, 0) | straight_from(g, 9) | straight_from(g, 18)
 }
@@ -81,7 +82,7 @@ pub fn straight(g: [u8; 4]) -> bool
 
 // The group has a yaochu.
 fn has_yaochu(c: u8) -> bool
-    ensures { result ≡ hasYaochuOf c }
+    ensures { result ≡ has_yaochu_of c }
 {
     if c < 34 {
         (c % 9 == 0) | (c % 9 == 6)
@@ -92,7 +93,7 @@ fn has_yaochu(c: u8) -> bool
 
 // Each of the four groups has a yaochu.
 fn all_have_yaochu(g: [u8; 4]) -> bool
-    ensures { result ≡ all 4 (λ i. hasYaochuOf (get_or g i 0)) }
+    ensures { result ≡ all 4 (λ i. has_yaochu_of (get_or g i 0)) }
 {
     has_yaochu(g[0]) & has_yaochu(g[1]) & has_yaochu(g[2]) & has_yaochu(g[3])
 }
@@ -106,7 +107,7 @@ fn has_run(g: [u8; 4]) -> bool
 
 // Yaku 15 and 22 but for the honour: yaochu in every group and the pair, a run among them.
 pub fn outside(g: [u8; 4], pair: u8) -> bool
-    ensures { result ≡ outsideOf g pair }
+    ensures { result ≡ outside_of g pair }
 {
     if tiles::is_yaochu(pair) & has_run(g) {
         all_have_yaochu(g)
@@ -117,7 +118,7 @@ pub fn outside(g: [u8; 4], pair: u8) -> bool
 
 // Yaku 17: four triplets.
 pub fn triplets(g: [u8; 4]) -> bool
-    ensures { result ≡ tripletsOf g }
+    ensures { result ≡ triplets_of g }
 {
     let a = g[0];
     let b = g[1];
@@ -139,7 +140,7 @@ fn is_concealed(c: u8, way: u8) -> u8
 
 // Yaku 18 and 30: how many triplets are concealed.
 pub fn concealed(g: [u8; 4], ways: [u8; 4]) -> u8
-    ensures { result ≡ concealedOf g ways }
+    ensures { result ≡ concealed_of g ways }
 {
     is_concealed(g[0], ways[0])
         + is_concealed(g[1], ways[1])
@@ -149,8 +150,8 @@ pub fn concealed(g: [u8; 4], ways: [u8; 4]) -> u8
 
 // How many of `all` concealed triplets stay concealed. The winning tile completes the pair (place 0) or a group; by ron that group is open.
 pub fn concealed_at(all: u8, g: [u8; 4], ways: [u8; 4], ron: bool, place: u8) -> u8
-    requires { (all ≡ concealedOf g ways) × (place ≤ 4) }
-    ensures { result ≡ concealedOf g (ways_at ways ron place) }
+    requires { (all ≡ concealed_of g ways) × (place ≤ 4) }
+    ensures { result ≡ concealed_of g (ways_at ways ron place) }
 {
     if ron & (0 < place) {
         let i = (place - 1) as usize;
@@ -162,8 +163,8 @@ pub fn concealed_at(all: u8, g: [u8; 4], ways: [u8; 4], ron: bool, place: u8) ->
 
 // How many of `all` kans there are, where a group that the winning tile completes by ron is none.
 pub fn kans_at(all: u8, ways: [u8; 4], ron: bool, place: u8) -> u8
-    requires { (all ≡ kansOf ways) × (place ≤ 4) }
-    ensures { result ≡ kansOf (ways_at ways ron place) }
+    requires { (all ≡ kans_of ways) × (place ≤ 4) }
+    ensures { result ≡ kans_of (ways_at ways ron place) }
 {
     if ron & (0 < place) {
         let i = (place - 1) as usize;
@@ -175,14 +176,14 @@ pub fn kans_at(all: u8, ways: [u8; 4], ron: bool, place: u8) -> u8
 
 // Yaku 19 and 31: how many kans there are.
 pub fn kans(ways: [u8; 4]) -> u8
-    ensures { result ≡ kansOf ways }
+    ensures { result ≡ kans_of ways }
 {
     one(2 <= ways[0]) + one(2 <= ways[1]) + one(2 <= ways[2]) + one(2 <= ways[3])
 }
 
 // How many wind triplets there are.
 fn winds(g: [u8; 4]) -> u8
-    ensures { result ≡ windsOf g }
+    ensures { result ≡ winds_of g }
 {
     one_has(g, 61) + one_has(g, 62) + one_has(g, 63) + one_has(g, 64)
 }

@@ -1,12 +1,13 @@
 // The yaku that go by the tiles alone. Nine sorts of kinds are told apart, and one pass over the tally says which of them are there.
+#![tactic(auto)]
 ghost use Rattle.std.specs.Prelude.{◌≡◌, ◌<◌};
 ghost use Rattle.yaku_tiles.specs.search.TileTests.{tile_tests_of};
 ghost use Rattle.yaku_tiles.specs.search.Sorts.{sorts_in, within};
 ghost use Rattle.tiles.specs.Kinds.{in_suit};
-ghost use Rattle.yaku_tiles.specs.OfTiles.{only as onlyOf, gates_of, gates as gatesIs};
+ghost use Rattle.yaku_tiles.specs.OfTiles.{only as only_of, gates_of, gates as gates_is};
 
 // What the tiles alone say, the same in every reading of a hand.
-#[derive(Drop)]
+#[derive(Clone, Copy)]
 pub struct TileTests {
     pub simples: bool,
     pub yaochus: bool,
@@ -101,8 +102,8 @@ fn gates_of(t: [u8; 34], s: usize) -> bool
 
 // Yaku 35: no meld, one suit's 1112345678999 and one more of it; man, pin and sou say of which suit all tiles are.
 fn gates(t: [u8; 34], meldless: bool, man: bool, pin: bool, sou: bool) -> bool
-    requires { (man ≡ onlyOf t (in_suit 0)) × (pin ≡ onlyOf t (in_suit 1)) × (sou ≡ onlyOf t (in_suit 2)) }
-    ensures { result ≡ gatesIs t meldless }
+    requires { (man ≡ only_of t (in_suit 0)) × (pin ≡ only_of t (in_suit 1)) × (sou ≡ only_of t (in_suit 2)) }
+    ensures { result ≡ gates_is t meldless }
 {
     if !(meldless & (man | pin | sou)) {
         return false;

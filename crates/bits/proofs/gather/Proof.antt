@@ -6,7 +6,7 @@ use native.Mathlib.Omega.{arith}
 use lib.ListN.{take, drop, get_or}
 use lib.Pow.{pow_pos}
 use Rattle.bits.specs.Bits.{val}
-use Rattle.bits.specs.laws.Pack.{gather_step, grow}
+use Rattle.bits.proofs.laws.Pack.{gather_step, grow}
 use Rattle.bits.proofs.gather.Statement.{statement}
 use Rattle.bits.proofs.gather.Tie as tie
 

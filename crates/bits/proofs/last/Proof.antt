@@ -4,7 +4,7 @@ use Prim.Native.Nat.{◌-◌, ◌^◌, ◌≤◌}
 use native.Mathlib.Omega.{arith}
 use lib.ListN.{length}
 use lib.Pow.{pow_mono}
-use Rattle.bits.specs.laws.Bytes.{last_of}
+use Rattle.bits.proofs.laws.Bytes.{last_of}
 use Rattle.bits.proofs.last.Statement.{statement}
 use Rattle.bits.proofs.last.Tie as tie
 

@@ -1,6 +1,6 @@
 -- `bits::long_field` meets its contract: its bits lie in three bytes.
 use borrow.Author.Rules.{rules}
-use Rattle.bits.specs.laws.Bytes.{long_of}
+use Rattle.bits.proofs.laws.Bytes.{long_of}
 use Rattle.bits.proofs.long_field.Statement.{statement}
 use Rattle.bits.proofs.long_field.Tie as tie
 

@@ -7,7 +7,7 @@ use native.Mathlib.Omega.{arith}
 use lib.ListN.{length, drop, get_or, drop_of_length-le}
 use lib.Seq.{sets, length-sets}
 use Rattle.bits.specs.Bits.{digits, pack, width_of}
-use Rattle.bits.specs.laws.Pack.{pack_step, Turn, turn}
+use Rattle.bits.proofs.laws.Pack.{pack_step, Turn, turn}
 use Rattle.bits.proofs.pack_into.Statement.{statement}
 use Rattle.bits.proofs.pack_into.Tie as tie
 

@@ -6,7 +6,7 @@ use native.Mathlib.Omega.{arith}
 use lib.ListN.{length, length-set}
 use lib.Seq.{sets}
 use Rattle.bits.specs.Bits.{digits}
-use Rattle.bits.specs.laws.Pack.{put_step}
+use Rattle.bits.proofs.laws.Pack.{put_step}
 use Rattle.bits.proofs.put.Statement.{statement}
 use Rattle.bits.proofs.put.Tie as tie
 

@@ -9,7 +9,7 @@ use borrow.Author.Tests.{leb-true}
 use lib.ListN.{length, drop, replicate, length-set}
 use lib.Seq.{sets}
 use Rattle.bits.specs.Bits.{unpack, bits_of}
-use Rattle.bits.specs.laws.Bytes.{run_turn, run_step, run_turns, run_three}
+use Rattle.bits.proofs.laws.Bytes.{run_turn, run_step, run_turns, run_three}
 use Rattle.bits.proofs.run_into.Statement.{statement}
 use Rattle.bits.proofs.run_into.Tie as tie
 

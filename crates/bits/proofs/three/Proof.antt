@@ -3,7 +3,7 @@ use borrow.Author.Rules.{rules}
 use Prim.Native.Nat.{◌^◌, ◌≤◌}
 use native.Mathlib.Omega.{arith}
 use lib.Pow.{pow_mono}
-use Rattle.bits.specs.laws.Bytes.{three_of_lem}
+use Rattle.bits.proofs.laws.Bytes.{three_of_lem}
 use Rattle.bits.proofs.three.Statement.{statement}
 use Rattle.bits.proofs.three.Tie as tie
 

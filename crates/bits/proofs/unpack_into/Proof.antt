@@ -7,7 +7,7 @@ use native.Mathlib.Omega.{arith}
 use lib.ListN.{length, drop, length-set, drop_of_length-le}
 use lib.Seq.{sets}
 use Rattle.bits.specs.Bits.{unpack, width_of}
-use Rattle.bits.specs.laws.Pack.{unpack_step, Turn, turn}
+use Rattle.bits.proofs.laws.Pack.{unpack_step, Turn, turn}
 use Rattle.bits.proofs.unpack_into.Statement.{statement}
 use Rattle.bits.proofs.unpack_into.Tie as tie
 

@@ -5,7 +5,7 @@ use Prim.Native.Nat.{ℕ, ◌+◌, ◌-◌, ◌≤◌, ◌<◌}
 use native.Mathlib.Omega.{arith}
 use borrow.Author.Rules.{rules}
 use Rattle.card_writer.specs.search.Written.{counted}
-use Rattle.card_writer.specs.laws.Count.{counted_one, counted_none, counted_end, counted_few, left_with, left_skip}
+use Rattle.card_writer.proofs.laws.Count.{counted_one, counted_none, counted_end, counted_few, left_with, left_skip}
 use borrow.Fn.Kinds.{In}
 use borrow.Fn.PlainCycle.{Measures, is, falls, and}
 use Rattle.card_writer.proofs.count.Reads as count

@@ -8,8 +8,8 @@ use borrow.Author.Rules.{rules}
 use lib.ListN.{length, get_or, set, take}
 use Rattle.tiles.specs.Tally.{more}
 use Rattle.card_writer.specs.search.Written.{written}
-use Rattle.card_writer.specs.laws.Put.{Left, left_all, left_same, left_put, left_room, put_done, leaf_room, put_leaf, put_over, written_end}
-use Rattle.card_writer.specs.laws.Put.{written_skip, turn_with}
+use Rattle.card_writer.proofs.laws.Put.{Left, left_all, left_same, left_put, left_room, put_done, leaf_room, put_leaf, put_over, written_end}
+use Rattle.card_writer.proofs.laws.Put.{written_skip, turn_with}
 use borrow.Fn.Kinds.{In}
 use borrow.Fn.PlainCycle.{Measures, is, falls, and}
 use Rattle.card_writer.proofs.draw.Reads as draw

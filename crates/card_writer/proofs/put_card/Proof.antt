@@ -6,7 +6,7 @@ use native.Mathlib.Omega.{arith}
 use borrow.Author.Rules.{rules}
 use lib.ListN.{length, take, length-set}
 use lib.Seq.{sets, slice}
-use Rattle.card_writer.specs.laws.Put.{slice_turn, put_through}
+use Rattle.card_writer.proofs.laws.Put.{slice_turn, put_through}
 use Rattle.card_writer.proofs.put_card.Statement.{statement}
 use Rattle.card_writer.proofs.put_card.Tie as tie
 

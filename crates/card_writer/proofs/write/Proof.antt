@@ -7,10 +7,10 @@ use borrow.Author.Rules.{rules}
 use borrow.Author.Tests.{not-true, not-false}
 use lib.ListN.{length, take, replicate}
 use Rattle.cards.specs.CardList.{cards_of}
-use Rattle.card_counts.specs.laws.Count.{whole}
+use Rattle.card_counts.proofs.laws.Count.{whole}
 use Rattle.card_writer.specs.search.Written.{written}
-use Rattle.card_writer.specs.laws.Count.{counted_few}
-use Rattle.card_writer.specs.laws.Call.{Known, known, count_all, kept_suit, kept_size, kept_short, all_drawn, put_all}
+use Rattle.card_writer.proofs.laws.Count.{counted_few}
+use Rattle.card_writer.proofs.laws.Call.{Known, known, count_all, kept_suit, kept_size, kept_short, all_drawn, put_all}
 use Rattle.card_writer.proofs.write.Statement.{statement}
 use Rattle.card_writer.proofs.write.Tie as tie
 

@@ -10,7 +10,7 @@ use lib.Dec.{leb}
 use lib.ListN.{length, get_or, take, drop}
 use Rattle.tiles.specs.Groups.{is_group}
 use Rattle.claim.specs.search.Claimed.{ascends}
-use Rattle.claim.specs.laws.Bits.{ascends_turn, ascends_done}
+use Rattle.claim.proofs.laws.Bits.{ascends_turn, ascends_done}
 use Rattle.claim.proofs.ascend.Statement.{statement}
 use Rattle.claim.proofs.ascend.Tie as tie
 

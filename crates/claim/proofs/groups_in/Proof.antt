@@ -1,7 +1,7 @@
 -- `claim::groups_in` meets its contract: a run of 4 - m widths of 7, then what was there.
 use borrow.Author.Rules.{rules}
 use Rattle.bits.specs.Bits.{bits_of}
-use Rattle.claim.specs.laws.Bits.{groups_stored}
+use Rattle.claim.proofs.laws.Bits.{groups_stored}
 use Rattle.claim.proofs.groups_in.Statement.{statement}
 use Rattle.claim.proofs.groups_in.Tie as tie
 

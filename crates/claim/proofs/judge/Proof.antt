@@ -3,12 +3,12 @@ use borrow.Author.Rules.{rules}
 use mathlib.Core.Path.{◌∙◌}
 use borrow.Author.Tests.{ltb-false, not-true, not-false}
 use lib.Dec.{ltb}
-use Rattle.tiles.specs.laws.Below.{or_both}
-use Rattle.hand_record.specs.laws.Bounds.{hand_bounds}
-use Rattle.claim.specs.laws.Names.{formed_of}
-use Rattle.claim.specs.laws.Exact.{sound_names}
-use Rattle.claim.specs.laws.Found.{found_eight, found_refused, found_faulty, found_verdict}
-use Rattle.claim.specs.laws.Judged.{both}
+use Rattle.tiles.proofs.laws.Below.{or_both}
+use Rattle.hand_record.proofs.laws.Bounds.{hand_bounds}
+use Rattle.claim.proofs.laws.Names.{formed_of}
+use Rattle.claim.proofs.laws.Exact.{sound_names}
+use Rattle.claim.proofs.laws.Found.{found_eight, found_refused, found_faulty, found_verdict}
+use Rattle.claim.proofs.laws.Judged.{both}
 use Rattle.claim.proofs.judge.Statement.{statement}
 use Rattle.claim.proofs.judge.Tie as tie
 

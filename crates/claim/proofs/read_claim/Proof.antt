@@ -7,10 +7,10 @@ use native.Mathlib.Omega.{arith}
 use borrow.Author.Tests.{eqb-true, eqb-false, not-false}
 use lib.Dec.{eqb}
 use lib.ListN.{length}
-use Rattle.tiles.specs.laws.Below.{or_both}
+use Rattle.tiles.proofs.laws.Below.{or_both}
 use Rattle.bits.specs.Bits.{bits_of}
 use Rattle.claim.specs.search.Claimed.{claimed_in}
-use Rattle.claim.specs.laws.Claimed.{far_length, length_0, three_bytes}
+use Rattle.claim.proofs.laws.Claimed.{far_length, length_0, three_bytes}
 use Rattle.claim.proofs.read_claim.Statement.{statement}
 use Rattle.claim.proofs.read_claim.Tie as tie
 

@@ -6,7 +6,7 @@ use native.Mathlib.Omega.{arith}
 use lib.ListN.{length}
 use Rattle.bits.specs.Bits.{bits_of}
 use Rattle.claim.specs.search.Claimed.{pad_of}
-use Rattle.claim.specs.laws.Claimed.{filled, regular_faulty, regular_sound}
+use Rattle.claim.proofs.laws.Claimed.{filled, regular_faulty, regular_sound}
 use Rattle.claim.proofs.regular_in.Statement.{statement}
 use Rattle.claim.proofs.regular_in.Tie as tie
 

@@ -3,7 +3,7 @@ use borrow.Author.Rules.{rules}
 use mathlib.Core.Path.{◌∙◌}
 use borrow.Author.Tests.{lt-ltb, le-ltb}
 use Rattle.bits.specs.Bits.{bits_of}
-use Rattle.claim.specs.laws.Claimed.{shape_faulty, shape_sound}
+use Rattle.claim.proofs.laws.Claimed.{shape_faulty, shape_sound}
 use Rattle.claim.proofs.shape_in.Statement.{statement}
 use Rattle.claim.proofs.shape_in.Tie as tie
 

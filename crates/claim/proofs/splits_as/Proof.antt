@@ -8,9 +8,9 @@ use native.Mathlib.Omega.{arith}
 use borrow.Author.Tests.{not-true, not-false}
 use lib.ListN.{length, get_or, take, drop}
 use Rattle.reading.specs.search.Readings.{is_empty, fits, without}
-use Rattle.reading.specs.laws.Groups.{without_long}
+use Rattle.reading.proofs.laws.Groups.{without_long}
 use Rattle.claim.specs.search.Verdict.{strip}
-use Rattle.claim.specs.laws.Reads.{strip_turn, strip_done}
+use Rattle.claim.proofs.laws.Reads.{strip_turn, strip_done}
 use Rattle.claim.proofs.splits_as.Statement.{statement}
 use Rattle.claim.proofs.splits_as.Tie as tie
 

@@ -15,13 +15,13 @@ use Rattle.score_best.specs.declared.HandCommon.{HandCommon}
 use Rattle.score_best.specs.declared.Best.{Best}
 use Rattle.score_best.specs.search.HandCommon.{worth_in}
 use Rattle.score_best.specs.search.Best.{none_of, keep_better_by, keep_better, search_for}
-use Rattle.score_best.specs.laws.Keep.{none_going}
+use Rattle.score_best.proofs.laws.Keep.{none_going}
 use Rattle.score.specs.Readings.{all_kinds}
 use Rattle.score.specs.Named.{worth}
 use Rattle.score.specs.search.HandCommon.{hand_common_of}
-use Rattle.score.specs.laws.FullReading.{worth_in_lem, kept_in}
+use Rattle.score.proofs.laws.FullReading.{worth_in_lem, kept_in}
 use Rattle.claim.specs.search.Verdict.{IsFormed, reads, weighed_as, verdict_of}
-use Rattle.claim.specs.laws.Reads.{decides, formed_bounds}
+use Rattle.claim.proofs.laws.Reads.{decides, formed_bounds}
 use Rattle.claim.proofs.verdict.Statement.{statement}
 use Rattle.claim.proofs.verdict.Tie as tie
 

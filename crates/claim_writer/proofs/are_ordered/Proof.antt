@@ -1,6 +1,6 @@
 -- `claim_writer::are_ordered` meets its contract: each place after the one before it.
 use borrow.Author.Rules.{rules}
-use Rattle.claim_writer.specs.laws.Found.{four_are}
+use Rattle.claim_writer.proofs.laws.Found.{four_are}
 use Rattle.claim_writer.proofs.are_ordered.Statement.{statement}
 use Rattle.claim_writer.proofs.are_ordered.Tie as tie
 

@@ -5,8 +5,8 @@ use borrow.Author.Tests.{ltb-false}
 use lib.Dec.{ltb}
 use lib.ListN.{length}
 use Prim.Native.Nat.{◌≤◌}
-use Rattle.tiles.specs.laws.Below.{or_both}
-use Rattle.claim_writer.specs.laws.Found.{found_far, found_0, found_1}
+use Rattle.tiles.proofs.laws.Below.{or_both}
+use Rattle.claim_writer.proofs.laws.Found.{found_far, found_0, found_1}
 use Rattle.claim_writer.proofs.is_nameable.Statement.{statement}
 use Rattle.claim_writer.proofs.is_nameable.Tie as tie
 

@@ -1,6 +1,6 @@
 -- `claim_writer::length` meets its contract: by the shape.
 use borrow.Author.Rules.{rules}
-use Rattle.claim_writer.specs.laws.Found.{length_is_0, length_is_1}
+use Rattle.claim_writer.proofs.laws.Found.{length_is_0, length_is_1}
 use Rattle.claim_writer.proofs.length.Statement.{statement}
 use Rattle.claim_writer.proofs.length.Tie as tie
 

@@ -1,6 +1,6 @@
 -- `claim_writer::pack_claim` meets its contract: by the shape.
 use borrow.Author.Rules.{rules}
-use Rattle.claim_writer.specs.laws.Found.{packed_0, packed_1}
+use Rattle.claim_writer.proofs.laws.Found.{packed_0, packed_1}
 use Rattle.claim_writer.proofs.pack_claim.Statement.{statement}
 use Rattle.claim_writer.proofs.pack_claim.Tie as tie
 

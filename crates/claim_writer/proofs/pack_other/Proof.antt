@@ -3,8 +3,8 @@ use borrow.Author.Rules.{rules}
 use mathlib.Core.Path.{refl}
 use mathlib.Core.List.{[], ◌∷◌}
 use native.Mathlib.Omega.{arith}
-use Rattle.bits.specs.laws.Pack.{below_all}
-use Rattle.claim_writer.specs.laws.Found.{other_stored}
+use Rattle.bits.proofs.laws.Pack.{below_all}
+use Rattle.claim_writer.proofs.laws.Found.{other_stored}
 use Rattle.claim_writer.proofs.pack_other.Statement.{statement}
 use Rattle.claim_writer.proofs.pack_other.Tie as tie
 

@@ -6,8 +6,8 @@ use mathlib.Core.List.{[], ◌∷◌}
 use native.Mathlib.Omega.{arith}
 use lib.ListN.{length, replicate, length-replicate}
 use lib.Seq.{length-take-le}
-use Rattle.bits.specs.laws.Pack.{below_all, take_replicate, below_replicate, sum_replicate}
-use Rattle.claim_writer.specs.laws.Found.{regular_stored}
+use Rattle.bits.proofs.laws.Pack.{below_all, take_replicate, below_replicate, sum_replicate}
+use Rattle.claim_writer.proofs.laws.Found.{regular_stored}
 use Rattle.claim_writer.proofs.pack_regular.Statement.{statement}
 use Rattle.claim_writer.proofs.pack_regular.Tie as tie
 

@@ -8,10 +8,10 @@ use borrow.Author.Tests.{not-true, not-false}
 use lib.ListN.{length, length-replicate}
 use lib.Seq.{length-take-le}
 use Rattle.bits.specs.Bits.{eights}
-use Rattle.bits.specs.laws.Pack.{take_replicate, below_replicate, sum_replicate}
+use Rattle.bits.proofs.laws.Pack.{take_replicate, below_replicate, sum_replicate}
 use Rattle.claim_writer.specs.search.Bytes.{is_nameable}
-use Rattle.claim_writer.specs.laws.Named.{parts}
-use Rattle.claim_writer.specs.laws.Found.{length_most, packed_long, packed_bits, kept_22, kept_13, stored}
+use Rattle.claim_writer.proofs.laws.Named.{parts}
+use Rattle.claim_writer.proofs.laws.Found.{length_most, packed_long, packed_bits, kept_22, kept_13, stored}
 use Rattle.claim_writer.proofs.write.Statement.{statement}
 use Rattle.claim_writer.proofs.write.Tie as tie
 

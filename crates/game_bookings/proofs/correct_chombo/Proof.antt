@@ -1,7 +1,7 @@
 -- `game_bookings::correct_chombo` meets its contract: it is `position_bookings::chombo` in the earlier position.
 use borrow.Author.Rules.{rules}
 use Rattle.position.specs.Booking.{chombo}
-use Rattle.game_bookings.specs.laws.Books.{correction_books}
+use Rattle.game_bookings.proofs.laws.Books.{correction_books}
 use Rattle.game_bookings.proofs.correct_chombo.Statement.{statement}
 use Rattle.game_bookings.proofs.correct_chombo.Tie as tie
 

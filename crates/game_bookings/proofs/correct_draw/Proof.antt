@@ -1,7 +1,7 @@
 -- `game_bookings::correct_draw` meets its contract: it is `position_bookings::draw` in the earlier position.
 use borrow.Author.Rules.{rules}
 use Rattle.position.specs.Booking.{draw}
-use Rattle.game_bookings.specs.laws.Books.{correction_books}
+use Rattle.game_bookings.proofs.laws.Books.{correction_books}
 use Rattle.game_bookings.proofs.correct_draw.Statement.{statement}
 use Rattle.game_bookings.proofs.correct_draw.Tie as tie
 

@@ -1,7 +1,7 @@
 -- `game_bookings::correct_multi_ron` meets its contract: it is `position_multi_ron::multi_ron` in the earlier position.
 use borrow.Author.Rules.{rules}
 use Rattle.position.specs.Booking.{multi_ron}
-use Rattle.game_bookings.specs.laws.Books.{correction_books}
+use Rattle.game_bookings.proofs.laws.Books.{correction_books}
 use Rattle.game_bookings.proofs.correct_multi_ron.Statement.{statement}
 use Rattle.game_bookings.proofs.correct_multi_ron.Tie as tie
 

@@ -1,7 +1,7 @@
 -- `game_bookings::correct_win` meets its contract: it is `position_win::win` in the earlier position.
 use borrow.Author.Rules.{rules}
 use Rattle.position.specs.Booking.{win}
-use Rattle.game_bookings.specs.laws.Books.{correction_books}
+use Rattle.game_bookings.proofs.laws.Books.{correction_books}
 use Rattle.game_bookings.proofs.correct_win.Statement.{statement}
 use Rattle.game_bookings.proofs.correct_win.Tie as tie
 

@@ -2,8 +2,8 @@
 use mathlib.Core.Path.{refl}
 use borrow.Author.Rules.{rules}
 use Rattle.position.specs.Booking.{result, multi_ron}
-use Rattle.position.specs.laws.Each.{result_finishes}
-use Rattle.game_bookings.specs.laws.Books.{booking_books}
+use Rattle.position.proofs.laws.Each.{result_finishes}
+use Rattle.game_bookings.proofs.laws.Books.{booking_books}
 use Rattle.game_bookings.proofs.multi_ron.Statement.{statement}
 use Rattle.game_bookings.proofs.multi_ron.Tie as tie
 

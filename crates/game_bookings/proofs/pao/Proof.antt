@@ -2,8 +2,8 @@
 use mathlib.Core.Path.{refl}
 use borrow.Author.Rules.{rules}
 use Rattle.position.specs.Booking.{pao}
-use Rattle.position.specs.laws.Each.{pao_goes_on}
-use Rattle.game_bookings.specs.laws.Books.{booking_books}
+use Rattle.position.proofs.laws.Each.{pao_goes_on}
+use Rattle.game_bookings.proofs.laws.Books.{booking_books}
 use Rattle.game_bookings.proofs.pao.Statement.{statement}
 use Rattle.game_bookings.proofs.pao.Tie as tie
 

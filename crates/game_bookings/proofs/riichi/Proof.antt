@@ -2,8 +2,8 @@
 use mathlib.Core.Path.{refl}
 use borrow.Author.Rules.{rules}
 use Rattle.position.specs.Booking.{riichi}
-use Rattle.position.specs.laws.Each.{riichi_goes_on}
-use Rattle.game_bookings.specs.laws.Books.{booking_books}
+use Rattle.position.proofs.laws.Each.{riichi_goes_on}
+use Rattle.game_bookings.proofs.laws.Books.{booking_books}
 use Rattle.game_bookings.proofs.riichi.Statement.{statement}
 use Rattle.game_bookings.proofs.riichi.Tie as tie
 

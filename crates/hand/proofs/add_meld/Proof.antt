@@ -8,7 +8,7 @@ use native.Mathlib.Omega.{arith}
 use lib.ListN.{length, get_or}
 use Rattle.tiles.specs.Groups.{at_kind}
 use Rattle.tiles.specs.Tally.{more}
-use Rattle.tiles.specs.laws.Tally.{at_le, tally_bound, more_adds}
+use Rattle.tiles.proofs.laws.Tally.{at_le, tally_bound, more_adds}
 use Rattle.hand.specs.Held.{meld_holds}
 use Rattle.hand.proofs.add_meld.Statement.{statement}
 use Rattle.hand.proofs.add_meld.Tie as tie

@@ -7,9 +7,9 @@ use mathlib.Core.List.{List}
 use native.Mathlib.Omega.{arith}
 use lib.Dec.{ltb}
 use lib.ListN.{length, get_or}
-use Rattle.tiles.specs.laws.Tally.{tally_bound}
+use Rattle.tiles.proofs.laws.Tally.{tally_bound}
 use Rattle.hand.specs.Held.{meld_holds, in_melds}
-use Rattle.hand.specs.laws.Held.{meld_le}
+use Rattle.hand.proofs.laws.Held.{meld_le}
 use Rattle.hand.proofs.add_melds.Statement.{statement}
 use Rattle.hand.proofs.add_melds.Tie as tie
 

@@ -3,7 +3,7 @@ use borrow.Author.Rules.{rules}
 use native.Mathlib.Omega.{arith}
 use Rattle.hand.specs.Held.{in_others}
 use Rattle.hand.specs.Hand.{in_concealed, concealed_tally}
-use Rattle.hand.specs.laws.Held.{others_le, tally_room, tally_plus}
+use Rattle.hand.proofs.laws.Held.{others_le, tally_room, tally_plus}
 use Rattle.hand.proofs.concealed_tally.Statement.{statement}
 use Rattle.hand.proofs.concealed_tally.Tie as tie
 

@@ -1,9 +1,9 @@
 -- `hand::held_tally` meets its contract: the concealed tiles, then the melds.
 use borrow.Author.Rules.{rules}
 use native.Mathlib.Omega.{arith}
-use Rattle.tiles.specs.laws.Tally.{tally_ext}
+use Rattle.tiles.proofs.laws.Tally.{tally_ext}
 use Rattle.hand.specs.Held.{in_others, in_held}
-use Rattle.hand.specs.laws.Held.{others_le, tally_at, tally_room}
+use Rattle.hand.proofs.laws.Held.{others_le, tally_at, tally_room}
 use Rattle.hand.proofs.held_tally.Statement.{statement}
 use Rattle.hand.proofs.held_tally.Tie as tie
 

@@ -10,9 +10,9 @@ use lib.ListN.{length, get_or, set, length-set, get_or-replicate}
 use lib.Seq.{set_out}
 use Rattle.tiles.specs.Below.{count_below}
 use Rattle.tiles.specs.Groups.{at_kind}
-use Rattle.tiles.specs.laws.Below.{number_none, number_more, number_le}
+use Rattle.tiles.proofs.laws.Below.{number_none, number_more, number_le}
 use Rattle.tiles.specs.Tally.{more}
-use Rattle.tiles.specs.laws.Tally.{tally_ext, tally_bound, more_adds}
+use Rattle.tiles.proofs.laws.Tally.{tally_ext, tally_bound, more_adds}
 use Rattle.hand.proofs.tally_of.Statement.{statement}
 use Rattle.hand.proofs.tally_of.Tie as tie
 

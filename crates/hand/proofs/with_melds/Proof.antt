@@ -3,10 +3,10 @@ use borrow.Author.Rules.{rules}
 use mathlib.Core.Path.{◌≡◌}
 use native.Mathlib.Omega.{arith}
 use Rattle.tiles.specs.Tally.{tally_of}
-use Rattle.tiles.specs.laws.Tally.{tally_ext}
+use Rattle.tiles.proofs.laws.Tally.{tally_ext}
 use Rattle.hand.specs.Held.{in_held}
 use Rattle.hand.specs.Hand.{in_concealed, in_hand, concealed_tally, hand_tally}
-use Rattle.hand.specs.laws.Held.{concealed_le, tally_at, tally_room}
+use Rattle.hand.proofs.laws.Held.{concealed_le, tally_at, tally_room}
 use Rattle.hand.proofs.with_melds.Statement.{statement}
 use Rattle.hand.proofs.with_melds.Tie as tie
 

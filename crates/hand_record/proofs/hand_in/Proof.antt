@@ -7,7 +7,7 @@ use borrow.Author.Tests.{lt-ltb, le-ltb}
 use lib.ListN.{length}
 use Rattle.bits.specs.Bits.{bits_of}
 use Rattle.hand_record.specs.Record.{pad_of, answer_by, answer_in}
-use Rattle.hand_record.specs.laws.Read.{whole, padding_last, answer_in_by}
+use Rattle.hand_record.proofs.laws.Read.{whole, padding_last, answer_in_by}
 use Rattle.hand_record.proofs.hand_in.Statement.{statement}
 use Rattle.hand_record.proofs.hand_in.Tie as tie
 

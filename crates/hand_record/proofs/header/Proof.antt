@@ -3,7 +3,7 @@ use borrow.Author.Rules.{rules}
 use mathlib.Core.Path.{sym}
 use Rattle.bits.specs.Bits.{bits_of}
 use Rattle.hand_record.specs.Record.{head_of}
-use Rattle.hand_record.specs.laws.Read.{head_at}
+use Rattle.hand_record.proofs.laws.Read.{head_at}
 use Rattle.hand_record.proofs.header.Statement.{statement}
 use Rattle.hand_record.proofs.header.Tie as tie
 

@@ -1,7 +1,7 @@
 -- `hand_record::held_in` meets its contract: a run of m widths of 8, and after it one of 13 - 3m widths of 6.
 use borrow.Author.Rules.{rules}
 use Rattle.bits.specs.Bits.{bits_of}
-use Rattle.hand_record.specs.laws.Read.{held_made}
+use Rattle.hand_record.proofs.laws.Read.{held_made}
 use Rattle.hand_record.proofs.held_in.Statement.{statement}
 use Rattle.hand_record.proofs.held_in.Tie as tie
 

@@ -1,7 +1,7 @@
 -- `hand_record::meld_count` meets its contract.
 use borrow.Author.Rules.{rules}
 use mathlib.Core.Path.{◌∙◌}
-use Rattle.hand_record.specs.laws.Read.{count_at}
+use Rattle.hand_record.proofs.laws.Read.{count_at}
 use Rattle.hand_record.proofs.meld_count.Statement.{statement}
 use Rattle.hand_record.proofs.meld_count.Tie as tie
 

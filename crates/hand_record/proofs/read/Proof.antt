@@ -4,7 +4,7 @@ use mathlib.Core.Path.{sym, ap, ◌∙◌}
 use native.Mathlib.Omega.{arith}
 use Rattle.hand_record.specs.declared.Head.{Head}
 use Rattle.hand_record.specs.Record.{length_of}
-use Rattle.hand_record.specs.laws.Read.{read_not, read_as}
+use Rattle.hand_record.proofs.laws.Read.{read_not, read_as}
 use Rattle.hand_record.proofs.read.Statement.{statement}
 use Rattle.hand_record.proofs.read.Tie as tie
 

@@ -3,7 +3,7 @@ use mathlib.Core.Path.{◌≡◌, sym, ap, ◌∙◌}
 use native.Mathlib.Omega.{arith}
 use borrow.Author.Rules.{rules}
 use Rattle.hand_record.specs.Record.{count_in, length_of}
-use Rattle.hand_record.specs.laws.Lengths.{record_short, record_over, record_cut, record_whole}
+use Rattle.hand_record.proofs.laws.Lengths.{record_short, record_over, record_cut, record_whole}
 use Rattle.hand_record.proofs.record_length.Statement.{statement}
 use Rattle.hand_record.proofs.record_length.Tie as tie
 

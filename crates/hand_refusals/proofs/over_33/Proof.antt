@@ -7,7 +7,7 @@ use mathlib.Core.Bool.{false}
 use lib.Dec.{ltb}
 use lib.ListN.{get_or}
 use Rattle.tiles.specs.Below.{any_below}
-use Rattle.tiles.specs.laws.Below.{some_none, some_more, some_stop, some_done}
+use Rattle.tiles.proofs.laws.Below.{some_none, some_more, some_stop, some_done}
 use Rattle.hand_refusals.proofs.over_33.Statement.{statement}
 use Rattle.hand_refusals.proofs.over_33.Tie as tie
 

@@ -8,7 +8,7 @@ use native.Mathlib.Numerals.{add-one}
 use lib.Dec.{ltb}
 use lib.ListN.{get_or}
 use Rattle.tiles.specs.Below.{any_below}
-use Rattle.tiles.specs.laws.Below.{some_none}
+use Rattle.tiles.proofs.laws.Below.{some_none}
 use Rattle.hand.specs.Held.{over_four}
 use Rattle.hand_refusals.proofs.over_four.Statement.{statement}
 use Rattle.hand_refusals.proofs.over_four.Tie as tie

@@ -3,7 +3,7 @@ use borrow.Author.Rules.{rules}
 use native.Mathlib.Omega.{arith}
 use Rattle.hand.specs.Hand.{in_hand, hand_tally}
 use Rattle.hand.specs.Refusals.{in_record}
-use Rattle.hand.specs.laws.Held.{hand_le, tally_room, tally_plus}
+use Rattle.hand.proofs.laws.Held.{hand_le, tally_room, tally_plus}
 use Rattle.hand_refusals.proofs.record_tally.Statement.{statement}
 use Rattle.hand_refusals.proofs.record_tally.Tie as tie
 

@@ -9,8 +9,8 @@ use native.Mathlib.Omega.{arith}
 use lib.Dec.{ltb}
 use lib.ListN.{get_or}
 use Rattle.tiles.specs.Tally.{tally_of}
-use Rattle.tiles.specs.laws.Below.{or_both, some_cong}
-use Rattle.tiles.specs.laws.Tally.{get_d_tally}
+use Rattle.tiles.proofs.laws.Below.{or_both, some_cong}
+use Rattle.tiles.proofs.laws.Tally.{get_d_tally}
 use Rattle.hand.specs.declared.Hand.{Hand}
 use Rattle.hand.specs.Held.{wrong_held, descends, over_four}
 use Rattle.hand.specs.Refusals.{field_over33, field_over, wrong_discarder, wrong_fields, in_record, wrong_by, wrong_situation, refusal_of}

@@ -7,7 +7,7 @@ use mathlib.Core.Bool.{true, ◌||◌}
 use lib.Dec.{ltb, eqb}
 use lib.ListN.{get_or}
 use Rattle.tiles.specs.Below.{all_below}
-use Rattle.tiles.specs.laws.Below.{every_none, every_more, every_stop, every_done}
+use Rattle.tiles.proofs.laws.Below.{every_none, every_more, every_stop, every_done}
 use Rattle.hand_refusals.proofs.zero_from.Statement.{statement}
 use Rattle.hand_refusals.proofs.zero_from.Tie as tie
 

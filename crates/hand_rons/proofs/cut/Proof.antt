@@ -1,7 +1,7 @@
 -- `hand_rons::cut` meets its contract: the last record is all that is left, another as long as its m says.
 use mathlib.Core.Path.{sym, ◌∙◌}
 use borrow.Author.Rules.{rules}
-use Rattle.hand_rons.specs.laws.Cut.{cut_last, cut_more}
+use Rattle.hand_rons.proofs.laws.Cut.{cut_last, cut_more}
 use Rattle.hand_rons.proofs.cut.Statement.{statement}
 use Rattle.hand_rons.proofs.cut.Tie as tie
 

@@ -4,7 +4,7 @@ use Prim.Native.Nat.{◌≤◌}
 use native.Mathlib.Omega.{arith}
 use borrow.Author.Rules.{rules}
 use lib.ListN.{length}
-use Rattle.hand_rons.specs.laws.Hands.{wins_is}
+use Rattle.hand_rons.proofs.laws.Hands.{wins_is}
 use Rattle.hand_rons.proofs.is_winner.Statement.{statement}
 use Rattle.hand_rons.proofs.is_winner.Tie as tie
 

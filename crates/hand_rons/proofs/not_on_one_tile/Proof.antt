@@ -4,7 +4,7 @@ use Prim.Native.Nat.{◌≤◌}
 use native.Mathlib.Omega.{arith}
 use borrow.Author.Rules.{rules}
 use lib.ListN.{length}
-use Rattle.hand_rons.specs.laws.Hands.{not_on_one_tile_is}
+use Rattle.hand_rons.proofs.laws.Hands.{not_on_one_tile_is}
 use Rattle.hand_rons.proofs.not_on_one_tile.Statement.{statement}
 use Rattle.hand_rons.proofs.not_on_one_tile.Tie as tie
 

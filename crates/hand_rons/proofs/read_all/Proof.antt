@@ -3,7 +3,7 @@ use mathlib.Core.Path.{◌≡◌, refl, sym, ◌∙◌}
 use Prim.Native.Nat.{◌<◌}
 use native.Mathlib.Omega.{arith}
 use borrow.Author.Rules.{rules}
-use Rattle.hand_rons.specs.laws.Hands.{Filled, filled_none, filled_all, filled_unreadable, filled_inside, filled_more}
+use Rattle.hand_rons.proofs.laws.Hands.{Filled, filled_none, filled_all, filled_unreadable, filled_inside, filled_more}
 use Rattle.hand_rons.proofs.read_all.Statement.{statement}
 use Rattle.hand_rons.proofs.read_all.Tie as tie
 

@@ -5,9 +5,9 @@ use borrow.Author.Rules.{rules}
 use lib.ListN.{length, take}
 use lib.Seq.{length-take-le}
 use Rattle.hand_record.specs.Record.{refusal_in}
-use Rattle.hand_record.specs.laws.Bounds.{answer_is, hand_is}
-use Rattle.hand_rons.specs.laws.OneTile.{refused_read}
-use Rattle.hand_rons.specs.laws.Cut.{first_inside, first_unreadable_lem, first_read}
+use Rattle.hand_record.proofs.laws.Bounds.{answer_is, hand_is}
+use Rattle.hand_rons.proofs.laws.OneTile.{refused_read}
+use Rattle.hand_rons.proofs.laws.Cut.{first_inside, first_unreadable_lem, first_read}
 use Rattle.hand_rons.proofs.read_first.Statement.{statement}
 use Rattle.hand_rons.proofs.read_first.Tie as tie
 

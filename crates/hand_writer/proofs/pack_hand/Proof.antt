@@ -3,10 +3,10 @@ use borrow.Author.Rules.{rules}
 use mathlib.Core.Path.{◌≡◌, refl}
 use native.Mathlib.Omega.{arith}
 use lib.ListN.{length}
-use Rattle.bits.specs.laws.Pack.{below_all}
+use Rattle.bits.proofs.laws.Pack.{below_all}
 use Rattle.hand_record.specs.Record.{head}
-use Rattle.hand_record.specs.laws.Read.{whole}
-use Rattle.hand_record.specs.laws.Write.{packed}
+use Rattle.hand_record.proofs.laws.Read.{whole}
+use Rattle.hand_record.proofs.laws.Write.{packed}
 use Rattle.hand_writer.proofs.pack_hand.Statement.{statement}
 use Rattle.hand_writer.proofs.pack_hand.Tie as tie
 

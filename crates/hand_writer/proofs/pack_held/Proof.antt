@@ -6,9 +6,9 @@ use native.Mathlib.Omega.{arith}
 use lib.ListN.{length, length-replicate}
 use lib.Seq.{length-take-le}
 use Rattle.bits.specs.Bits.{eights}
-use Rattle.bits.specs.laws.Pack.{take_replicate, below_replicate, sum_replicate}
+use Rattle.bits.proofs.laws.Pack.{take_replicate, below_replicate, sum_replicate}
 use Rattle.hand_record.specs.Record.{sixes}
-use Rattle.hand_record.specs.laws.Write.{held_packed}
+use Rattle.hand_record.proofs.laws.Write.{held_packed}
 use Rattle.hand_writer.proofs.pack_held.Statement.{statement}
 use Rattle.hand_writer.proofs.pack_held.Tie as tie
 

@@ -6,11 +6,11 @@ use native.Mathlib.Omega.{arith}
 use lib.ListN.{length, length-replicate}
 use lib.Seq.{length-take-le}
 use Rattle.bits.specs.Bits.{pack, eights}
-use Rattle.bits.specs.laws.Pack.{take_replicate, below_replicate, sum_replicate, length_fill, below_fill, below_pack}
+use Rattle.bits.proofs.laws.Pack.{take_replicate, below_replicate, sum_replicate, length_fill, below_fill, below_pack}
 use Rattle.hand.specs.Refusals.{unwritable}
 use Rattle.hand_record.specs.Record.{length_of, widths, values_of}
-use Rattle.hand_record.specs.laws.Read.{whole}
-use Rattle.hand_record.specs.laws.Write.{few_melds, length_packed, refusal_hand, refusal_short, refusal_none, kept_by, wrote_by, stored}
+use Rattle.hand_record.proofs.laws.Read.{whole}
+use Rattle.hand_record.proofs.laws.Write.{few_melds, length_packed, refusal_hand, refusal_short, refusal_none, kept_by, wrote_by, stored}
 use Rattle.hand_writer.proofs.write.Statement.{statement}
 use Rattle.hand_writer.proofs.write.Tie as tie
 

@@ -3,8 +3,8 @@ use mathlib.Core.Path.{refl, sym, ap, ◌∙◌}
 use native.Mathlib.Omega.{arith}
 use borrow.Author.Rules.{rules}
 use Rattle.log.specs.search.Lengths.{with_header}
-use Rattle.log.specs.laws.Lengths.{kind_none, correction_argument, correction_under, correction_over, correction_inside, by_most}
-use Rattle.log.specs.laws.Parts.{length_by_header}
+use Rattle.log.proofs.laws.Lengths.{kind_none, correction_argument, correction_under, correction_over, correction_inside, by_most}
+use Rattle.log.proofs.laws.Parts.{length_by_header}
 use Rattle.log.proofs.correction_length.Statement.{statement}
 use Rattle.log.proofs.correction_length.Tie as tie
 

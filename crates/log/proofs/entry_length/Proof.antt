@@ -2,7 +2,7 @@
 use mathlib.Core.Path.{sym}
 use native.Mathlib.Omega.{arith}
 use borrow.Author.Rules.{rules}
-use Rattle.log.specs.laws.Parts.{none_empty, length_by_header, correction_by_header}
+use Rattle.log.proofs.laws.Parts.{none_empty, length_by_header, correction_by_header}
 use Rattle.log.proofs.entry_length.Statement.{statement}
 use Rattle.log.proofs.entry_length.Tie as tie
 

@@ -2,7 +2,7 @@
 use mathlib.Core.Path.{sym, ◌∙◌}
 use native.Mathlib.Omega.{arith}
 use borrow.Author.Rules.{rules}
-use Rattle.log.specs.laws.Lengths.{length_win, length_multi_ron, length_pao, length_over, length_plain}
+use Rattle.log.proofs.laws.Lengths.{length_win, length_multi_ron, length_pao, length_over, length_plain}
 use Rattle.log.proofs.length_by.Statement.{statement}
 use Rattle.log.proofs.length_by.Tie as tie
 

@@ -1,7 +1,7 @@
 -- `log::letter` meets its contract, kind by kind.
 use native.Mathlib.Omega.{arith}
 use mathlib.Core.Path.{refl}
-use Rattle.log.specs.laws.Letters.{over, letter_named, letter_none}
+use Rattle.log.proofs.laws.Letters.{over, letter_named, letter_none}
 use Rattle.log.proofs.letter.Statement.{statement}
 use Rattle.log.proofs.letter.Tie as tie
 

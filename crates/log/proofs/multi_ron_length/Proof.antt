@@ -3,8 +3,8 @@ use mathlib.Core.Path.{sym, ap, ◌∙◌}
 use native.Mathlib.Omega.{arith}
 use borrow.Author.Rules.{rules}
 use Rattle.log.specs.search.Lengths.{with_header}
-use Rattle.log.specs.laws.Records.{records_inside}
-use Rattle.log.specs.laws.Lengths.{multi_ron_none, multi_ron_over, multi_ron_records}
+use Rattle.log.proofs.laws.Records.{records_inside}
+use Rattle.log.proofs.laws.Lengths.{multi_ron_none, multi_ron_over, multi_ron_records}
 use Rattle.log.proofs.multi_ron_length.Statement.{statement}
 use Rattle.log.proofs.multi_ron_length.Tie as tie
 

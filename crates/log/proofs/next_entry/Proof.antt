@@ -6,8 +6,8 @@ use native.Mathlib.Omega.{arith}
 use lib.ListN.{length, drop, length-drop}
 use borrow.Author.Rules.{rules}
 use Rattle.log.specs.search.Lengths.{entry_length}
-use Rattle.log.specs.laws.Parts.{from_on, length_inside}
-use Rattle.log.specs.laws.Next.{part_at_end, part_is}
+use Rattle.log.proofs.laws.Parts.{from_on, length_inside}
+use Rattle.log.proofs.laws.Next.{part_at_end, part_is}
 use Rattle.log.proofs.next_entry.Statement.{statement}
 use Rattle.log.proofs.next_entry.Tie as tie
 

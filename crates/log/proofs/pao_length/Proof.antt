@@ -2,7 +2,7 @@
 use mathlib.Core.Path.{sym}
 use native.Mathlib.Omega.{arith}
 use borrow.Author.Rules.{rules}
-use Rattle.log.specs.laws.Lengths.{pao_argument, pao_missing, pao_bits_set, pao_whole}
+use Rattle.log.proofs.laws.Lengths.{pao_argument, pao_missing, pao_bits_set, pao_whole}
 use Rattle.log.proofs.pao_length.Statement.{statement}
 use Rattle.log.proofs.pao_length.Tie as tie
 

@@ -6,10 +6,10 @@ use native.Mathlib.Omega.{arith}
 use lib.ListN.{length, drop, length-drop}
 use borrow.Author.Rules.{rules}
 use Rattle.hand_record.specs.Lengths.{record_length}
-use Rattle.hand_record.specs.laws.Lengths.{record_inside}
+use Rattle.hand_record.proofs.laws.Lengths.{record_inside}
 use Rattle.log.specs.search.Lengths.{records_length}
-use Rattle.log.specs.laws.Records.{length_from, from_start, from_end, from_broken, turn_at}
-use Rattle.log.specs.laws.Parts.{from_on}
+use Rattle.log.proofs.laws.Records.{length_from, from_start, from_end, from_broken, turn_at}
+use Rattle.log.proofs.laws.Parts.{from_on}
 use Rattle.log.proofs.records_length.Statement.{statement}
 use Rattle.log.proofs.records_length.Tie as tie
 

@@ -3,8 +3,8 @@ use mathlib.Core.Path.{◌≡◌, sym, ap, ◌∙◌}
 use lib.ListN.{drop}
 use borrow.Author.Rules.{rules}
 use Rattle.log.specs.search.Lengths.{entry_length}
-use Rattle.log.specs.laws.Next.{refusal_end, refusal_bad, refusal_entry}
-use Rattle.log.specs.laws.Parts.{from_on}
+use Rattle.log.proofs.laws.Next.{refusal_end, refusal_bad, refusal_entry}
+use Rattle.log.proofs.laws.Parts.{from_on}
 use Rattle.log.proofs.refusal_at.Statement.{statement}
 use Rattle.log.proofs.refusal_at.Tie as tie
 

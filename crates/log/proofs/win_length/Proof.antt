@@ -2,9 +2,9 @@
 use mathlib.Core.Path.{sym, ap, ◌∙◌}
 use native.Mathlib.Omega.{arith}
 use borrow.Author.Rules.{rules}
-use Rattle.hand_record.specs.laws.Lengths.{record_inside}
+use Rattle.hand_record.proofs.laws.Lengths.{record_inside}
 use Rattle.log.specs.search.Lengths.{with_header}
-use Rattle.log.specs.laws.Lengths.{win_argument, win_record}
+use Rattle.log.proofs.laws.Lengths.{win_argument, win_record}
 use Rattle.log.proofs.win_length.Statement.{statement}
 use Rattle.log.proofs.win_length.Tie as tie
 

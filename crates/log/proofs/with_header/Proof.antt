@@ -1,7 +1,7 @@
 -- `log::with_header` meets its contract, return by return.
 use mathlib.Core.Path.{sym}
 use borrow.Author.Rules.{rules}
-use Rattle.log.specs.laws.Lengths.{with_header_none, with_header_some}
+use Rattle.log.proofs.laws.Lengths.{with_header_none, with_header_some}
 use Rattle.log.proofs.with_header.Statement.{statement}
 use Rattle.log.proofs.with_header.Tie as tie
 

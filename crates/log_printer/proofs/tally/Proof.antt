@@ -4,7 +4,7 @@ use mathlib.Core.Path.{◌≡◌, sym, ap, ◌∙◌}
 use native.Mathlib.Omega.{arith}
 use lib.ListN.{length, take}
 use lib.Seq.{length-take-le}
-use Rattle.log_walk.specs.laws.Through.{text_cut}
+use Rattle.log_walk.proofs.laws.Through.{text_cut}
 use Rattle.log_printer.proofs.tally.Statement.{statement}
 use Rattle.log_printer.proofs.tally.Tie as tie
 

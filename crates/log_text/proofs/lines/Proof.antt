@@ -4,7 +4,7 @@ use mathlib.Core.Path.{◌≡◌, ap, ◌∙◌}
 use Prim.Native.Nat.{◌+◌, ◌-◌, ◌≤◌, ◌<◌}
 use native.Mathlib.Omega.{arith}
 use lib.ListN.{length}
-use Rattle.log_walk.specs.laws.Fill.{Kept, kept_start, past_gives, end_gives, max_gives, line_inside, lent_room, lent_same, lent_short, lent_kept}
+use Rattle.log_walk.proofs.laws.Fill.{Kept, kept_start, past_gives, end_gives, max_gives, line_inside, lent_room, lent_same, lent_short, lent_kept}
 use Rattle.log_text.proofs.lines.Statement.{statement}
 use Rattle.log_text.proofs.lines.Tie as tie
 

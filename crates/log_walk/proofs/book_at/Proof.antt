@@ -5,9 +5,9 @@ use native.Mathlib.Omega.{arith}
 use lib.ListN.{length}
 use Prim.Native.Nat.{◌<◌}
 use Rattle.log.specs.Log.{part_at}
-use Rattle.log.specs.laws.Exact.{correction_some}
-use Rattle.log.specs.laws.Next.{part_is_entry}
-use Rattle.log_walk.specs.laws.Turn.{step_none, step_entry}
+use Rattle.log.proofs.laws.Exact.{correction_some}
+use Rattle.log.proofs.laws.Next.{part_is_entry}
+use Rattle.log_walk.proofs.laws.Turn.{step_none, step_entry}
 use Rattle.log_walk.proofs.book_at.Statement.{statement}
 use Rattle.log_walk.proofs.book_at.Tie as tie
 

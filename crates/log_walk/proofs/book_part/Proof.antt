@@ -4,7 +4,7 @@ use Prim.Native.Nat.{◌<◌}
 use native.Mathlib.Omega.{arith}
 use borrow.Author.Rules.{rules}
 use lib.ListN.{length, length-drop}
-use Rattle.log_walk.specs.laws.Turn.{part_booking, part_correction}
+use Rattle.log_walk.proofs.laws.Turn.{part_booking, part_correction}
 use Rattle.log_walk.proofs.book_part.Statement.{statement}
 use Rattle.log_walk.proofs.book_part.Tie as tie
 

@@ -1,6 +1,6 @@
 -- `points::changes` meets its contract.
 use borrow.Author.Rules.{rules}
-use Rattle.points.specs.laws.Signed.{back}
+use Rattle.points.proofs.laws.Signed.{back}
 use Rattle.points.specs.Points.{change, changes}
 use Rattle.points.proofs.changes.Statement.{statement}
 use Rattle.points.proofs.changes.Tie as tie

@@ -13,7 +13,7 @@ use Rattle.yaku.specs.declared.PlaceTests.{PlaceTests}
 use Rattle.yaku.specs.search.Common.{group_tests_of, place_tests_of}
 use Rattle.points_fu.specs.Fu.{fu, added}
 use Rattle.points_fu.specs.search.Items.{items_by, earned}
-use Rattle.points_fu.specs.laws.Items.{groups_few}
+use Rattle.points_fu.proofs.laws.Items.{groups_few}
 use Rattle.points_fu.proofs.earned.Statement.{statement}
 use Rattle.points_fu.proofs.earned.Tie as tie
 

@@ -8,10 +8,10 @@ use lib.Dec.{ltb}
 use lib.ListN.{length, get_or, set}
 use Rattle.units.specs.declared.Fu.{Fu}
 use Rattle.yaku_basics.specs.search.Ways.{ways_at}
-use Rattle.yaku_basics.specs.laws.Ways.{ways_same, group_placed}
+use Rattle.yaku_basics.proofs.laws.Ways.{ways_same, group_placed}
 use Rattle.points_fu.specs.Fu.{fu, group_fu}
 use Rattle.points_fu.specs.search.Items.{items_by}
-use Rattle.points_fu.specs.laws.Items.{items_ron}
+use Rattle.points_fu.proofs.laws.Items.{items_ron}
 use Rattle.points_fu.proofs.items_at.Statement.{statement}
 use Rattle.points_fu.proofs.items_at.Tie as tie
 

@@ -5,11 +5,11 @@ use native.Mathlib.Omega.{arith}
 use borrow.Author.Rules.{rules}
 use borrow.Author.Tests.{eq-eqb, ne_eqb}
 use Rattle.yaku.specs.Yaku.{yakuman}
-use Rattle.yaku.specs.laws.Common.{yakuman_placed}
+use Rattle.yaku.proofs.laws.Common.{yakuman_placed}
 use Rattle.points_fu.specs.Fu.{fu, items_of, added}
 use Rattle.points_fu.specs.search.Items.{earned}
 use Rattle.points_fu.specs.declared.Items.{Items}
-use Rattle.points_fu.specs.laws.Items.{added_alone, regular_rounded}
+use Rattle.points_fu.proofs.laws.Items.{added_alone, regular_rounded}
 use Rattle.points_fu.proofs.items_of.Statement.{statement}
 use Rattle.points_fu.proofs.items_of.Tie as tie
 

@@ -5,7 +5,7 @@ use mathlib.Core.Path.{◌≡◌}
 use mathlib.Core.Bool.{not}
 use Prim.Native.Nat.{◌+◌, ◌*◌, ◌/◌}
 use borrow.Author.Tests.{eqb-true}
-use Rattle.tiles.specs.laws.Below.{and_true}
+use Rattle.tiles.proofs.laws.Below.{and_true}
 use Rattle.points_fu.specs.Fu.{rounded}
 use Rattle.points_fu.proofs.rounded.Statement.{statement}
 use Rattle.points_fu.proofs.rounded.Tie as tie

@@ -10,7 +10,7 @@ use Rattle.yaku.specs.declared.Won.{Won}
 use Rattle.yaku.specs.declared.FullReading.{FullReading}
 use Rattle.yaku.specs.declared.PlaceTests.{PlaceTests}
 use Rattle.yaku.specs.search.Common.{place_tests_of}
-use Rattle.yaku.specs.laws.Common.{yakuman_placed, listed_any}
+use Rattle.yaku.proofs.laws.Common.{yakuman_placed, listed_any}
 use Rattle.units.specs.declared.Fu.{Fu}
 use Rattle.yaku_basics.specs.Tests.{concealed, kans}
 use Rattle.points_fu.specs.Fu.{fu_of}
@@ -18,7 +18,7 @@ use Rattle.points_fu.specs.search.Items.{items_by}
 use Rattle.points_value.specs.Han.{han_of}
 use Rattle.points_value.specs.Value.{value_of}
 use Rattle.points_value.specs.search.Common.{han_before}
-use Rattle.points_value.specs.laws.Common.{han_with}
+use Rattle.points_value.proofs.laws.Common.{han_with}
 use Rattle.points_value.proofs.value_of.Statement.{statement}
 use Rattle.points_value.proofs.value_of.Tie as tie
 

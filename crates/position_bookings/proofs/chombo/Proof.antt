@@ -6,9 +6,9 @@ use borrow.Author.Rules.{rules}
 use lib.Dec.{eqb}
 use Rattle.position.specs.Booking.{result, chombo}
 use Rattle.position.specs.Ledger.{not_open, effect_of}
-use Rattle.position.specs.laws.Form.{open_of}
-use Rattle.position.specs.laws.Refusals.{refused_moves, accepted_moves, chombo_seat, chombo_by}
-use Rattle.position_moves.specs.laws.Steps.{same_chombo}
+use Rattle.position.proofs.laws.Form.{open_of}
+use Rattle.position.proofs.laws.Refusals.{refused_moves, accepted_moves, chombo_seat, chombo_by}
+use Rattle.position_moves.proofs.laws.Steps.{same_chombo}
 use Rattle.position_bookings.proofs.chombo.Statement.{statement}
 use Rattle.position_bookings.proofs.chombo.Tie as tie
 

@@ -5,9 +5,9 @@ use native.Mathlib.Omega.{arith}
 use borrow.Author.Rules.{rules}
 use Rattle.position.specs.Booking.{result, draw}
 use Rattle.position.specs.Ledger.{not_open}
-use Rattle.position.specs.laws.Form.{Open, open_of}
-use Rattle.position.specs.laws.Refusals.{refused_moves, accepted_moves, draw_bits, draw_by}
-use Rattle.position_moves.specs.laws.Steps.{fault_applied, draw_applied}
+use Rattle.position.proofs.laws.Form.{Open, open_of}
+use Rattle.position.proofs.laws.Refusals.{refused_moves, accepted_moves, draw_bits, draw_by}
+use Rattle.position_moves.proofs.laws.Steps.{fault_applied, draw_applied}
 use Rattle.position_bookings.proofs.draw.Statement.{statement}
 use Rattle.position_bookings.proofs.draw.Tie as tie
 

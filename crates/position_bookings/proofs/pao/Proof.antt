@@ -5,9 +5,9 @@ use native.Mathlib.Omega.{arith}
 use borrow.Author.Rules.{rules}
 use Rattle.position.specs.Booking.{pao}
 use Rattle.position.specs.Ledger.{not_open}
-use Rattle.position.specs.laws.Form.{open_of}
-use Rattle.position.specs.laws.Refusals.{refused_moves, accepted_moves, pao_seat, pao_shut, pao_by}
-use Rattle.position.specs.laws.Pao.{seats_small, right_pao}
+use Rattle.position.proofs.laws.Form.{open_of}
+use Rattle.position.proofs.laws.Refusals.{refused_moves, accepted_moves, pao_seat, pao_shut, pao_by}
+use Rattle.position.proofs.laws.Pao.{seats_small, right_pao}
 use Rattle.position_bookings.proofs.pao.Statement.{statement}
 use Rattle.position_bookings.proofs.pao.Tie as tie
 

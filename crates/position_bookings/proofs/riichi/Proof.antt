@@ -6,8 +6,8 @@ use borrow.Author.Rules.{rules}
 use borrow.Author.Tests.{lt-ltb, le-ltb}
 use Rattle.position.specs.Booking.{riichi}
 use Rattle.position.specs.Ledger.{not_open}
-use Rattle.position.specs.laws.Form.{open_of}
-use Rattle.position.specs.laws.Refusals.{refused_moves, accepted_moves, riichi_seat, riichi_shut, riichi_twice, riichi_by}
+use Rattle.position.proofs.laws.Form.{open_of}
+use Rattle.position.proofs.laws.Refusals.{refused_moves, accepted_moves, riichi_seat, riichi_shut, riichi_twice, riichi_by}
 use Rattle.position_bookings.proofs.riichi.Statement.{statement}
 use Rattle.position_bookings.proofs.riichi.Tie as tie
 

@@ -3,7 +3,7 @@ use native.Mathlib.Omega.{arith}
 use borrow.Author.Rules.{rules}
 use lib.Dec.{eqb}
 use Prim.Native.Nat.{◌≤◌}
-use Rattle.position.specs.laws.Pao.{pao_yaku}
+use Rattle.position.proofs.laws.Pao.{pao_yaku}
 use Rattle.position_bookings.proofs.wrong_pao.Statement.{statement}
 use Rattle.position_bookings.proofs.wrong_pao.Tie as tie
 

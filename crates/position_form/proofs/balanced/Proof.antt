@@ -8,8 +8,8 @@ use lib.ListN.{get_or}
 use mir.Syntax.{w32}
 use mir.Val.{SFits, to_z, of_z}
 use mir.Facts.{to_z-of_z, sfits_widen}
-use Rattle.score.specs.laws.Z.{Within, mag_parts}
-use Rattle.bits.specs.laws.Elem.{elem_sfits}
+use Rattle.score.proofs.laws.Z.{Within, mag_parts}
+use Rattle.bits.proofs.laws.Elem.{elem_sfits}
 use Rattle.position_form.proofs.Sums.{sum2, sum3, sum_4, sum_5, prod, test}
 use Rattle.position_form.proofs.balanced.Statement.{statement}
 use Rattle.position_form.proofs.balanced.Tie as tie

@@ -1,8 +1,8 @@
 -- `position_moves::finish` meets its contract: each call gives its field.
 use borrow.Author.Rules.{rules}
 use Rattle.position.specs.Ledger.{applied}
-use Rattle.position.specs.laws.Form.{score_within}
-use Rattle.position_moves.specs.laws.Steps.{finished}
+use Rattle.position.proofs.laws.Form.{score_within}
+use Rattle.position_moves.proofs.laws.Steps.{finished}
 use Rattle.position_moves.proofs.finish.Statement.{statement}
 use Rattle.position_moves.proofs.finish.Tie as tie
 

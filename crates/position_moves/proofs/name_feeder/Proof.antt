@@ -1,8 +1,8 @@
 -- `position_moves::name_feeder` meets its contract: nothing is given, and the place is set.
 use borrow.Author.Rules.{rules}
-use Rattle.position.specs.laws.Form.{score_within}
-use Rattle.position.specs.laws.Sums.{zeros_small}
-use Rattle.position_moves.specs.laws.Steps.{pao_applied}
+use Rattle.position.proofs.laws.Form.{score_within}
+use Rattle.position.proofs.laws.Sums.{zeros_small}
+use Rattle.position_moves.proofs.laws.Steps.{pao_applied}
 use Rattle.position_moves.proofs.name_feeder.Statement.{statement}
 use Rattle.position_moves.proofs.name_feeder.Tie as tie
 

@@ -7,7 +7,7 @@ use lib.IntN.{ℤ, pos, ◌+ℤ◌}
 use lib.ListN.{get_or}
 use mir.Syntax.{w32}
 use mir.Val.{SFits}
-use Rattle.position.specs.laws.Sums.{B32, plus_fits, plus_is}
+use Rattle.position.proofs.laws.Sums.{B32, plus_fits, plus_is}
 use Rattle.position_moves.proofs.pay.Statement.{statement}
 use Rattle.position_moves.proofs.pay.Tie as tie
 

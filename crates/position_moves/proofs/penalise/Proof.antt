@@ -1,7 +1,7 @@
 -- `position_moves::penalise` meets its contract: this hand's sticks are on the table.
 use mathlib.Core.Path.{◌∙◌}
 use borrow.Author.Rules.{rules}
-use Rattle.position_moves.specs.laws.Steps.{chombo_applied}
+use Rattle.position_moves.proofs.laws.Steps.{chombo_applied}
 use Rattle.position_moves.proofs.penalise.Statement.{statement}
 use Rattle.position_moves.proofs.penalise.Tie as tie
 

@@ -4,9 +4,9 @@ use mathlib.Core.List.{List}
 use borrow.Author.Rules.{rules}
 use lib.IntN.{ℤ}
 use Rattle.position.specs.Ledger.{riichi_gives}
-use Rattle.position.specs.laws.Form.{few_sticks, score_within}
-use Rattle.position.specs.laws.Sums.{paid}
-use Rattle.position_moves.specs.laws.Steps.{riichi_applied}
+use Rattle.position.proofs.laws.Form.{few_sticks, score_within}
+use Rattle.position.proofs.laws.Sums.{paid}
+use Rattle.position_moves.proofs.laws.Steps.{riichi_applied}
 use Rattle.position_moves.proofs.put_stick.Statement.{statement}
 use Rattle.position_moves.proofs.put_stick.Tie as tie
 

@@ -3,9 +3,9 @@ use mathlib.Core.Path.{◌≡◌, sym, ◌∙◌}
 use native.Mathlib.Omega.{arith}
 use borrow.Author.Rules.{rules}
 use Rattle.hand_rons.specs.Records.{records_of}
-use Rattle.hand_rons.specs.laws.OneTile.{all_read}
-use Rattle.hand_rons.specs.laws.Hands.{room_for}
-use Rattle.position_multi_ron.specs.laws.Settled.{first_discarder, rons_refused, rons_accepted, rons_applied}
+use Rattle.hand_rons.proofs.laws.OneTile.{all_read}
+use Rattle.hand_rons.proofs.laws.Hands.{room_for}
+use Rattle.position_multi_ron.proofs.laws.Settled.{first_discarder, rons_refused, rons_accepted, rons_applied}
 use Rattle.position_multi_ron.proofs.book_rons.Statement.{statement}
 use Rattle.position_multi_ron.proofs.book_rons.Tie as tie
 

@@ -7,13 +7,13 @@ use native.Mathlib.Omega.{arith}
 use borrow.Author.Rules.{rules}
 use lib.ListN.{take}
 use Rattle.hand_rons.specs.Records.{hand_for, records_of, first_unreadable}
-use Rattle.hand_rons.specs.laws.OneTile.{all_read}
-use Rattle.hand_rons.specs.laws.Hands.{room_for}
+use Rattle.hand_rons.proofs.laws.OneTile.{all_read}
+use Rattle.hand_rons.proofs.laws.Hands.{room_for}
 use Rattle.position.specs.Booking.{result, multi_ron}
 use Rattle.position.specs.Ledger.{not_open}
-use Rattle.position.specs.laws.Form.{open_of}
-use Rattle.position.specs.laws.Refusals.{refused_moves, multi_ron_shut, multi_ron_number, multi_ron_unreadable, multi_ron_by}
-use Rattle.position_multi_ron.specs.laws.Settled.{all_bounds, some_few, rons_booked}
+use Rattle.position.proofs.laws.Form.{open_of}
+use Rattle.position.proofs.laws.Refusals.{refused_moves, multi_ron_shut, multi_ron_number, multi_ron_unreadable, multi_ron_by}
+use Rattle.position_multi_ron.proofs.laws.Settled.{all_bounds, some_few, rons_booked}
 use Rattle.position_multi_ron.proofs.multi_ron.Statement.{statement}
 use Rattle.position_multi_ron.proofs.multi_ron.Tie as tie
 

@@ -6,10 +6,10 @@ use native.Mathlib.Omega.{arith}
 use borrow.Author.Rules.{rules}
 use lib.ListN.{length, take}
 use Rattle.hand_rons.specs.Records.{hand_for}
-use Rattle.hand_rons.specs.laws.OneTile.{AllRead}
-use Rattle.position.specs.laws.Form.{few_sticks}
-use Rattle.position.specs.laws.Sums.{gifts_small}
-use Rattle.position_multi_ron.specs.laws.Settled.{SettlesAll, Given, given_none, given_small, given_all, given_refused, given_more}
+use Rattle.hand_rons.proofs.laws.OneTile.{AllRead}
+use Rattle.position.proofs.laws.Form.{few_sticks}
+use Rattle.position.proofs.laws.Sums.{gifts_small}
+use Rattle.position_multi_ron.proofs.laws.Settled.{SettlesAll, Given, given_none, given_small, given_all, given_refused, given_more}
 use Rattle.position_multi_ron.proofs.settle_all.Statement.{statement}
 use Rattle.position_multi_ron.proofs.settle_all.Tie as tie
 

@@ -4,7 +4,7 @@ use Rattle.tiles.specs.Below.{tabulate}
 use Rattle.hand.specs.declared.Hand.{Hand}
 use Rattle.hand_record.specs.search.Bounds.{Bounds}
 use Rattle.hand_rons.specs.Records.{hand_for, records_of, first_unreadable}
-use Rattle.hand_rons.specs.laws.Hands.{blank}
+use Rattle.hand_rons.proofs.laws.Hands.{blank}
 use Rattle.position.specs.declared.Position.{Position}
 use Rattle.position.specs.Booking.{result, multi_ron}
 use Rattle.position.specs.Ledger.{multi_ron_gives, effect_of, applied}

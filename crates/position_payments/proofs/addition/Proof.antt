@@ -1,7 +1,7 @@
 -- `position_payments::addition` meets its contract: 300 for each of 200 counters does not wrap.
 use native.Mathlib.Omega.{arith}
 use borrow.Author.Rules.{rules}
-use Rattle.position.specs.laws.Sums.{held}
+use Rattle.position.proofs.laws.Sums.{held}
 use Rattle.position_payments.proofs.addition.Statement.{statement}
 use Rattle.position_payments.proofs.addition.Tie as tie
 

@@ -3,10 +3,10 @@ use mathlib.Core.Path.{◌∙◌}
 use native.Mathlib.Omega.{arith}
 use borrow.Author.Rules.{rules}
 use Rattle.position.specs.Ledger.{paid_by_others}
-use Rattle.position.specs.laws.Bounds.{most_change}
-use Rattle.position.specs.laws.Sums.{four_within}
+use Rattle.position.proofs.laws.Bounds.{most_change}
+use Rattle.position.proofs.laws.Sums.{four_within}
 use Rattle.position_payments.specs.search.Parts.{repeat_pays}
-use Rattle.position_payments.specs.laws.Parts.{added_at}
+use Rattle.position_payments.proofs.laws.Parts.{added_at}
 use Rattle.position_payments.proofs.additions.Statement.{statement}
 use Rattle.position_payments.proofs.additions.Tie as tie
 

@@ -1,7 +1,7 @@
 -- `position_payments::fine` meets its contract: 3,000 for each of four seats does not wrap.
 use native.Mathlib.Omega.{arith}
 use borrow.Author.Rules.{rules}
-use Rattle.position.specs.laws.Sums.{held}
+use Rattle.position.proofs.laws.Sums.{held}
 use Rattle.position_payments.proofs.fine.Statement.{statement}
 use Rattle.position_payments.proofs.fine.Tie as tie
 

@@ -2,7 +2,7 @@
 use mathlib.Core.Path.{refl}
 use native.Mathlib.Omega.{arith}
 use borrow.Author.Rules.{rules}
-use Rattle.position.specs.laws.Sums.{neg_within, less_fits, less_is}
+use Rattle.position.proofs.laws.Sums.{neg_within, less_fits, less_is}
 use Rattle.position_payments.proofs.less.Statement.{statement}
 use Rattle.position_payments.proofs.less.Tie as tie
 

@@ -2,7 +2,7 @@
 use mathlib.Core.Path.{refl}
 use native.Mathlib.Omega.{arith}
 use borrow.Author.Rules.{rules}
-use Rattle.position.specs.laws.Sums.{plain}
+use Rattle.position.proofs.laws.Sums.{plain}
 use Rattle.position_payments.proofs.more.Statement.{statement}
 use Rattle.position_payments.proofs.more.Tie as tie
 

@@ -1,7 +1,7 @@
 -- `position_payments::pao_given` meets its contract: a whole does not wrap.
 use native.Mathlib.Omega.{arith}
 use borrow.Author.Rules.{rules}
-use Rattle.position.specs.laws.Sums.{held}
+use Rattle.position.proofs.laws.Sums.{held}
 use Rattle.position_payments.proofs.pao_given.Statement.{statement}
 use Rattle.position_payments.proofs.pao_given.Tie as tie
 

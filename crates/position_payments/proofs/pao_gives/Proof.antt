@@ -7,11 +7,11 @@ use borrow.Author.Rules.{rules}
 use lib.Dec.{eqb}
 use lib.IntN.{ℤ, pos, neg_ℤ}
 use Rattle.position.specs.Ledger.{paid_by_others, whole_of}
-use Rattle.position.specs.laws.Bounds.{most_change}
-use Rattle.position.specs.laws.Sums.{four_within}
-use Rattle.position.specs.laws.Owed.{whole_even}
+use Rattle.position.proofs.laws.Bounds.{most_change}
+use Rattle.position.proofs.laws.Sums.{four_within}
+use Rattle.position.proofs.laws.Owed.{whole_even}
 use Rattle.position_payments.specs.search.Parts.{pao_pays}
-use Rattle.position_payments.specs.laws.Parts.{pao_at}
+use Rattle.position_payments.proofs.laws.Parts.{pao_at}
 use Rattle.position_payments.proofs.pao_gives.Statement.{statement}
 use Rattle.position_payments.proofs.pao_gives.Tie as tie
 

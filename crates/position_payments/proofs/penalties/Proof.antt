@@ -9,8 +9,8 @@ use lib.IntN.{ℤ, pos, ◌+ℤ◌}
 use lib.ListN.{get_or}
 use Rattle.tiles.specs.Below.{count}
 use Rattle.position.specs.Ledger.{fine_of}
-use Rattle.position.specs.laws.Fines.{fined_by, fined_at}
-use Rattle.position.specs.laws.Sums.{four}
+use Rattle.position.proofs.laws.Fines.{fined_by, fined_at}
+use Rattle.position.proofs.laws.Sums.{four}
 use Rattle.position_payments.proofs.penalties.Statement.{statement}
 use Rattle.position_payments.proofs.penalties.Tie as tie
 

@@ -2,9 +2,9 @@
 use native.Mathlib.Omega.{arith}
 use borrow.Author.Rules.{rules}
 use lib.IntN.{ℤ, ◌+ℤ◌}
-use Rattle.score.specs.laws.Z.{Within, within_add}
-use Rattle.position.specs.laws.Bounds.{amount, most_change}
-use Rattle.position.specs.laws.Sums.{plus_fits, plus_is}
+use Rattle.score.proofs.laws.Z.{Within, within_add}
+use Rattle.position.proofs.laws.Bounds.{amount, most_change}
+use Rattle.position.proofs.laws.Sums.{plus_fits, plus_is}
 use Rattle.position_payments.proofs.penalty.Statement.{statement}
 use Rattle.position_payments.proofs.penalty.Tie as tie
 

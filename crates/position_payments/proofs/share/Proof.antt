@@ -7,9 +7,9 @@ use native.Mathlib.Omega.{arith}
 use borrow.Author.Tests.{eqb-false}
 use borrow.Author.Rules.{rules}
 use lib.Dec.{eqb}
-use Rattle.tiles.specs.laws.Below.{or_both}
-use Rattle.position.specs.laws.Bounds.{amount}
-use Rattle.position.specs.laws.Sums.{held}
+use Rattle.tiles.proofs.laws.Below.{or_both}
+use Rattle.position.proofs.laws.Bounds.{amount}
+use Rattle.position.proofs.laws.Sums.{held}
 use Rattle.position_payments.proofs.share.Statement.{statement}
 use Rattle.position_payments.proofs.share.Tie as tie
 

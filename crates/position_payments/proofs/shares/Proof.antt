@@ -5,7 +5,7 @@ use borrow.Author.Rules.{rules}
 use lib.ListN.{get_or}
 use Rattle.tiles.specs.Below.{count}
 use Rattle.position.specs.Ledger.{share_of}
-use Rattle.position.specs.laws.Sums.{four}
+use Rattle.position.proofs.laws.Sums.{four}
 use Rattle.position_payments.proofs.shares.Statement.{statement}
 use Rattle.position_payments.proofs.shares.Tie as tie
 

@@ -3,7 +3,7 @@ use mathlib.Core.Bool.{cond}
 use borrow.Author.Rules.{rules}
 use lib.Dec.{eqb}
 use lib.IntN.{pos, neg_ℤ}
-use Rattle.position.specs.laws.Sums.{four}
+use Rattle.position.proofs.laws.Sums.{four}
 use Rattle.position_payments.proofs.stakes.Statement.{statement}
 use Rattle.position_payments.proofs.stakes.Tie as tie
 

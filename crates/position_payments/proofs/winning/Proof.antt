@@ -6,9 +6,9 @@ use borrow.Author.Rules.{rules}
 use lib.IntN.{ℤ, pos, ◌+ℤ◌}
 use mir.Syntax.{w32}
 use mir.Val.{SFits}
-use Rattle.score.specs.laws.Z.{Within, add_law, within_add, eq_parts}
-use Rattle.position.specs.laws.Bounds.{amount, most_change, most_sticks, most_gift}
-use Rattle.position.specs.laws.Sums.{B32, fit32, held, plus_fits, plus_is}
+use Rattle.score.proofs.laws.Z.{Within, add_law, within_add, eq_parts}
+use Rattle.position.proofs.laws.Bounds.{amount, most_change, most_sticks, most_gift}
+use Rattle.position.proofs.laws.Sums.{B32, fit32, held, plus_fits, plus_is}
 use Rattle.position_payments.proofs.winning.Statement.{statement}
 use Rattle.position_payments.proofs.winning.Tie as tie
 

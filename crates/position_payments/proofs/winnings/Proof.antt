@@ -7,9 +7,9 @@ use borrow.Author.Rules.{rules}
 use lib.Dec.{eqb}
 use lib.IntN.{ℤ, pos, ◌+ℤ◌}
 use lib.ListN.{get_or}
-use Rattle.score.specs.laws.Z.{Within}
-use Rattle.position.specs.laws.Bounds.{most_change, most_sticks, most_gift}
-use Rattle.position.specs.laws.Sums.{B32, held, four_within}
+use Rattle.score.proofs.laws.Z.{Within}
+use Rattle.position.proofs.laws.Bounds.{most_change, most_sticks, most_gift}
+use Rattle.position.proofs.laws.Sums.{B32, held, four_within}
 use Rattle.position_payments.proofs.winnings.Statement.{statement}
 use Rattle.position_payments.proofs.winnings.Tie as tie
 

@@ -1,6 +1,6 @@
 -- `position_win::pao_of` meets its contract: each return is a case of what is reported.
 use borrow.Author.Rules.{rules}
-use Rattle.position.specs.laws.Pao.{index_28, index_29}
+use Rattle.position.proofs.laws.Pao.{index_28, index_29}
 use Rattle.position_win.proofs.pao_of.Statement.{statement}
 use Rattle.position_win.proofs.pao_of.Tie as tie
 

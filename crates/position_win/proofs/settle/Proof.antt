@@ -2,9 +2,9 @@
 use mathlib.Core.Path.{ap}
 use borrow.Author.Rules.{rules}
 use Rattle.hand_record.specs.Record.{refusal_in}
-use Rattle.hand_record.specs.laws.Bounds.{answer_is, hand_is, hand_bounds}
-use Rattle.hand_rons.specs.laws.OneTile.{refused_read}
-use Rattle.position_win.specs.laws.Settling.{settled_unreadable}
+use Rattle.hand_record.proofs.laws.Bounds.{answer_is, hand_is, hand_bounds}
+use Rattle.hand_rons.proofs.laws.OneTile.{refused_read}
+use Rattle.position_win.proofs.laws.Settling.{settled_unreadable}
 use Rattle.position_win.proofs.settle.Statement.{statement}
 use Rattle.position_win.proofs.settle.Tie as tie
 

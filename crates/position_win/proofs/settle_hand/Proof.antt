@@ -10,12 +10,12 @@ use Rattle.hand.specs.declared.Hand.{Hand}
 use Rattle.hand_record.specs.Record.{refusal_in, read_of}
 use Rattle.score.specs.declared.Scored.{Scored}
 use Rattle.score.specs.search.HandScore.{hand_score_of}
-use Rattle.score.specs.laws.Changes.{changes_within}
-use Rattle.score.specs.laws.HandScore.{score_read}
+use Rattle.score.proofs.laws.Changes.{changes_within}
+use Rattle.score.proofs.laws.HandScore.{score_read}
 use Rattle.position.specs.Ledger.{hand_for, scored_for, liable_by, liable_in, holds_four_winds}
-use Rattle.position.specs.laws.Owed.{IsOther, other_liable}
-use Rattle.position.specs.laws.Pao.{feeder_seat}
-use Rattle.position_win.specs.laws.Settling.{liable_of, settled_read}
+use Rattle.position.proofs.laws.Owed.{IsOther, other_liable}
+use Rattle.position.proofs.laws.Pao.{feeder_seat}
+use Rattle.position_win.proofs.laws.Settling.{liable_of, settled_read}
 use Rattle.position_win.proofs.settle_hand.Statement.{statement}
 use Rattle.position_win.proofs.settle_hand.Tie as tie
 

@@ -3,8 +3,8 @@ use mathlib.Core.Path.{sym, ◌∙◌}
 use mathlib.Core.Bool.{true, false}
 use native.Mathlib.Omega.{arith}
 use borrow.Author.Rules.{rules}
-use Rattle.hand_record.specs.laws.Bounds.{other_seat}
-use Rattle.position_win.specs.laws.Settling.{won_refused, won_accepted, won_unscored, won_scored}
+use Rattle.hand_record.proofs.laws.Bounds.{other_seat}
+use Rattle.position_win.proofs.laws.Settling.{won_refused, won_accepted, won_unscored, won_scored}
 use Rattle.position_win.proofs.settle_scored.Statement.{statement}
 use Rattle.position_win.proofs.settle_scored.Tie as tie
 

@@ -5,10 +5,10 @@ use native.Mathlib.Omega.{arith}
 use borrow.Author.Rules.{rules}
 use Rattle.position.specs.Booking.{result, win}
 use Rattle.position.specs.Ledger.{not_open}
-use Rattle.position.specs.laws.Form.{Open, open_of, few_sticks}
-use Rattle.position.specs.laws.Sums.{gifts_small}
-use Rattle.position.specs.laws.Refusals.{refused_moves, accepted_moves, win_shut, win_by}
-use Rattle.position_win.specs.laws.Settling.{win_applied}
+use Rattle.position.proofs.laws.Form.{Open, open_of, few_sticks}
+use Rattle.position.proofs.laws.Sums.{gifts_small}
+use Rattle.position.proofs.laws.Refusals.{refused_moves, accepted_moves, win_shut, win_by}
+use Rattle.position_win.proofs.laws.Settling.{win_applied}
 use Rattle.position_win.proofs.win.Statement.{statement}
 use Rattle.position_win.proofs.win.Tie as tie
 

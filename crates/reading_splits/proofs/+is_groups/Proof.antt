@@ -5,8 +5,8 @@ use native.Mathlib.Omega.{arith}
 use lib.ListN.{length}
 use borrow.Author.Rules.{rules}
 use Rattle.reading_splits.specs.search.SplitsInto.{lowest}
-use Rattle.reading_splits.specs.laws.SplitsInto.{splits_into_none, splits_into_over, without_from}
-use Rattle.reading_splits.specs.laws.Groups.{fits_three, groups_three, groups_run, groups_none}
+use Rattle.reading_splits.proofs.laws.SplitsInto.{splits_into_none, splits_into_over, without_from}
+use Rattle.reading_splits.proofs.laws.Groups.{fits_three, groups_three, groups_run, groups_none}
 use borrow.Fn.Kinds.{In}
 use borrow.Fn.PlainCycle.{Measures, is, falls, and}
 use Rattle.reading_splits.proofs.is_groups.Reads as is-groups

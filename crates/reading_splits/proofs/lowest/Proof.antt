@@ -4,7 +4,7 @@ use Prim.Native.Nat.{◌≤◌, ◌-◌}
 use native.Mathlib.Omega.{arith}
 use borrow.Author.Rules.{rules}
 use Rattle.reading_splits.specs.search.SplitsInto.{lowest}
-use Rattle.reading_splits.specs.laws.SplitsInto.{lowest_found, lowest_turn, lowest_none}
+use Rattle.reading_splits.proofs.laws.SplitsInto.{lowest_found, lowest_turn, lowest_none}
 use Rattle.reading_splits.proofs.lowest.Statement.{statement}
 use Rattle.reading_splits.proofs.lowest.Tie as tie
 

@@ -9,8 +9,8 @@ use borrow.Author.Rules.{rules}
 use Rattle.reading.specs.search.Readings.{less}
 use Rattle.reading.specs.search.Pairs.{Among}
 use Rattle.reading_splits.specs.search.SplitsInto.{splits_into}
-use Rattle.reading_splits.specs.laws.SplitsInto.{splits_test}
-use Rattle.reading_splits.specs.laws.Groups.{pair_found, pair_none, tried_more}
+use Rattle.reading_splits.proofs.laws.SplitsInto.{splits_test}
+use Rattle.reading_splits.proofs.laws.Groups.{pair_found, pair_none, tried_more}
 use Rattle.reading_splits.proofs.splits.Statement.{statement}
 use Rattle.reading_splits.proofs.splits.Tie as tie
 

@@ -6,7 +6,7 @@ use borrow.Author.Tests.{lt-ltb, le-ltb, not-true, not-false}
 use native.Mathlib.Omega.{arith}
 use Rattle.tiles.specs.Groups.{is_group}
 use Rattle.reading.specs.search.Readings.{fits}
-use Rattle.reading.specs.laws.Groups.{run_in, triplet_in}
+use Rattle.reading.proofs.laws.Groups.{run_in, triplet_in}
 use Rattle.reading_steps.proofs.fits.Statement.{statement}
 use Rattle.reading_steps.proofs.fits.Tie as tie
 

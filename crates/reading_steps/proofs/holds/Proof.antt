@@ -1,7 +1,7 @@
 -- `reading_steps::holds` meets its contract: each `return` is the case that its tests say.
 use mathlib.Core.Path.{sym, ◌∙◌}
 use borrow.Author.Rules.{rules}
-use Rattle.reading.specs.laws.Groups.{run_has, triplet_has, holds_pair, holds_group}
+use Rattle.reading.proofs.laws.Groups.{run_has, triplet_has, holds_pair, holds_group}
 use Rattle.reading_steps.proofs.holds.Statement.{statement}
 use Rattle.reading_steps.proofs.holds.Tie as tie
 

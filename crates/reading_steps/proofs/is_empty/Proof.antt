@@ -7,7 +7,7 @@ use borrow.Author.Tests.{eq-eqb, ne_eqb}
 use lib.Dec.{eqb}
 use lib.ListN.{get_or}
 use Rattle.tiles.specs.Below.{all_below}
-use Rattle.tiles.specs.laws.Below.{every_none, every_more, every_stop, every_done}
+use Rattle.tiles.proofs.laws.Below.{every_none, every_more, every_stop, every_done}
 use Rattle.reading.specs.search.Readings.{is_empty}
 use Rattle.reading_steps.proofs.is_empty.Statement.{statement}
 use Rattle.reading_steps.proofs.is_empty.Tie as tie

@@ -12,7 +12,7 @@ use lib.Dec.{eqb}
 use lib.ListN.{get_or}
 use Rattle.tiles.specs.Kinds.{is_yaochu}
 use Rattle.reading.specs.Reading.{is_orphans}
-use Rattle.reading.specs.laws.Counted.{Counted, counted_none, counted_one, counted_skip, counted_stop, counted_done}
+use Rattle.reading.proofs.laws.Counted.{Counted, counted_none, counted_one, counted_skip, counted_stop, counted_done}
 use Rattle.reading_steps.proofs.is_orphans.Statement.{statement}
 use Rattle.reading_steps.proofs.is_orphans.Tie as tie
 

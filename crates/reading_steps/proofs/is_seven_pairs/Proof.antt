@@ -9,7 +9,7 @@ use borrow.Author.Tests.{ne_eqb}
 use lib.Dec.{leb, eqb}
 use lib.ListN.{get_or}
 use Rattle.reading.specs.Reading.{is_seven_pairs}
-use Rattle.reading.specs.laws.Counted.{Counted, counted_none, counted_one, counted_skip, counted_stop, counted_done}
+use Rattle.reading.proofs.laws.Counted.{Counted, counted_none, counted_one, counted_skip, counted_stop, counted_done}
 use Rattle.reading_steps.proofs.is_seven_pairs.Statement.{statement}
 use Rattle.reading_steps.proofs.is_seven_pairs.Tie as tie
 

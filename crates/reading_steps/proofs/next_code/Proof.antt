@@ -9,7 +9,7 @@ use borrow.Author.Tests.{lt-ltb, le-ltb}
 use lib.ListN.{get_or}
 use Rattle.tiles.specs.Groups.{is_group}
 use Rattle.reading.specs.search.Readings.{fits, passes}
-use Rattle.reading.specs.laws.Groups.{run_or}
+use Rattle.reading.proofs.laws.Groups.{run_or}
 use Rattle.reading_steps.proofs.next_code.Statement.{statement}
 use Rattle.reading_steps.proofs.next_code.Tie as tie
 

@@ -10,8 +10,8 @@ use lib.Dec.{ltb, eqb}
 use lib.ListN.{length, get_or}
 use Rattle.tiles.specs.Below.{sum}
 use Rattle.reading.specs.search.Pairs.{PairBeside, Among, OnlyPairs}
-use Rattle.reading.specs.laws.Groups.{at_same, get_d_pos}
-use Rattle.reading.specs.laws.Pairs.{weighed, suit_of_pair, suit_beside, weight_of_pair, honour_of_pair, honour_beside}
+use Rattle.reading.proofs.laws.Groups.{at_same, get_d_pos}
+use Rattle.reading.proofs.laws.Pairs.{weighed, suit_of_pair, suit_beside, weight_of_pair, honour_of_pair, honour_beside}
 use Rattle.reading_steps.specs.declared.Pairs.{Pairs}
 use Rattle.reading_steps.proofs.pairs_in.Statement.{statement}
 use Rattle.reading_steps.proofs.pairs_in.Tie as tie

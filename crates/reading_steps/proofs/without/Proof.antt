@@ -9,7 +9,7 @@ use borrow.Author.Tests.{lt-ltb, le-ltb}
 use lib.ListN.{get_or, set}
 use lib.Seq.{get_or-set_other}
 use Rattle.reading.specs.search.Readings.{fits, without, less}
-use Rattle.reading.specs.laws.Groups.{run_in, triplet_in, fits_group, fits_run, fits_triplet}
+use Rattle.reading.proofs.laws.Groups.{run_in, triplet_in, fits_group, fits_run, fits_triplet}
 use Rattle.reading_steps.proofs.without.Statement.{statement}
 use Rattle.reading_steps.proofs.without.Tie as tie
 

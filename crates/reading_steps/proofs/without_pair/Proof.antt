@@ -5,7 +5,7 @@ use lib.ListN.{length}
 use Prim.Native.Nat.{◌<◌}
 use native.Mathlib.Omega.{arith}
 use Rattle.reading.specs.search.Readings.{less}
-use Rattle.reading.specs.laws.Groups.{get_d_pos}
+use Rattle.reading.proofs.laws.Groups.{get_d_pos}
 use Rattle.reading_steps.proofs.without_pair.Statement.{statement}
 use Rattle.reading_steps.proofs.without_pair.Tie as tie
 

@@ -3,7 +3,7 @@ use borrow.Author.Rules.{rules}
 use mathlib.Core.Path.{refl}
 use native.Mathlib.Omega.{arith}
 use Rattle.ready_choices.specs.search.Moves.{a_of, b_of, g_of}
-use Rattle.ready_choices.specs.laws.State.{state_small}
+use Rattle.ready_choices.proofs.laws.State.{state_small}
 use Rattle.ready_choices.proofs.begun_in.Statement.{statement}
 use Rattle.ready_choices.proofs.begun_in.Tie as tie
 

@@ -2,7 +2,7 @@
 use borrow.Author.Rules.{rules}
 use Prim.Native.Nat.{◌-◌, ◌≤◌}
 use native.Mathlib.Omega.{arith}
-use Rattle.ready_choices.specs.laws.Makes.{makes_orphans, makes_others, makes_no_orphans, orphans_one}
+use Rattle.ready_choices.proofs.laws.Makes.{makes_orphans, makes_others, makes_no_orphans, orphans_one}
 use Rattle.ready_choices.proofs.orphans.Statement.{statement}
 use Rattle.ready_choices.proofs.orphans.Tie as tie
 

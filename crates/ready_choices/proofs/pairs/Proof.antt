@@ -1,7 +1,7 @@
 -- `ready_choices::pairs` meets its contract: each `return` is the case that its test says.
 use borrow.Author.Rules.{rules}
 use native.Mathlib.Omega.{arith}
-use Rattle.ready_choices.specs.laws.Makes.{makes_pairs, makes_no_pairs, pairs_one}
+use Rattle.ready_choices.proofs.laws.Makes.{makes_pairs, makes_no_pairs, pairs_one}
 use Rattle.ready_choices.proofs.pairs.Statement.{statement}
 use Rattle.ready_choices.proofs.pairs.Tie as tie
 

@@ -1,6 +1,6 @@
 -- `ready_choices::regular` meets its contract: each `return` is the case that its test says.
 use borrow.Author.Rules.{rules}
-use Rattle.ready_choices.specs.laws.Makes.{regular_test, makes_read, makes_unreadable}
+use Rattle.ready_choices.proofs.laws.Makes.{regular_test, makes_read, makes_unreadable}
 use Rattle.ready_choices.proofs.regular.Statement.{statement}
 use Rattle.ready_choices.proofs.regular.Tie as tie
 

@@ -3,7 +3,7 @@ use borrow.Author.Rules.{rules}
 use mathlib.Core.Path.{◌≡◌}
 use Prim.Native.Nat.{◌-◌}
 use native.Mathlib.Omega.{arith}
-use Rattle.ready_choices.specs.laws.State.{tetra_less}
+use Rattle.ready_choices.proofs.laws.State.{tetra_less}
 use Rattle.ready_choices.proofs.smaller.Statement.{statement}
 use Rattle.ready_choices.proofs.smaller.Tie as tie
 

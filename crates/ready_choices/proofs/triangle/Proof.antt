@@ -3,7 +3,7 @@ use borrow.Author.Rules.{rules}
 use mathlib.Core.Path.{refl}
 use native.Mathlib.Omega.{arith}
 use Rattle.ready_choices.specs.search.Moves.{triangle}
-use Rattle.ready_choices.specs.laws.State.{product_low}
+use Rattle.ready_choices.proofs.laws.State.{product_low}
 use Rattle.ready_choices.proofs.triangle.Statement.{statement}
 use Rattle.ready_choices.proofs.triangle.Tie as tie
 

@@ -1,6 +1,6 @@
 -- `ready_choices::value` meets its contract: each `return` is the case that its test says.
 use borrow.Author.Rules.{rules}
-use Rattle.ready_choices.specs.laws.Makes.{value_with, value_without}
+use Rattle.ready_choices.proofs.laws.Makes.{value_with, value_without}
 use Rattle.ready_choices.proofs.value.Statement.{statement}
 use Rattle.ready_choices.proofs.value.Tie as tie
 

@@ -1,7 +1,7 @@
 -- `ready_nearest::better` meets its contract: a move that cannot be made is worth nothing.
 use borrow.Author.Rules.{rules}
 use native.Mathlib.Omega.{arith}
-use Rattle.ready_nearest.specs.laws.Kept.{worth_no_more}
+use Rattle.ready_nearest.proofs.laws.Kept.{worth_no_more}
 use Rattle.ready_nearest.proofs.better.Statement.{statement}
 use Rattle.ready_nearest.proofs.better.Tie as tie
 

@@ -8,7 +8,7 @@ use Prim.Native.Nat.{◌≤◌, ◌-◌}
 use native.Mathlib.Omega.{arith}
 use Rattle.ready_choices.specs.search.Moves.{live}
 use Rattle.ready_nearest.specs.search.Found.{Chose, after}
-use Rattle.ready_nearest.specs.laws.Chosen.{chose_dead, chose_none, chose_with, chose_without, tries_done}
+use Rattle.ready_nearest.proofs.laws.Chosen.{chose_dead, chose_none, chose_with, chose_without, tries_done}
 use Rattle.ready_nearest.proofs.choose.Statement.{statement}
 use Rattle.ready_nearest.proofs.choose.Tie as tie
 

@@ -1,6 +1,6 @@
 -- `ready_nearest::found` meets its contract: the complete hand of the best choices, with one tile less, is the nearest ready hand.
 use borrow.Author.Rules.{rules}
-use Rattle.ready_nearest.specs.laws.Answer.{fours_hand, fours_melds, some_complete, value_low, tile_more, answer}
+use Rattle.ready_nearest.proofs.laws.Answer.{fours_hand, fours_melds, some_complete, value_low, tile_more, answer}
 use Rattle.ready_nearest.proofs.found.Statement.{statement}
 use Rattle.ready_nearest.proofs.found.Tie as tie
 

@@ -2,7 +2,7 @@
 use borrow.Author.Rules.{rules}
 use borrow.Author.Tests.{not-true, not-false}
 use mathlib.Core.Path.{sym, ◌∙◌}
-use Rattle.ready_nearest.specs.laws.Kept.{none_dead}
+use Rattle.ready_nearest.proofs.laws.Kept.{none_dead}
 use Rattle.ready_nearest.proofs.most_kept.Statement.{statement}
 use Rattle.ready_nearest.proofs.most_kept.Tie as tie
 

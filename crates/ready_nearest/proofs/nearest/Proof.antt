@@ -4,8 +4,8 @@ use mathlib.Core.Path.{◌≡◌, refl}
 use Prim.Native.Nat.{◌+◌, ◌-◌, ◌*◌, ◌≤◌, ◌<◌}
 use native.Mathlib.Omega.{arith}
 use lib.ListN.{length, get_or, replicate}
-use Rattle.ready_nearest.specs.laws.Answer.{fours_hand, fours_melds}
-use Rattle.ready_nearest.specs.laws.Table.{Filling, filling_begin, filling_more, filling_done, zeros}
+use Rattle.ready_nearest.proofs.laws.Answer.{fours_hand, fours_melds}
+use Rattle.ready_nearest.proofs.laws.Table.{Filling, filling_begin, filling_more, filling_done, zeros}
 use Rattle.ready_nearest.proofs.nearest.Statement.{statement}
 use Rattle.ready_nearest.proofs.nearest.Tie as tie
 

@@ -7,9 +7,9 @@ use Prim.Native.Nat.{ℕ, ◌≤◌}
 use native.Mathlib.Omega.{arith}
 use Rattle.tiles.specs.Kinds.{is_run_start}
 use Rattle.ready_choices.specs.search.Moves.{x_of, y_of, z_of, choices, most, worth}
-use Rattle.ready_choices.specs.laws.Most.{most_none}
+use Rattle.ready_choices.proofs.laws.Most.{most_none}
 use Rattle.ready_nearest.specs.search.Found.{after}
-use Rattle.ready_nearest.specs.laws.Kept.{pairs_none, pairs_one, pairs_two, takes_low, takes_more, groups_done, runs_done}
+use Rattle.ready_nearest.proofs.laws.Kept.{pairs_none, pairs_one, pairs_two, takes_low, takes_more, groups_done, runs_done}
 use Rattle.ready_nearest.proofs.regular.Statement.{statement}
 use Rattle.ready_nearest.proofs.regular.Tie as tie
 

@@ -5,7 +5,7 @@ use native.Mathlib.Omega.{arith}
 use lib.ListN.{get_or}
 use borrow.Author.Count.{below_more}
 use Rattle.reading.specs.search.Readings.{less}
-use Rattle.ready_choices.specs.laws.Sums.{total_le_of}
+use Rattle.ready_choices.proofs.laws.Sums.{total_le_of}
 use Rattle.ready_nearest.proofs.short.Statement.{statement}
 use Rattle.ready_nearest.proofs.short.Tie as tie
 

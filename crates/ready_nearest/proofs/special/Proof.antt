@@ -1,8 +1,8 @@
 -- `ready_nearest::special` meets its contract: two choices, and no other can be made.
 use borrow.Author.Rules.{rules}
 use mathlib.Core.Path.{sym}
-use Rattle.ready_choices.specs.laws.Most.{most_none}
-use Rattle.ready_nearest.specs.laws.Kept.{made_more, special_done}
+use Rattle.ready_choices.proofs.laws.Most.{most_none}
+use Rattle.ready_nearest.proofs.laws.Kept.{made_more, special_done}
 use Rattle.ready_nearest.proofs.special.Statement.{statement}
 use Rattle.ready_nearest.proofs.special.Tie as tie
 

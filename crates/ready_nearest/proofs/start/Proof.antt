@@ -3,7 +3,7 @@ use borrow.Author.Rules.{rules}
 use mathlib.Core.Logic.{⊎_elim}
 use Prim.Native.Nat.{◌-◌}
 use native.Mathlib.Omega.{arith}
-use Rattle.ready_nearest.specs.laws.Table.{Leads, top_melded, leads_seven, leads_regular, top_orphans, top_leads}
+use Rattle.ready_nearest.proofs.laws.Table.{Leads, top_melded, leads_seven, leads_regular, top_orphans, top_leads}
 use Rattle.ready_nearest.proofs.start.Statement.{statement}
 use Rattle.ready_nearest.proofs.start.Tie as tie
 

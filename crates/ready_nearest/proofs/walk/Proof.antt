@@ -2,7 +2,7 @@
 use mathlib.Core.Path.{refl}
 use Prim.Native.Nat.{◌-◌}
 use native.Mathlib.Omega.{arith}
-use Rattle.ready_nearest.specs.laws.Table.{Walking, walking_begin, walking_more, walking_done}
+use Rattle.ready_nearest.proofs.laws.Table.{Walking, walking_begin, walking_more, walking_done}
 use Rattle.ready_nearest.proofs.walk.Statement.{statement}
 use Rattle.ready_nearest.proofs.walk.Tie as tie
 

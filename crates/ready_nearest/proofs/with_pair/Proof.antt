@@ -4,7 +4,7 @@ use mathlib.Core.Path.{◌≡◌}
 use Prim.Native.Nat.{◌+◌, ◌<◌, ◌≤◌}
 use native.Mathlib.Omega.{arith}
 use Rattle.ready_choices.specs.search.Made.{takes}
-use Rattle.ready_nearest.specs.laws.Kept.{takes_more, pair_not, takes_low}
+use Rattle.ready_nearest.proofs.laws.Kept.{takes_more, pair_not, takes_low}
 use Rattle.ready_nearest.proofs.with_pair.Statement.{statement}
 use Rattle.ready_nearest.proofs.with_pair.Tie as tie
 

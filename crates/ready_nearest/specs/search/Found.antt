@@ -4,8 +4,8 @@ use Rattle.tiles.specs.Below.{sum_below}
 use Rattle.reading.specs.search.Readings.{less}
 use Rattle.ready_nearest.specs.declared.Choice.{Choice}
 use Rattle.ready_choices.specs.search.Moves.{x_of, y_of, z_of, taken, next, fine, ended, most, worth, best}
-use Rattle.ready_choices.specs.laws.Reach.{Reach, both}
-use Rattle.ready_choices.specs.laws.Near.{Start}
+use Rattle.ready_choices.proofs.laws.Reach.{Reach, both}
+use Rattle.ready_choices.proofs.laws.Near.{Start}
 
 -- the choice e is that of c
 pub record Got (have room : ℕ) (later : ℕ → ℕ) (k s : ℕ) (c : Choice) : Type 0 where

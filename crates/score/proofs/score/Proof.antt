@@ -3,10 +3,10 @@ use borrow.Author.Rules.{rules}
 use mathlib.Core.Path.{◌∙◌}
 use borrow.Author.Tests.{ltb-false}
 use lib.Dec.{ltb}
-use Rattle.tiles.specs.laws.Below.{or_both}
-use Rattle.hand_record.specs.laws.Bounds.{hand_bounds}
-use Rattle.score.specs.laws.Found.{found_eight, found_refused, found_sound}
-use Rattle.score.specs.laws.HandScore.{both}
+use Rattle.tiles.proofs.laws.Below.{or_both}
+use Rattle.hand_record.proofs.laws.Bounds.{hand_bounds}
+use Rattle.score.proofs.laws.Found.{found_eight, found_refused, found_sound}
+use Rattle.score.proofs.laws.HandScore.{both}
 use Rattle.score.proofs.score.Statement.{statement}
 use Rattle.score.proofs.score.Tie as tie
 

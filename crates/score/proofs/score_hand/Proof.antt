@@ -3,10 +3,10 @@ use borrow.Author.Rules.{rules}
 use mathlib.Core.Path.{◌≡◌, ◌∙◌}
 use lib.ListN.{length}
 use Rattle.score.specs.search.HandScore.{kept_of}
-use Rattle.score.specs.laws.Paid.{Paid, paid_of_lem}
-use Rattle.score.specs.laws.Named.{hand_score_named}
-use Rattle.score.specs.laws.FullReading.{kept_in}
-use Rattle.score.specs.laws.Found.{basic_kept, hand_score_accepted, hand_score_seven, hand_score_six}
+use Rattle.score.proofs.laws.Paid.{Paid, paid_of_lem}
+use Rattle.score.proofs.laws.Named.{hand_score_named}
+use Rattle.score.proofs.laws.FullReading.{kept_in}
+use Rattle.score.proofs.laws.Found.{basic_kept, hand_score_accepted, hand_score_seven, hand_score_six}
 use Rattle.score.proofs.score_hand.Statement.{statement}
 use Rattle.score.proofs.score_hand.Tie as tie
 

@@ -1,7 +1,7 @@
 -- `score_best::keep_better_at` meets its contract.
 use borrow.Author.Rules.{rules}
 use mathlib.Core.Path.{◌∙◌}
-use Rattle.score_best.specs.laws.Keep.{kept_folded}
+use Rattle.score_best.proofs.laws.Keep.{kept_folded}
 use Rattle.score_best.proofs.keep_better_at.Statement.{statement}
 use Rattle.score_best.proofs.keep_better_at.Tie as tie
 

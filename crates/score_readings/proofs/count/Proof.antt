@@ -2,9 +2,9 @@
 use borrow.Author.Rules.{rules}
 use borrow.Author.Tests.{ltb-false}
 use lib.Dec.{ltb}
-use Rattle.tiles.specs.laws.Below.{or_both}
-use Rattle.hand_record.specs.laws.Bounds.{hand_bounds}
-use Rattle.score_readings.specs.laws.Found.{count_eight, count_refused, count_sound}
+use Rattle.tiles.proofs.laws.Below.{or_both}
+use Rattle.hand_record.proofs.laws.Bounds.{hand_bounds}
+use Rattle.score_readings.proofs.laws.Found.{count_eight, count_refused, count_sound}
 use Rattle.score_readings.proofs.count.Statement.{statement}
 use Rattle.score_readings.proofs.count.Tie as tie
 

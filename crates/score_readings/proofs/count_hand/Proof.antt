@@ -3,8 +3,8 @@ use borrow.Author.Rules.{rules}
 use native.Mathlib.Omega.{arith}
 use lib.ListN.{length}
 use mathlib.Core.Path.{◌≡◌}
-use Rattle.score.specs.laws.FullReading.{search_in}
-use Rattle.score_readings.specs.laws.Found.{counts_all}
+use Rattle.score.proofs.laws.FullReading.{search_in}
+use Rattle.score_readings.proofs.laws.Found.{counts_all}
 use Rattle.score_readings.proofs.count_hand.Statement.{statement}
 use Rattle.score_readings.proofs.count_hand.Tie as tie
 

@@ -3,10 +3,10 @@ use borrow.Author.Rules.{rules}
 use mathlib.Core.Path.{◌∙◌}
 use borrow.Author.Tests.{ltb-false}
 use lib.Dec.{ltb}
-use Rattle.tiles.specs.laws.Below.{or_both}
-use Rattle.hand_record.specs.laws.Bounds.{hand_bounds}
-use Rattle.score_readings.specs.laws.Found.{found_eight, found_refused, found_sound}
-use Rattle.score_readings.specs.laws.Claims.{both}
+use Rattle.tiles.proofs.laws.Below.{or_both}
+use Rattle.hand_record.proofs.laws.Bounds.{hand_bounds}
+use Rattle.score_readings.proofs.laws.Found.{found_eight, found_refused, found_sound}
+use Rattle.score_readings.proofs.laws.Claims.{both}
 use Rattle.score_readings.proofs.nth.Statement.{statement}
 use Rattle.score_readings.proofs.nth.Tie as tie
 

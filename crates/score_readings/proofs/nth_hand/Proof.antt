@@ -8,8 +8,8 @@ use Rattle.hand.specs.Hand.{concealed_tally}
 use Rattle.score_best.specs.search.Best.{search_for}
 use Rattle.score.specs.Named.{worth}
 use Rattle.score.specs.search.HandScore.{kept_of}
-use Rattle.score.specs.laws.FullReading.{search_in, kept_in}
-use Rattle.score_readings.specs.laws.Found.{found_le, nth_none, nth_shown, nth_zero}
+use Rattle.score.proofs.laws.FullReading.{search_in, kept_in}
+use Rattle.score_readings.proofs.laws.Found.{found_le, nth_none, nth_shown, nth_zero}
 use Rattle.score_readings.proofs.nth_hand.Statement.{statement}
 use Rattle.score_readings.proofs.nth_hand.Tie as tie
 

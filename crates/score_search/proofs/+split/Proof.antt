@@ -6,9 +6,9 @@ use mathlib.Core.List.{[], ◌∷◌}
 use Prim.Native.Nat.{ℕ, ◌-◌, ◌<◌}
 use native.Mathlib.Omega.{arith}
 use lib.ListN.{length}
-use Rattle.reading.specs.laws.Found.{Stored, stored_none, stored_same, stored_at, Left, left_all, left_same, left_put, left_done, left_room}
-use Rattle.reading.specs.laws.Found.{behind, behind_leaf, behind_over, behind_end, behind_step, behind_next, behind_stop, behind_skip, taken, taken_with}
-use Rattle.reading.specs.laws.Found.{taken_none}
+use Rattle.reading.proofs.laws.Found.{Stored, stored_none, stored_same, stored_at, Left, left_all, left_same, left_put, left_done, left_room}
+use Rattle.reading.proofs.laws.Found.{behind, behind_leaf, behind_over, behind_end, behind_step, behind_next, behind_stop, behind_skip, taken, taken_with}
+use Rattle.reading.proofs.laws.Found.{taken_none}
 use borrow.Fn.Kinds.{In}
 use borrow.Fn.PlainCycle.{Measures, is, falls, and}
 use Rattle.score_search.proofs.split.Reads as split

@@ -6,10 +6,10 @@ use Prim.Native.Nat.{◌-◌, ◌≤◌}
 use native.Mathlib.Omega.{arith}
 use lib.ListN.{get_or}
 use Rattle.reading.specs.search.Readings.{placed}
-use Rattle.reading.specs.laws.Fold.{ranged, ranged_turn, ranged_done, ranged_still}
+use Rattle.reading.proofs.laws.Fold.{ranged, ranged_turn, ranged_done, ranged_still}
 use Rattle.score_best.specs.search.HandCommon.{worth_in}
 use Rattle.score_best.specs.search.Best.{keep_better}
-use Rattle.score_best.specs.laws.Tried.{done_still}
+use Rattle.score_best.proofs.laws.Tried.{done_still}
 use Rattle.score_search.proofs.each.Statement.{statement}
 use Rattle.score_search.proofs.each.Tie as tie
 

@@ -7,10 +7,10 @@ use native.Mathlib.Omega.{arith}
 use borrow.Author.Rules.{rules}
 use Rattle.reading.specs.search.Folded.{folded}
 use Rattle.reading.specs.search.Readings.{placed_at, placed}
-use Rattle.reading.specs.laws.Fold.{ranged, ranged_turn, ranged_done, ranged_still, placed_all, folded_with, folded_none}
+use Rattle.reading.proofs.laws.Fold.{ranged, ranged_turn, ranged_done, ranged_still, placed_all, folded_with, folded_none}
 use Rattle.score_best.specs.search.HandCommon.{worth_in}
 use Rattle.score_best.specs.search.Best.{keep_better}
-use Rattle.score_best.specs.laws.Tried.{done_still}
+use Rattle.score_best.proofs.laws.Tried.{done_still}
 use Rattle.score_search.proofs.places.Statement.{statement}
 use Rattle.score_search.proofs.places.Tie as tie
 

@@ -10,15 +10,15 @@ use lib.ListN.{length}
 use borrow.Author.Rules.{rules}
 use Rattle.reading.specs.search.Pairs.{Among}
 use Rattle.reading.specs.search.Readings.{paired}
-use Rattle.reading.specs.laws.Fold.{folded_still, ranged, ranged_turn, ranged_done, ranged_still, ranged_skip, paired_with, paired_none, paired_out}
-use Rattle.reading.specs.laws.Fold.{readings_with}
-use Rattle.reading.specs.laws.Found.{behind, behind_three}
-use Rattle.reading.specs.laws.Groups.{less_long}
+use Rattle.reading.proofs.laws.Fold.{folded_still, ranged, ranged_turn, ranged_done, ranged_still, ranged_skip, paired_with, paired_none, paired_out}
+use Rattle.reading.proofs.laws.Fold.{readings_with}
+use Rattle.reading.proofs.laws.Found.{behind, behind_three}
+use Rattle.reading.proofs.laws.Groups.{less_long}
 use Rattle.score_best.specs.declared.Best.{Best}
 use Rattle.score_best.specs.search.HandCommon.{worth_in}
 use Rattle.score_best.specs.search.Best.{keep_better, search_for}
-use Rattle.score_best.specs.laws.Keep.{none_going}
-use Rattle.score_best.specs.laws.Tried.{done_still}
+use Rattle.score_best.proofs.laws.Keep.{none_going}
+use Rattle.score_best.proofs.laws.Tried.{done_still}
 use Rattle.score_search.proofs.search_for.Statement.{statement}
 use Rattle.score_search.proofs.search_for.Tie as tie
 

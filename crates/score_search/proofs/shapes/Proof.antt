@@ -10,10 +10,10 @@ use Rattle.reading.specs.declared.Reading.{Reading}
 use Rattle.reading.specs.Reading.{is_seven_pairs, of_shape}
 use Rattle.reading.specs.search.Folded.{folded}
 use Rattle.reading.specs.search.Readings.{when}
-use Rattle.reading.specs.laws.Fold.{folded_with, folded_none, folded_still, shaped_with, shaped_none}
+use Rattle.reading.proofs.laws.Fold.{folded_with, folded_none, folded_still, shaped_with, shaped_none}
 use Rattle.score_best.specs.search.HandCommon.{worth_in}
 use Rattle.score_best.specs.search.Best.{keep_better}
-use Rattle.score_best.specs.laws.Tried.{done_still}
+use Rattle.score_best.proofs.laws.Tried.{done_still}
 use Rattle.score_search.proofs.shapes.Statement.{statement}
 use Rattle.score_search.proofs.shapes.Tie as tie
 

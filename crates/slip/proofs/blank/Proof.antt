@@ -7,7 +7,7 @@ use borrow.Author.Fill.{fill_more}
 use borrow.Author.Rules.{rules}
 use lib.ListN.{length, drop, length-set}
 use Rattle.slip.specs.Line.{spaces}
-use Rattle.slip.specs.laws.Line.{line_feed_last}
+use Rattle.slip.proofs.laws.Line.{line_feed_last}
 use Rattle.slip.proofs.blank.Statement.{statement}
 use Rattle.slip.proofs.blank.Tie as tie
 

@@ -4,7 +4,7 @@ use mathlib.Core.List.{List, ◌++◌}
 use Prim.Native.Nat.{ℕ}
 use lib.ListN.{length, take, drop}
 use borrow.Author.Rules.{rules}
-use Rattle.slip.specs.laws.Line.{line_written}
+use Rattle.slip.proofs.laws.Line.{line_written}
 use Rattle.slip.proofs.put_line.Statement.{statement}
 use Rattle.slip.proofs.put_line.Tie as tie
 

@@ -8,7 +8,7 @@ use Rattle.text.specs.Text.{digits_of}
 use Rattle.text.specs.Words.{bytes_of}
 use Rattle.slip.specs.Line.{slip_line, labels}
 use Rattle.slip.specs.Slip.{line_at}
-use Rattle.slip.specs.laws.Lines.{line_han, line_fu, line_seat}
+use Rattle.slip.proofs.laws.Lines.{line_han, line_fu, line_seat}
 use Rattle.slip.proofs.put_line_at.Statement.{statement}
 use Rattle.slip.proofs.put_line_at.Tie as tie
 

@@ -7,7 +7,7 @@ use lib.ListN.{length, drop, take, length-drop}
 use lib.Seq.{length-take-le}
 use borrow.Author.Rules.{rules}
 use Rattle.slip.specs.Slip.{line_at}
-use Rattle.slip.specs.laws.Lines.{first_lines, lines_long, next_line, six_lines}
+use Rattle.slip.proofs.laws.Lines.{first_lines, lines_long, next_line, six_lines}
 use Rattle.slip.proofs.put_lines.Statement.{statement}
 use Rattle.slip.proofs.put_lines.Tie as tie
 

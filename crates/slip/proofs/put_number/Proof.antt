@@ -6,8 +6,8 @@ use lib.ListN.{length, take}
 use mir.Facts.{to_z-of_z}
 use borrow.Author.Rules.{rules}
 use Rattle.text.specs.Text.{signed_of}
-use Rattle.text.specs.laws.Digits.{length_signed_32}
-use Rattle.text.specs.laws.Put.{take_put}
+use Rattle.text.proofs.laws.Digits.{length_signed_32}
+use Rattle.text.proofs.laws.Put.{take_put}
 use Rattle.slip.specs.Line.{slip_line}
 use Rattle.slip.proofs.put_number.Statement.{statement}
 use Rattle.slip.proofs.put_number.Tie as tie

@@ -5,10 +5,10 @@ use Prim.Native.Nat.{ℕ}
 use mir.Syntax.{w32}
 use mir.Facts.{to_z-of_z}
 use borrow.Author.Rules.{rules}
-use Rattle.bits.specs.laws.Elem.{elem_sfits}
+use Rattle.bits.proofs.laws.Elem.{elem_sfits}
 use Rattle.text.specs.Text.{score_text}
 use Rattle.slip.specs.Line.{slip_line}
-use Rattle.slip.specs.laws.Lines.{seat_label}
+use Rattle.slip.proofs.laws.Lines.{seat_label}
 use Rattle.slip.proofs.put_seat.Statement.{statement}
 use Rattle.slip.proofs.put_seat.Tie as tie
 

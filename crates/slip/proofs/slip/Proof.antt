@@ -5,8 +5,8 @@ use lib.ListN.{drop}
 use borrow.Author.Rules.{rules}
 use Rattle.score.specs.declared.Scored.{Scored}
 use Rattle.slip.specs.Slip.{slip_text}
-use Rattle.slip.specs.laws.Score.{yakuman_zero}
-use Rattle.slip.specs.laws.Answer.{refused, too_short, written, same_zero}
+use Rattle.slip.proofs.laws.Score.{yakuman_zero}
+use Rattle.slip.proofs.laws.Answer.{refused, too_short, written, same_zero}
 use Rattle.slip.proofs.slip.Statement.{statement}
 use Rattle.slip.proofs.slip.Tie as tie
 

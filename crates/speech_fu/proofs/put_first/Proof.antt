@@ -1,6 +1,6 @@
 -- `speech_fu::put_first` meets its contract: item after item.
 use native.Mathlib.Omega.{arith}
-use Rattle.text.specs.laws.Put.{put_then}
+use Rattle.text.proofs.laws.Put.{put_then}
 use borrow.Author.Rules.{rules}
 use Rattle.speech_fu.proofs.put_first.Statement.{statement}
 use Rattle.speech_fu.proofs.put_first.Tie as tie

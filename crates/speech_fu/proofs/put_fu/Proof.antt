@@ -1,7 +1,7 @@
 -- `speech_fu::put_fu` meets its contract: a yakuman, or the items and the sum.
 use native.Mathlib.Omega.{arith}
 use mathlib.Core.Path.{sym, ◌∙◌}
-use Rattle.text.specs.laws.Put.{put_then}
+use Rattle.text.proofs.laws.Put.{put_then}
 use Rattle.speech_told.specs.Messages.{fu_message}
 use borrow.Author.Rules.{rules}
 use Rattle.speech_fu.proofs.put_fu.Statement.{statement}

@@ -1,8 +1,8 @@
 -- `speech_fu::put_items` meets its contract: its parts are put one after the other.
 use native.Mathlib.Omega.{arith}
-use Rattle.text.specs.laws.Put.{put_then}
-use Rattle.speech_phrases.specs.laws.Put.{put_as}
-use Rattle.speech_fu.specs.laws.Items.{items_of}
+use Rattle.text.proofs.laws.Put.{put_then}
+use Rattle.speech_phrases.proofs.laws.Put.{put_as}
+use Rattle.speech_fu.proofs.laws.Items.{items_of}
 use borrow.Author.Rules.{rules}
 use Rattle.speech_fu.proofs.put_items.Statement.{statement}
 use Rattle.speech_fu.proofs.put_items.Tie as tie

@@ -1,10 +1,10 @@
 -- `speech_fu::say_fu` meets its contract: an unknown language, Score's refusal, or the message.
 use mathlib.Core.Path.{ap, ◌∙◌}
 use native.Mathlib.Omega.{arith}
-use Rattle.text.specs.laws.Put.{take_put}
+use Rattle.text.proofs.laws.Put.{take_put}
 use Rattle.score.specs.declared.Scored.{Scored}
 use Rattle.speech_told.specs.Messages.{fu_message}
-use Rattle.speech_score.specs.laws.Said.{unknown_by, refused_by, given_by, put_long, put_fits}
+use Rattle.speech_score.proofs.laws.Said.{unknown_by, refused_by, given_by, put_long, put_fits}
 use borrow.Author.Rules.{rules}
 use Rattle.speech_fu.proofs.say_fu.Statement.{statement}
 use Rattle.speech_fu.proofs.say_fu.Tie as tie

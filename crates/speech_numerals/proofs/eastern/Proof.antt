@@ -1,5 +1,5 @@
 -- `speech_numerals::eastern` meets its contract: its groups are put one after the other.
-use Rattle.text.specs.laws.Put.{put_then}
+use Rattle.text.proofs.laws.Put.{put_then}
 use Rattle.speech_numerals.specs.Numerals.{eastern_of}
 use borrow.Author.Rules.{rules}
 use Rattle.speech_numerals.proofs.eastern.Statement.{statement}

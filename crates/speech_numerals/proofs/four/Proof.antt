@@ -1,6 +1,6 @@
 -- `speech_numerals::four` meets its contract: its places are put one after the other.
 use native.Mathlib.Omega.{arith}
-use Rattle.text.specs.laws.Put.{put_then}
+use Rattle.text.proofs.laws.Put.{put_then}
 use Rattle.speech_numerals.specs.Numerals.{four_of}
 use borrow.Author.Rules.{rules}
 use Rattle.speech_numerals.proofs.four.Statement.{statement}

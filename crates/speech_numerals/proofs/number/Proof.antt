@@ -1,6 +1,6 @@
 -- `speech_numerals::number` meets its contract: 0, English, or one of the three others.
-use Rattle.text.specs.laws.Put.{put_none, put_after}
-use Rattle.speech_numerals.specs.laws.Put.{numeral_zero, numeral_english, numeral_eastern, put_numeral}
+use Rattle.text.proofs.laws.Put.{put_none, put_after}
+use Rattle.speech_numerals.proofs.laws.Put.{numeral_zero, numeral_english, numeral_eastern, put_numeral}
 use borrow.Author.Rules.{rules}
 use Rattle.speech_numerals.proofs.number.Statement.{statement}
 use Rattle.speech_numerals.proofs.number.Tie as tie

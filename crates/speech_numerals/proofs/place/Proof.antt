@@ -1,7 +1,7 @@
 -- `speech_numerals::place` meets its contract: nothing, a clip, or a clip 0 and a clip.
 use native.Mathlib.Omega.{arith}
 use lib.ListN.{length-set}
-use Rattle.speech_numerals.specs.laws.Put.{put_nothing, put_gap, put_digit}
+use Rattle.speech_numerals.proofs.laws.Put.{put_nothing, put_gap, put_digit}
 use borrow.Author.Rules.{rules}
 use Rattle.speech_numerals.proofs.place.Statement.{statement}
 use Rattle.speech_numerals.proofs.place.Tie as tie

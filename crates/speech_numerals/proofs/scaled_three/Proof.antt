@@ -1,7 +1,7 @@
 -- `speech_numerals::scaled_three` meets its contract: nothing, or the digits and the scale.
 use native.Mathlib.Omega.{arith}
 use borrow.Author.Tests.{eq-eqb, ne_eqb}
-use Rattle.text.specs.laws.Put.{put_none, put_after}
+use Rattle.text.proofs.laws.Put.{put_none, put_after}
 use Rattle.speech_numerals.specs.Numerals.{scaled_three}
 use borrow.Author.Rules.{rules}
 use Rattle.speech_numerals.proofs.scaled_three.Statement.{statement}

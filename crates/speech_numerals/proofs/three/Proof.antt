@@ -1,6 +1,6 @@
 -- `speech_numerals::three` meets its contract: hundreds, then what is left.
 use native.Mathlib.Omega.{arith}
-use Rattle.text.specs.laws.Put.{put_then}
+use Rattle.text.proofs.laws.Put.{put_then}
 use Rattle.speech_numerals.specs.Numerals.{three_of}
 use borrow.Author.Rules.{rules}
 use Rattle.speech_numerals.proofs.three.Statement.{statement}

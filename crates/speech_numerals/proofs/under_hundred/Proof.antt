@@ -1,7 +1,7 @@
 -- `speech_numerals::under_hundred` meets its contract: one clip, or tens and ones.
 use Prim.Native.Nat.{◌+◌}
 use native.Mathlib.Omega.{arith}
-use Rattle.text.specs.laws.Put.{put_none, put_then, put_after}
+use Rattle.text.proofs.laws.Put.{put_none, put_then, put_after}
 use Rattle.speech_numerals.specs.Numerals.{under_hundred}
 use borrow.Author.Rules.{rules}
 use Rattle.speech_numerals.proofs.under_hundred.Statement.{statement}

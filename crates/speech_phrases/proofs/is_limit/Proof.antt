@@ -2,7 +2,7 @@
 use Prim.Native.Nat.{◌<◌}
 use native.Mathlib.Omega.{arith}
 use borrow.Author.Rules.{rules}
-use Rattle.speech_phrases.specs.laws.Limit.{limit_0, limit_1, limit_2, limit_3, limit_4, limit_5}
+use Rattle.speech_phrases.proofs.laws.Limit.{limit_0, limit_1, limit_2, limit_3, limit_4, limit_5}
 use Rattle.speech_phrases.proofs.is_limit.Statement.{statement}
 use Rattle.speech_phrases.proofs.is_limit.Tie as tie
 

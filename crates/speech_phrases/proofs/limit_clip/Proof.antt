@@ -1,5 +1,5 @@
 -- `speech_phrases::limit_clip` meets its contract.
-use Rattle.speech_phrases.specs.laws.Limit.{clip_5, clip_7, clip_10, clip_11}
+use Rattle.speech_phrases.proofs.laws.Limit.{clip_5, clip_7, clip_10, clip_11}
 use Rattle.speech_phrases.proofs.limit_clip.Statement.{statement}
 use Rattle.speech_phrases.proofs.limit_clip.Tie as tie
 

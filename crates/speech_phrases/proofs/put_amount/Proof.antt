@@ -1,6 +1,6 @@
 -- `speech_phrases::put_amount` meets its contract: its parts are put one after the other.
 use native.Mathlib.Omega.{arith}
-use Rattle.text.specs.laws.Put.{put_then}
+use Rattle.text.proofs.laws.Put.{put_then}
 use Rattle.speech_told.specs.Phrases.{amount_clips}
 use borrow.Author.Rules.{rules}
 use Rattle.speech_phrases.proofs.put_amount.Statement.{statement}

@@ -1,7 +1,7 @@
 -- `speech_phrases::put_counted` meets its contract.
 use native.Mathlib.Omega.{arith}
 use borrow.Author.Tests.{eq-eqb, ne_eqb}
-use Rattle.text.specs.laws.Put.{put_none, put_then}
+use Rattle.text.proofs.laws.Put.{put_none, put_then}
 use Rattle.speech_told.specs.Phrases.{counted_clips}
 use borrow.Author.Rules.{rules}
 use Rattle.speech_phrases.proofs.put_counted.Statement.{statement}

@@ -1,7 +1,7 @@
 -- `speech_phrases::put_limit` meets its contract.
 use native.Mathlib.Omega.{arith}
-use Rattle.text.specs.laws.Put.{put_none}
-use Rattle.speech_phrases.specs.laws.Put.{put_as, limit_some, limit_none}
+use Rattle.text.proofs.laws.Put.{put_none}
+use Rattle.speech_phrases.proofs.laws.Put.{put_as, limit_some, limit_none}
 use borrow.Author.Rules.{rules}
 use Rattle.speech_phrases.proofs.put_limit.Statement.{statement}
 use Rattle.speech_phrases.proofs.put_limit.Tie as tie

@@ -6,8 +6,8 @@ use lib.IntN.{pos}
 use mir.Syntax.{w32}
 use mir.Val.{SFits}
 use mir.Facts.{to_z-of_z}
-use Rattle.bits.specs.laws.Elem.{elem_sfits}
-use Rattle.text.specs.laws.Put.{put_then}
+use Rattle.bits.proofs.laws.Elem.{elem_sfits}
+use Rattle.text.proofs.laws.Put.{put_then}
 use Rattle.speech_told.specs.Phrases.{payments_clips}
 use borrow.Author.Rules.{rules}
 use Rattle.speech_phrases.proofs.put_payments.Statement.{statement}

@@ -1,8 +1,8 @@
 -- `speech_phrases::put_pays` meets its contract: the amount where the change is negative.
 use native.Mathlib.Omega.{arith}
-use Rattle.text.specs.laws.Put.{put_none}
+use Rattle.text.proofs.laws.Put.{put_none}
 use mir.Facts.{to_z-of_z}
-use Rattle.speech_phrases.specs.laws.Put.{put_as, pays_some, pays_none}
+use Rattle.speech_phrases.proofs.laws.Put.{put_as, pays_some, pays_none}
 use borrow.Author.Rules.{rules}
 use Rattle.speech_phrases.proofs.put_pays.Statement.{statement}
 use Rattle.speech_phrases.proofs.put_pays.Tie as tie

@@ -1,8 +1,8 @@
 -- `speech_phrases::put_score` meets its contract: its parts are put one after the other.
 use native.Mathlib.Omega.{arith}
-use Rattle.text.specs.laws.Put.{put_then}
+use Rattle.text.proofs.laws.Put.{put_then}
 use mir.Facts.{to_z-of_z}
-use Rattle.speech_phrases.specs.laws.Put.{put_as, score_minus, score_plus}
+use Rattle.speech_phrases.proofs.laws.Put.{put_as, score_minus, score_plus}
 use borrow.Author.Rules.{rules}
 use Rattle.speech_phrases.proofs.put_score.Statement.{statement}
 use Rattle.speech_phrases.proofs.put_score.Tie as tie

@@ -1,7 +1,7 @@
 -- `speech_score::gain_of` meets its contract.
 use mir.Syntax.{w32}
 use mir.Facts.{to_z-of_z}
-use Rattle.bits.specs.laws.Elem.{elem_sfits}
+use Rattle.bits.proofs.laws.Elem.{elem_sfits}
 use borrow.Author.Rules.{rules}
 use Rattle.speech_score.proofs.gain_of.Statement.{statement}
 use Rattle.speech_score.proofs.gain_of.Tie as tie

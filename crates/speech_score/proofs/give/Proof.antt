@@ -1,7 +1,7 @@
 -- `speech_score::give` meets its contract: refused, or copied.
 use native.Mathlib.Omega.{arith}
 use mathlib.Core.Path.{◌∙◌}
-use Rattle.speech_score.specs.laws.Said.{short, long}
+use Rattle.speech_score.proofs.laws.Said.{short, long}
 use borrow.Author.Rules.{rules}
 use Rattle.speech_score.proofs.give.Statement.{statement}
 use Rattle.speech_score.proofs.give.Tie as tie

@@ -1,8 +1,8 @@
 -- `speech_score::put_scored` meets its contract: its parts are put one after the other.
 use native.Mathlib.Omega.{arith}
-use Rattle.text.specs.laws.Put.{put_then}
-use Rattle.speech_phrases.specs.laws.Put.{put_as}
-use Rattle.speech_score.specs.laws.Said.{message_of}
+use Rattle.text.proofs.laws.Put.{put_then}
+use Rattle.speech_phrases.proofs.laws.Put.{put_as}
+use Rattle.speech_score.proofs.laws.Said.{message_of}
 use borrow.Author.Rules.{rules}
 use Rattle.speech_score.proofs.put_scored.Statement.{statement}
 use Rattle.speech_score.proofs.put_scored.Tie as tie

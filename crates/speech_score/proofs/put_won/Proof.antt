@@ -1,6 +1,6 @@
 -- `speech_score::put_won` meets its contract: its parts are put one after the other.
 use native.Mathlib.Omega.{arith}
-use Rattle.text.specs.laws.Put.{put_then}
+use Rattle.text.proofs.laws.Put.{put_then}
 use borrow.Author.Rules.{rules}
 use Rattle.speech_score.proofs.put_won.Statement.{statement}
 use Rattle.speech_score.proofs.put_won.Tie as tie

@@ -2,7 +2,7 @@
 use mathlib.Core.Path.{refl}
 use native.Mathlib.Omega.{arith}
 use borrow.Author.Tests.{lt-ltb, le-ltb}
-use Rattle.speech_score.specs.laws.Said.{unknown_by, refused_by, given_by}
+use Rattle.speech_score.proofs.laws.Said.{unknown_by, refused_by, given_by}
 use borrow.Author.Rules.{rules}
 use Rattle.speech_score.proofs.say_refusal.Statement.{statement}
 use Rattle.speech_score.proofs.say_refusal.Tie as tie

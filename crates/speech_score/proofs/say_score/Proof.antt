@@ -1,9 +1,9 @@
 -- `speech_score::say_score` meets its contract: an unknown language, Score's refusal, or the message.
 use mathlib.Core.Path.{ap, ◌∙◌}
 use native.Mathlib.Omega.{arith}
-use Rattle.text.specs.laws.Put.{take_put}
+use Rattle.text.proofs.laws.Put.{take_put}
 use Rattle.score.specs.declared.Scored.{Scored}
-use Rattle.speech_score.specs.laws.Said.{unknown_by, refused_by, given_by, put_long, put_fits, score_said_lem, winner_le}
+use Rattle.speech_score.proofs.laws.Said.{unknown_by, refused_by, given_by, put_long, put_fits, score_said_lem, winner_le}
 use borrow.Author.Rules.{rules}
 use Rattle.speech_score.proofs.say_score.Statement.{statement}
 use Rattle.speech_score.proofs.say_score.Tie as tie

@@ -5,7 +5,7 @@ use Prim.Native.Nat.{◌-◌, ◌≤◌}
 use native.Mathlib.Omega.{arith}
 use lib.ListN.{get_or}
 use Rattle.tiles.specs.Below.{any_below}
-use Rattle.tiles.specs.laws.Below.{some_none, some_more, some_stop, some_done}
+use Rattle.tiles.proofs.laws.Below.{some_none, some_more, some_stop, some_done}
 use borrow.Author.Rules.{rules}
 use Rattle.speech_table.proofs.any_wait.Statement.{statement}
 use Rattle.speech_table.proofs.any_wait.Tie as tie

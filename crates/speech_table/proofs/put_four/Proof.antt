@@ -6,8 +6,8 @@ use lib.IntN.{pos}
 use mir.Syntax.{w32}
 use mir.Val.{SFits}
 use mir.Facts.{to_z-of_z}
-use Rattle.bits.specs.laws.Elem.{elem_sfits}
-use Rattle.text.specs.laws.Put.{put_then}
+use Rattle.bits.proofs.laws.Elem.{elem_sfits}
+use Rattle.text.proofs.laws.Put.{put_then}
 use Rattle.speech_table.specs.Messages.{four_scores}
 use borrow.Author.Rules.{rules}
 use Rattle.speech_table.proofs.put_four.Statement.{statement}

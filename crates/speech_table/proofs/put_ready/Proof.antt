@@ -1,7 +1,7 @@
 -- `speech_table::put_ready` meets its contract.
 use native.Mathlib.Omega.{arith}
 use borrow.Author.Tests.{eq-eqb, ne_eqb}
-use Rattle.text.specs.laws.Put.{put_then}
+use Rattle.text.proofs.laws.Put.{put_then}
 use Rattle.speech_table.specs.Messages.{ready_message}
 use borrow.Author.Rules.{rules}
 use Rattle.speech_table.proofs.put_ready.Statement.{statement}

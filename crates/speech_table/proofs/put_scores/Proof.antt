@@ -1,6 +1,6 @@
 -- `speech_table::put_scores` meets its contract: its parts are put one after the other.
 use native.Mathlib.Omega.{arith}
-use Rattle.text.specs.laws.Put.{put_then}
+use Rattle.text.proofs.laws.Put.{put_then}
 use Rattle.speech_table.specs.Messages.{scores_message}
 use borrow.Author.Rules.{rules}
 use Rattle.speech_table.proofs.put_scores.Statement.{statement}

@@ -2,7 +2,7 @@
 use mathlib.Core.Path.{sym, ◌∙◌}
 use mathlib.Core.List.{append-nil}
 use native.Mathlib.Omega.{arith}
-use Rattle.text.specs.laws.Put.{put_then}
+use Rattle.text.proofs.laws.Put.{put_then}
 use Rattle.speech_told.specs.Phrases.{tile_clips}
 use Rattle.speech_table.specs.Messages.{waits_message}
 use borrow.Author.Rules.{rules}

@@ -1,8 +1,8 @@
 -- `speech_table::say_ready` meets its contract: an unknown language, the refusal of Ready, or the message.
 use mathlib.Core.Path.{ap, ◌∙◌}
 use native.Mathlib.Omega.{arith}
-use Rattle.text.specs.laws.Put.{take_put}
-use Rattle.speech_score.specs.laws.Said.{unknown_by, refused_by, given_by, put_long, put_fits}
+use Rattle.text.proofs.laws.Put.{take_put}
+use Rattle.speech_score.proofs.laws.Said.{unknown_by, refused_by, given_by, put_long, put_fits}
 use Rattle.speech_table.specs.Messages.{ready_message}
 use borrow.Author.Rules.{rules}
 use Rattle.speech_table.proofs.say_ready.Statement.{statement}

@@ -1,8 +1,8 @@
 -- `speech_table::say_scores` meets its contract: an unknown language, or the message.
 use mathlib.Core.Path.{refl}
 use native.Mathlib.Omega.{arith}
-use Rattle.text.specs.laws.Put.{take_put}
-use Rattle.speech_score.specs.laws.Said.{unknown_by, given_by, put_long, put_fits}
+use Rattle.text.proofs.laws.Put.{take_put}
+use Rattle.speech_score.proofs.laws.Said.{unknown_by, given_by, put_long, put_fits}
 use borrow.Author.Rules.{rules}
 use Rattle.speech_table.proofs.say_scores.Statement.{statement}
 use Rattle.speech_table.proofs.say_scores.Tie as tie

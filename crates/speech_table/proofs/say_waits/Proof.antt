@@ -1,9 +1,9 @@
 -- `speech_table::say_waits` meets its contract: an unknown language, the refusal of Waits, or the message.
 use mathlib.Core.Path.{ap, ◌∙◌}
 use native.Mathlib.Omega.{arith}
-use Rattle.text.specs.laws.Put.{take_put}
+use Rattle.text.proofs.laws.Put.{take_put}
 use Rattle.waits.specs.declared.Waits.{Waits}
-use Rattle.speech_score.specs.laws.Said.{unknown_by, refused_by, given_by, put_long, put_fits}
+use Rattle.speech_score.proofs.laws.Said.{unknown_by, refused_by, given_by, put_long, put_fits}
 use Rattle.speech_table.specs.Messages.{waits_message}
 use borrow.Author.Rules.{rules}
 use Rattle.speech_table.proofs.say_waits.Statement.{statement}

@@ -3,8 +3,8 @@ use mathlib.Core.Path.{◌∙◌}
 use Prim.Native.Nat.{ℕ, ◌+◌, ◌<◌, ◌%◌}
 use native.Mathlib.Omega.{arith}
 use lib.ListN.{length-set}
-use Rattle.text.specs.laws.Digits.{length_one, length_more}
-use Rattle.text.specs.laws.Put.{put_one, put_more}
+use Rattle.text.proofs.laws.Digits.{length_one, length_more}
+use Rattle.text.proofs.laws.Put.{put_one, put_more}
 use borrow.Fn.Kinds.{In}
 use borrow.Fn.PlainCycle.{Measures, is, falls, and}
 use Rattle.text.proofs.digits.Reads as digits

@@ -7,7 +7,7 @@ use mir.Syntax.{w32}
 use mir.Val.{SFits}
 use mir.Facts.{to_z-of_z}
 use borrow.Author.Rules.{rules}
-use Rattle.text.specs.laws.Absolute.{wide, negative_fits, negative_cast, negative_absolute, positive_cast}
+use Rattle.text.proofs.laws.Absolute.{wide, negative_fits, negative_cast, negative_absolute, positive_cast}
 use Rattle.text.proofs.absolute.Statement.{statement}
 use Rattle.text.proofs.absolute.Tie as tie
 

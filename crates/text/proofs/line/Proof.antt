@@ -6,7 +6,7 @@ use lib.Seq.{take-length}
 use borrow.Author.Rules.{rules}
 use borrow.Author.Tests.{le-leb, lt-leb}
 use Rattle.text.specs.Text.{line_of}
-use Rattle.text.specs.laws.Put.{take_put}
+use Rattle.text.proofs.laws.Put.{take_put}
 use Rattle.text.proofs.line.Statement.{statement}
 use Rattle.text.proofs.line.Tie as tie
 

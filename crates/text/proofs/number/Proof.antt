@@ -1,8 +1,8 @@
 -- `text::number` meets its contract: a number of 32 bits has at most ten digits.
 use native.Mathlib.Omega.{arith}
 use borrow.Author.Rules.{rules}
-use Rattle.text.specs.laws.Digits.{length_digits_32}
-use Rattle.text.specs.laws.Put.{put_after}
+use Rattle.text.proofs.laws.Digits.{length_digits_32}
+use Rattle.text.proofs.laws.Put.{put_after}
 use Rattle.text.proofs.number.Statement.{statement}
 use Rattle.text.proofs.number.Tie as tie
 

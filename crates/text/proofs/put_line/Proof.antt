@@ -1,7 +1,7 @@
 -- `text::put_line` meets its contract: its parts are put one after the other.
 use native.Mathlib.Omega.{arith}
 use borrow.Author.Rules.{rules}
-use Rattle.text.specs.laws.Put.{put_then, line_parts}
+use Rattle.text.proofs.laws.Put.{put_then, line_parts}
 use Rattle.text.proofs.put_line.Statement.{statement}
 use Rattle.text.proofs.put_line.Tie as tie
 

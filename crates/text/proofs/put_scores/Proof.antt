@@ -7,9 +7,9 @@ use mir.Syntax.{w32}
 use mir.Val.{SFits}
 use mir.Facts.{to_z-of_z}
 use borrow.Author.Rules.{rules}
-use Rattle.bits.specs.laws.Elem.{elem_sfits}
+use Rattle.bits.proofs.laws.Elem.{elem_sfits}
 use Rattle.text.specs.Text.{scores_text}
-use Rattle.text.specs.laws.Put.{put_then}
+use Rattle.text.proofs.laws.Put.{put_then}
 use Rattle.text.proofs.put_scores.Statement.{statement}
 use Rattle.text.proofs.put_scores.Tie as tie
 

@@ -3,9 +3,9 @@ use native.Mathlib.Omega.{arith}
 use mir.Facts.{to_z-of_z}
 use borrow.Author.Rules.{rules}
 use Rattle.text.specs.Text.{signed_of}
-use Rattle.text.specs.laws.Digits.{length_signed_32}
+use Rattle.text.proofs.laws.Digits.{length_signed_32}
 use Rattle.text.specs.Put.{Put}
-use Rattle.text.specs.laws.Put.{put_after}
+use Rattle.text.proofs.laws.Put.{put_after}
 use Rattle.text.proofs.score.Statement.{statement}
 use Rattle.text.proofs.score.Tie as tie
 

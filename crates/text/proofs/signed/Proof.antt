@@ -6,8 +6,8 @@ use lib.ListN.{length, length-set}
 use mir.Facts.{to_z-of_z}
 use borrow.Author.Rules.{rules}
 use Rattle.text.specs.Text.{digits_of, signed_of}
-use Rattle.text.specs.laws.Digits.{signed_negative, signed_positive}
-use Rattle.text.specs.laws.Put.{put_none, put_then, put_after}
+use Rattle.text.proofs.laws.Digits.{signed_negative, signed_positive}
+use Rattle.text.proofs.laws.Put.{put_none, put_then, put_after}
 use Rattle.text.proofs.signed.Statement.{statement}
 use Rattle.text.proofs.signed.Tie as tie
 

@@ -7,9 +7,9 @@ use borrow.Author.Tests.{lt-ltb, le-ltb}
 use lib.ListN.{length}
 use Rattle.bits.specs.Bits.{bits_of}
 use Rattle.hand_record.specs.search.Offsets.{held_in, padding_after}
-use Rattle.hand_record.specs.laws.Read.{padding_last}
+use Rattle.hand_record.proofs.laws.Read.{padding_last}
 use Rattle.unfinished.specs.Unfinished.{pad_of, held_refusal, given_by}
-use Rattle.unfinished.specs.laws.Read.{whole}
+use Rattle.unfinished.proofs.laws.Read.{whole}
 use Rattle.unfinished.proofs.given.Statement.{statement}
 use Rattle.unfinished.proofs.given.Tie as tie
 

@@ -6,8 +6,8 @@ use mathlib.Core.Bool.{Bool, true, false}
 use mathlib.Core.List.{List}
 use lib.ListN.{get_or}
 use Rattle.tiles.specs.Tally.{tally_of}
-use Rattle.tiles.specs.laws.Below.{some_cong}
-use Rattle.tiles.specs.laws.Tally.{get_d_tally}
+use Rattle.tiles.proofs.laws.Below.{some_cong}
+use Rattle.tiles.proofs.laws.Tally.{get_d_tally}
 use Rattle.hand.specs.declared.Held.{Held}
 use Rattle.hand.specs.Held.{in_held, wrong_held, descends, over_four}
 use Rattle.unfinished.specs.Unfinished.{held_refusal}

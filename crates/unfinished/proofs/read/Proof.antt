@@ -3,7 +3,7 @@ use borrow.Author.Rules.{rules}
 use mathlib.Core.Path.{◌≡◌, sym, ap, ◌∙◌}
 use native.Mathlib.Omega.{arith}
 use Rattle.unfinished.specs.Unfinished.{length_of, count_in}
-use Rattle.unfinished.specs.laws.Read.{read_not, read_as}
+use Rattle.unfinished.proofs.laws.Read.{read_not, read_as}
 use Rattle.unfinished.proofs.read.Statement.{statement}
 use Rattle.unfinished.proofs.read.Tie as tie
 

@@ -6,9 +6,9 @@ use native.Mathlib.Omega.{arith}
 use Rattle.hand.specs.declared.Held.{Held}
 use Rattle.hand.specs.declared.Hand.{Hand}
 use Rattle.hand_record.specs.Record.{refusal_in, read_of}
-use Rattle.hand_record.specs.laws.Bounds.{flat_refusal, flat_hand, flat_bounds}
+use Rattle.hand_record.proofs.laws.Bounds.{flat_refusal, flat_hand, flat_bounds}
 use Rattle.unfinished_writer.specs.Write.{refusal_after, written_by, buffer_by, held_in_record}
-use Rattle.unfinished_writer.specs.laws.Store.{after_refused, kept_by}
+use Rattle.unfinished_writer.proofs.laws.Store.{after_refused, kept_by}
 use Rattle.unfinished_writer.proofs.from_record.Statement.{statement}
 use Rattle.unfinished_writer.proofs.from_record.Tie as tie
 

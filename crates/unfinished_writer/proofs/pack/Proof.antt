@@ -3,8 +3,8 @@ use borrow.Author.Rules.{rules}
 use mathlib.Core.Path.{◌≡◌}
 use native.Mathlib.Omega.{arith}
 use lib.ListN.{length}
-use Rattle.unfinished.specs.laws.Read.{whole}
-use Rattle.unfinished_writer.specs.laws.Store.{packed}
+use Rattle.unfinished.proofs.laws.Read.{whole}
+use Rattle.unfinished_writer.proofs.laws.Store.{packed}
 use Rattle.unfinished_writer.proofs.pack.Statement.{statement}
 use Rattle.unfinished_writer.proofs.pack.Tie as tie
 

@@ -6,10 +6,10 @@ use native.Mathlib.Omega.{arith}
 use lib.ListN.{length, length-replicate}
 use lib.Seq.{length-take-le}
 use Rattle.bits.specs.Bits.{pack, eights}
-use Rattle.bits.specs.laws.Pack.{take_replicate, below_replicate, sum_replicate, length_fill, below_fill, below_pack}
+use Rattle.bits.proofs.laws.Pack.{take_replicate, below_replicate, sum_replicate, length_fill, below_fill, below_pack}
 use Rattle.unfinished.specs.Unfinished.{length_of, widths}
 use Rattle.unfinished_writer.specs.Write.{values_of}
-use Rattle.unfinished_writer.specs.laws.Store.{bytes_11, length_packed, after_short, after_none, kept_by, wrote_by, stored}
+use Rattle.unfinished_writer.proofs.laws.Store.{bytes_11, length_packed, after_short, after_none, kept_by, wrote_by, stored}
 use Rattle.unfinished_writer.proofs.store.Statement.{statement}
 use Rattle.unfinished_writer.proofs.store.Tie as tie
 

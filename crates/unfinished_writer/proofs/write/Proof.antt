@@ -4,7 +4,7 @@ use Prim.Native.Nat.{ℕ, ◌<◌}
 use mathlib.Core.Path.{◌≡◌, sym, ap, ◌∙◌}
 use native.Mathlib.Omega.{arith}
 use Rattle.unfinished_writer.specs.Write.{unwritable, refusal_after, written_by, buffer_by}
-use Rattle.unfinished_writer.specs.laws.Store.{after_refused, kept_by, accepted_of}
+use Rattle.unfinished_writer.proofs.laws.Store.{after_refused, kept_by, accepted_of}
 use Rattle.unfinished_writer.proofs.write.Statement.{statement}
 use Rattle.unfinished_writer.proofs.write.Tie as tie
 

@@ -7,13 +7,13 @@ use mathlib.Core.List.{List}
 use native.Mathlib.Omega.{arith}
 use lib.Dec.{ltb}
 use Rattle.hand.specs.declared.Held.{Held}
-use Rattle.unfinished.specs.laws.Sound.{refusal_is, held_is, sound_held}
+use Rattle.unfinished.proofs.laws.Sound.{refusal_is, held_is, sound_held}
 use Rattle.waits.specs.declared.Waits.{Waits}
 use Rattle.waits.specs.Waits.{IsWaits}
 use Rattle.waits.specs.Answer.{waits_of}
-use Rattle.waits.specs.laws.One.{one_answer}
+use Rattle.waits.proofs.laws.One.{one_answer}
 use Rattle.waits.specs.search.Found.{some_in, found_of}
-use Rattle.waits.specs.laws.Exact.{found, found_unreadable, found_fifteen, found_waits}
+use Rattle.waits.proofs.laws.Exact.{found, found_unreadable, found_fifteen, found_waits}
 use Rattle.waits.proofs.find.Statement.{statement}
 use Rattle.waits.proofs.find.Tie as tie
 

@@ -9,7 +9,7 @@ use native.Mathlib.Omega.{arith}
 use lib.Dec.{ltb}
 use lib.ListN.{length, get_or}
 use Rattle.tiles.specs.Below.{any_below}
-use Rattle.tiles.specs.laws.Below.{some_none, some_more, some_stop, some_done, some_at}
+use Rattle.tiles.proofs.laws.Below.{some_none, some_more, some_stop, some_done, some_at}
 use Rattle.waits.specs.search.Found.{some_in}
 use Rattle.waits.proofs.in_furiten.Statement.{statement}
 use Rattle.waits.proofs.in_furiten.Tie as tie

@@ -4,7 +4,7 @@ use Prim.Native.Nat.{◌+◌, ◌-◌, ◌*◌, ◌≤◌, ◌<◌}
 use native.Mathlib.Omega.{arith}
 use lib.ListN.{get_or}
 use Rattle.tiles.specs.Below.{sum}
-use Rattle.waits.specs.laws.Over.{suit_more, suit_done, honour_done}
+use Rattle.waits.proofs.laws.Over.{suit_more, suit_done, honour_done}
 use Rattle.waits.proofs.of_sort.Statement.{statement}
 use Rattle.waits.proofs.of_sort.Tie as tie
 

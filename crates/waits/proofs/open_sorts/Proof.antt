@@ -4,7 +4,7 @@ use mathlib.Core.Bool.{false}
 use Prim.Native.Nat.{◌-◌, ◌%◌, ◌≤◌, ◌<◌}
 use native.Mathlib.Omega.{arith}
 use Rattle.waits.specs.search.Over.{is_over, overs}
-use Rattle.waits.specs.laws.Over.{Counted, counted_more, none_over, many_over, sort_low}
+use Rattle.waits.proofs.laws.Over.{Counted, counted_more, none_over, many_over, sort_low}
 use Rattle.waits.proofs.open_sorts.Statement.{statement}
 use Rattle.waits.proofs.open_sorts.Tie as tie
 

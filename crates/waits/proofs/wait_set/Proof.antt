@@ -5,8 +5,8 @@ use mathlib.Core.Path.{◌≡◌}
 use native.Mathlib.Omega.{arith}
 use lib.ListN.{length, get_or, length-set}
 use Rattle.hand.specs.Held.{in_others}
-use Rattle.hand.specs.laws.Held.{others_le, tally_room}
-use Rattle.waits.specs.laws.Found.{Told, one_told, all_told}
+use Rattle.hand.proofs.laws.Held.{others_le, tally_room}
+use Rattle.waits.proofs.laws.Found.{Told, one_told, all_told}
 use Rattle.waits.proofs.wait_set.Statement.{statement}
 use Rattle.waits.proofs.wait_set.Tie as tie
 

@@ -9,7 +9,7 @@ use Rattle.yaku_tiles.specs.declared.TileTests.{TileTests}
 use Rattle.yaku.specs.Yaku.{tests_of, is_yakuman, has_yaku}
 use Rattle.yaku.specs.declared.GroupTests.{GroupTests}
 use Rattle.yaku.specs.search.Common.{any_place, group_tests_of}
-use Rattle.yaku.specs.laws.Lists.{six}
+use Rattle.yaku.proofs.laws.Lists.{six}
 use Rattle.yaku.proofs.group_tests.Statement.{statement}
 use Rattle.yaku.proofs.group_tests.Tie as tie
 

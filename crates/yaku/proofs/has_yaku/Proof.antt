@@ -7,7 +7,7 @@ use native.Mathlib.Numerals.{add-one}
 use native.Mathlib.Omega.{arith}
 use borrow.Author.Rules.{rules}
 use Rattle.tiles.specs.Below.{any_below}
-use Rattle.tiles.specs.laws.Below.{some_none}
+use Rattle.tiles.proofs.laws.Below.{some_none}
 use Rattle.yaku.specs.Yaku.{has_yaku}
 use Rattle.yaku.proofs.has_yaku.Statement.{statement}
 use Rattle.yaku.proofs.has_yaku.Tie as tie

@@ -12,7 +12,7 @@ use Rattle.yaku.specs.declared.Won.{Won}
 use Rattle.yaku.specs.declared.FullReading.{FullReading}
 use Rattle.yaku.specs.declared.GroupTests.{GroupTests}
 use Rattle.yaku.specs.Yaku.{pinfu, tests_of, is_yakuman, has_yaku}
-use Rattle.yaku.specs.laws.Common.{yakuman_with, any_with}
+use Rattle.yaku.proofs.laws.Common.{yakuman_with, any_with}
 use Rattle.yaku.specs.search.Common.{group_tests_of, place_tests_of}
 use Rattle.yaku.proofs.place_tests.Statement.{statement}
 use Rattle.yaku.proofs.place_tests.Tie as tie

@@ -4,7 +4,7 @@ use native.Mathlib.Omega.{arith}
 use mathlib.Core.Path.{◌≡◌, ap, sym, ◌∙◌}
 use lib.ListN.{length}
 use Rattle.yaku_basics.specs.Tests.{concealed}
-use Rattle.yaku_basics.specs.laws.Ways.{ways_same, group_placed, concealed_ron}
+use Rattle.yaku_basics.proofs.laws.Ways.{ways_same, group_placed, concealed_ron}
 use Rattle.yaku_groups.proofs.concealed_at.Statement.{statement}
 use Rattle.yaku_groups.proofs.concealed_at.Tie as tie
 

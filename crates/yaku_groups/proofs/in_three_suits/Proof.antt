@@ -1,6 +1,6 @@
 -- `yaku_groups::in_three_suits` meets its contract: the groups in turn.
 use borrow.Author.Rules.{rules}
-use Rattle.yaku_basics.specs.laws.Suits.{groups_in_turn}
+use Rattle.yaku_basics.proofs.laws.Suits.{groups_in_turn}
 use Rattle.yaku_groups.proofs.in_three_suits.Statement.{statement}
 use Rattle.yaku_groups.proofs.in_three_suits.Tie as tie
 

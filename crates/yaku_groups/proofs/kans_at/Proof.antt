@@ -5,7 +5,7 @@ use mathlib.Core.Path.{◌≡◌, ap, sym, ◌∙◌}
 use mathlib.Core.List.{[]}
 use lib.ListN.{length}
 use Rattle.yaku_basics.specs.Tests.{kans}
-use Rattle.yaku_basics.specs.laws.Ways.{ways_same, group_placed, kans_ron}
+use Rattle.yaku_basics.proofs.laws.Ways.{ways_same, group_placed, kans_ron}
 use Rattle.yaku_groups.proofs.kans_at.Statement.{statement}
 use Rattle.yaku_groups.proofs.kans_at.Tie as tie
 

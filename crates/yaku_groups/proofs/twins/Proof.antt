@@ -1,7 +1,7 @@
 -- `yaku_groups::twins` meets its contract: the groups in turn.
 use borrow.Author.Rules.{rules}
 use mathlib.Core.Path.{sym}
-use Rattle.yaku_basics.specs.laws.Twins.{pairs_in_turn}
+use Rattle.yaku_basics.proofs.laws.Twins.{pairs_in_turn}
 use Rattle.yaku_basics.specs.Tests.{twins}
 use Rattle.yaku_groups.proofs.twins.Statement.{statement}
 use Rattle.yaku_groups.proofs.twins.Tie as tie

@@ -6,7 +6,7 @@ use Rattle.tiles.specs.Below.{all_below}
 use Rattle.tiles.specs.Kinds.{in_suit, is_number, is_honour, is_terminal, is_yaochu, is_simple}
 use Rattle.yaku_tiles.specs.OfTiles.{is_green, half_flush, flush}
 use Rattle.yaku_tiles.specs.search.TileTests.{tile_tests_of}
-use Rattle.yaku_tiles.specs.laws.Sorts.{only_within}
+use Rattle.yaku_tiles.proofs.laws.Sorts.{only_within}
 use Rattle.yaku_tiles.proofs.tile_tests.Statement.{statement}
 use Rattle.yaku_tiles.proofs.tile_tests.Tie as tie
 

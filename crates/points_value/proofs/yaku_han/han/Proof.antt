@@ -1,7 +1,7 @@
 -- `points_value::yaku_han::han` meets its contract.
 use borrow.Author.Rules.{rules}
 use native.Mathlib.Omega.{arith}
-use Rattle.points_value.specs.laws.Han.{values_apart}
+use Rattle.points_value.proofs.laws.Han.{values_apart}
 use Rattle.points_value.proofs.yaku_han.han.Statement.{statement}
 use Rattle.points_value.proofs.yaku_han.han.Tie as tie
 

@@ -6,8 +6,8 @@ use lib.ListN.{get_or}
 use borrow.Author.Rules.{rules}
 use native.Mathlib.Omega.{arith}
 use Rattle.tiles.specs.Below.{sum_below}
-use Rattle.tiles.specs.laws.Below.{cond_le, total_none, total_more, total_done}
-use Rattle.points_value.specs.laws.Han.{fixed_han, han_by, han_at}
+use Rattle.tiles.proofs.laws.Below.{cond_le, total_none, total_more, total_done}
+use Rattle.points_value.proofs.laws.Han.{fixed_han, han_by, han_at}
 use Rattle.points_value.proofs.yaku_han.han_by.Statement.{statement}
 use Rattle.points_value.proofs.yaku_han.han_by.Tie as tie
 

@@ -10,7 +10,7 @@ use native.Mathlib.Omega.{arith}
 use Rattle.units.specs.declared.Han.{Han}
 use Rattle.tiles.specs.Below.{tabulate}
 use Rattle.points_value.specs.Han.{han, han_each}
-use Rattle.points_value.specs.laws.Han.{fixed_han, han_at}
+use Rattle.points_value.proofs.laws.Han.{fixed_han, han_at}
 use Rattle.points_value.proofs.yaku_han.han_each.Statement.{statement}
 use Rattle.points_value.proofs.yaku_han.han_each.Tie as tie
 

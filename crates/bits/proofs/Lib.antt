@@ -1,0 +1,2 @@
+-- laws    packing and unpacking undo each other
+pub mod laws

@@ -1,0 +1,2 @@
+-- laws       bounds on how many there are
+pub mod laws

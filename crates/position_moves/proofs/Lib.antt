@@ -1,0 +1,2 @@
+-- laws    what finishing a hand and putting a stick come to by the ledger
+pub mod laws

@@ -1,0 +1,2 @@
+-- laws    what a win of a record that read, or did not, comes to by the ledger
+pub mod laws

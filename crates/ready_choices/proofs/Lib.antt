@@ -1,0 +1,2 @@
+-- laws      what is proved of them; a reader of the meaning needs neither (`ready` has it)
+pub mod laws

@@ -1,0 +1,2 @@
+-- laws  what the functions stand on, and worked messages
+pub mod laws

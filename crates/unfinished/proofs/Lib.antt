@@ -1,0 +1,4 @@
+-- Claims      the theorems: widths-fill, sound
+-- laws        what they stand on, and a worked hand
+pub mod laws
+pub mod Claims

@@ -1,0 +1,2 @@
+-- laws    what they stand on, and a worked hand
+pub mod laws
