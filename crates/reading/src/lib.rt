@@ -1,5 +1,6 @@
 // Readings of the concealed tiles with the winning tile. What they are is said in specs/; what a search for them tests stands in `reading_steps`.
 #![tactic(auto)]
+
 ghost use Rattle.std.specs.Prelude.{◌≡◌};
 ghost use Rattle.reading.specs.Reading.{of_shape};
 

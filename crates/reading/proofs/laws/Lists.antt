@@ -27,6 +27,7 @@ module _ {A : Type 0} {P : A → Type 0} where
   each_all h (x ∷ xs) = also (h x) (each_all h xs)
 
   pub each_member : {x : A} {xs : List A} → Each P xs → Memᴰ x xs → P x
+  each_member none m = elim m [ ]
   each_member (also p r) (Memᴰ.head e) = rw e p
   each_member (also p r) (Memᴰ.tail m) = each_member r m
 

@@ -16,7 +16,7 @@ use Rattle.reading.specs.search.Pairs.{PairBeside, Among, OnlyPairs}
 use Rattle.reading.specs.search.Readings.{less, splits}
 use Rattle.reading.proofs.laws.Groups.{run_in, run_or, at_same, at_other, less_at, less_long}
 use Rattle.reading.proofs.laws.Splits.{Splits, splits_sound}
-use Rattle.reading.proofs.laws.Suits.{nine, three_at, one, group_tiles}
+use Rattle.reading.proofs.laws.Suits.{nine, three_at, group_tiles}
 pub use Rattle.reading.specs.search.Pairs.{weighed}
 
 -- ---- weights
