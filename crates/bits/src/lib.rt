@@ -1,6 +1,7 @@
 // Fields of given widths, packed as bits, most significant first. A bit is a byte that is 0 or 1.
 // These are inner calls: each asks for room, which its callers show.
 #![tactic(auto)]
+
 ghost use Rattle.std.specs.Prelude.{◌≡◌, ◌+◌, ◌-◌, ◌*◌, ◌/◌, ◌%◌, ◌^◌, ◌<◌, ◌≤◌, length, get_or, take, drop, replicate};
 ghost use Rattle.std.proofs.lemmas.List.Edits.{sets};
 ghost use Rattle.bits.specs.Bits.{joined, digits, val, pack, unpack, width_of, EachBelow, bits_of};
