@@ -4,8 +4,9 @@
 // left. Seat 1 then has 30,000 - 1,000 - 200 * 112,000 - 300 * 19,900 = -28,341,000, and the game is over. The floor, -28,540,000, has a stick in each
 // hand.
 #![tactic(auto)]
-use libc::STDOUT_FILENO;
+
 use position::Position;
+use std::io;
 
 // Thirteen orphans won from seat 1 by seats 0, 2 and 3.
 const WINS: [u8; 39] = [
@@ -23,28 +24,29 @@ fn hand_of(g: Position) -> Position {
 }
 
 // Prints the first n bytes.
-fn put(line: &[u8], n: usize) {
+fn put<R: Print>(rt: &R, line: &[u8], n: usize) -> io::Result<()> {
     if n <= line.len() {
-        io::write_all(STDOUT_FILENO, &line[..n]);
+        rt.write_all(&line[..n])?;
     }
+    Ok(())
 }
 
 // Prints a line of `tally`.
-fn show(g: Position, entry: u32, letter: u8, refusal: u8) {
+fn show<R: Print>(rt: &R, g: Position, entry: u32, letter: u8, refusal: u8) -> io::Result<()> {
     let mut line = [0u8; 96];
     let s = g.scores;
     let n = text::line(&mut line, entry, letter, refusal, s, g.sticks);
-    put(&line, n);
+    put(rt, &line, n)
 }
 
-fn main() {
+fn main(rt: HostRuntime) -> io::Result<()> {
     let mut g = position_bookings::fresh_position();
     for k in 0..200usize {
         let h = hand_of(g);
         g = h;
     }
-    show(g, 400, b'M', 0);
+    show(&rt, g, 400, b'M', 0)?;
     let after = position_bookings::draw(g, 0);
     let h = after.position;
-    show(h, 401, b'D', after.refusal);
+    show(&rt, h, 401, b'D', after.refusal)
 }

@@ -1,9 +1,12 @@
 // Reads a log of up to 65,536 bytes from standard input and prints a line for every entry (01, Log).
 #![tactic(auto)]
-use libc::STDIN_FILENO;
 
-fn main() {
-    let mut s = io::large_buffer();
-    let n = io::read_full(STDIN_FILENO, &mut s);
-    log_printer::tally(&s[..n]);
+use std::io;
+use std::io::Read;
+
+fn main(rt: HostRuntime) -> io::Result<()> {
+    let mut s = Vec::new(rt.alloc());
+    rt.reader().take(65536).read_to_end(&mut s)?;
+    log_printer::tally(&rt, &s)?;
+    Ok(())
 }

@@ -2,11 +2,13 @@
 // An entry is 54 bytes: the record's length, 16 bytes of it, dealer, wind, refusal, h, fu, the yaku set (yaku n is bit n % 8 of byte 22 + n / 8),
 // how many readings are tried, four changes of 4 bytes from the least significant on, and the ten items of fu.
 #![tactic(auto)]
-ghost use Rattle.std.specs.Prelude.{◌≡◌, ◌+◌, ◌<◌, ◌≤◌, length};
 
-use libc::{STDIN_FILENO, STDOUT_FILENO};
+ghost use Rattle.std.specs.Prelude.{◌≡◌, ◌+◌, ◌<◌, ◌≤◌, length, IfOk};
+
 use points_fu::Items;
 use score::Scored;
+use std::io;
+use std::io::Read;
 
 fn wide(x: u8) -> u64
     ensures { result < 256 }
@@ -113,34 +115,43 @@ fn agrees(e: &[u8]) -> bool
     is_told(e, s)
 }
 
-fn say(n: u64, text: &[u8]) {
-    io::print_decimal(STDOUT_FILENO, n);
-    io::write_all(STDOUT_FILENO, text);
-}
-
 // 1 where the entry agrees; where it differs, its number n is said.
-fn compared(e: &[u8], n: u64) -> u64
+fn compared<R: Print>(rt: &R, e: &[u8], n: u64) -> io::Result<u64>
     requires { length e.now ≡ 54 }
-    ensures { result ≤ 1 }
+    ensures { IfOk result (λ r. r ≤ 1) }
 {
     if agrees(e) {
-        return 1;
+        return Ok(1);
     }
-    say(n, b" differs\n");
-    0
+    println!(rt; "{n} differs")?;
+    Ok(0)
 }
 
-fn main() {
+// Reads the next entry, or as much as is left of it, and gives how many bytes it read.
+fn next_entry<R: Read>(from: &mut R, e: &mut [u8]) -> io::Result<usize> {
+    let mut at = 0;
+    while at < e.len() {
+        let n = from.read(&mut e[at..])?;
+        if n == 0 {
+            break;
+        }
+        at += n;
+    }
+    Ok(at)
+}
+
+fn main(rt: HostRuntime) -> io::Result<()> {
+    let mut from = rt.reader();
     let mut e = [0u8; 54];
     let mut n: u64 = 0;
     let mut agree: u64 = 0;
     while n < 1000000 {
-        if io::read_full(STDIN_FILENO, &mut e) < 54 {
+        if next_entry(&mut from, &mut e)? < 54 {
             break;
         }
         n += 1;
-        agree += compared(&e, n);
+        agree += compared(&rt, &e, n)?;
     }
-    say(agree, b" agree\n");
-    say(n - agree, b" differ\n");
+    println!(rt; "{agree} agree")?;
+    println!(rt; "{} differ", n - agree)
 }
