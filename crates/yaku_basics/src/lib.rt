@@ -1,5 +1,6 @@
 // The groups of a hand with its melds, and what yaku and fu both ask of them: value tiles, waits, pinfu. The codes may be any.
 #![tactic(auto)]
+
 ghost use Rattle.std.specs.Prelude.{◌≡◌, ◌&&◌, not, cond, ◌<◌, ◌≤◌, ◌-◌, ◌%◌, get_or};
 ghost use Rattle.tiles.specs.Below.{all};
 ghost use Rattle.tiles.specs.Groups.{is_run};

@@ -10,6 +10,6 @@ unfolding earns_wait
 earns_wait_spec =
     tie.close
     (tie.spec
-    (λ c. search rules) (λ c. search rules) (λ c. rw (eq-eqb _ _ c.if1.true))
-    (λ c. rw (ne_eqb _ _ c.before.if1.false, lt-ltb _ _ c.if2.true))
-    (λ c. rw (ne_eqb _ _ c.before.if1.false, le-ltb _ _ c.if2.false)))
+    (λ c. search rules) (λ c. search rules) (λ c. rw (eq-eqb _ _ c.if-place-eq0.true))
+    (λ c. rw (ne_eqb _ _ c.before.if-place-eq0.false, lt-ltb _ _ c.if-c-lt34.true))
+    (λ c. rw (ne_eqb _ _ c.before.if-place-eq0.false, le-ltb _ _ c.if-c-lt34.false)))

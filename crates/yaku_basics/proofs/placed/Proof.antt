@@ -7,5 +7,5 @@ pub placed_spec : {M : Type 1} → statement M
 placed_spec =
     tie.close
     (tie.spec
-    (λ c. search rules) (λ c. search rules) (λ c. search rules) (λ c. search rules) (λ c. rw c.if1.true)
+    (λ c. search rules) (λ c. search rules) (λ c. search rules) (λ c. search rules) (λ c. rw c.if-place-eq0.true)
     (λ c. search rules))

@@ -12,5 +12,5 @@ value_han_spec =
     (tie.spec
     (λ c κs. search rules) (λ c. search rules) (λ c κs. search rules) (λ c. search rules) (λ c κs. search rules)
     (λ c. search rules) (λ c κs. search rules) (λ c. search rules) (λ c κs. search rules)
-    (λ c. (rw c.before.if1.true (omega arith), omega arith))
-    (λ c. (rw c.before.if1.false (omega arith), omega arith)))
+    (λ c. (rw c.before.if-little.true (omega arith), omega arith))
+    (λ c. (rw c.before.if-little.false (omega arith), omega arith)))

@@ -11,5 +11,5 @@ ways_at_spec =
     tie.close
     (tie.spec
     (λ c. search rules) (λ c. search rules) (λ c. search rules)
-    (λ c. rw (c.before.if1.true, lt-ltb _ _ c.if2.true))
-    (λ c. rw (c.before.if1.true, le-ltb _ _ c.if2.false)) (λ c. rw c.if1.false))
+    (λ c. rw (c.before.if-ron.true, lt-ltb _ _ c.if-place-gt0.true))
+    (λ c. rw (c.before.if-ron.true, le-ltb _ _ c.if-place-gt0.false)) (λ c. rw c.if-ron.false))

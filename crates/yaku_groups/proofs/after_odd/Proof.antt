@@ -8,4 +8,4 @@ pub after_odd_spec : {M : Type 1} → statement M
 after_odd_spec =
     tie.close
     (tie.spec
-    (λ c. (rw (lt-ltb _ _ c.if1.true), omega arith)) (λ c. (rw (le-ltb _ _ c.if1.false), omega arith)))
+    (λ c. (rw (lt-ltb _ _ c.if-c-lt27.true), omega arith)) (λ c. (rw (le-ltb _ _ c.if-c-lt27.false), omega arith)))

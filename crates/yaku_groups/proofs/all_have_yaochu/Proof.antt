@@ -11,4 +11,4 @@ all_have_yaochu_spec =
     (λ c κs. search rules) (λ c. search rules) (λ c κs. search rules)
     (λ c.
     let second = c.before.before in
-    rw (c.has-yaochu4.ensures, c.before.has-yaochu3.ensures, second.has-yaochu2.ensures, second.before.has-yaochu.ensures)))
+    rw (c.has_yaochu-4.ensures, c.before.has_yaochu-3.ensures, second.has_yaochu-2.ensures, second.before.has_yaochu.ensures)))

@@ -9,22 +9,22 @@ use Rattle.yaku_groups.proofs.concealed_at.Statement.{statement}
 use Rattle.yaku_groups.proofs.concealed_at.Tie as tie
 
 -- four ways
-long : (c : tie.Start) → length c.args.t3 ≡ 4
+long : (c : tie.Start) → length c.args.ways ≡ 4
 long c = search rules
 
 pub concealed_at_spec : {M : Type 1} → statement M
 concealed_at_spec =
     tie.close
-    (tie.spec (λ c. group_placed c.before.args.ron c.before.args.place c.if1.true)
+    (tie.spec (λ c. group_placed c.before.args.ron c.before.args.place c.if-ron-place.true)
     (λ c. search rules) (λ c. search rules) (λ c. search rules) (λ c κs. search rules)
     (λ c.
     let s = c.before.before in
     let a = s.args in
-    omega (arith, s.requires.0, c.is-concealed.ensures.0, concealed_ron a.t2 a.t3 (long s) a.ron a.place s.requires.1 c.before.if1.true))
+    omega (arith, s.requires.0, c.is_concealed.ensures.0, concealed_ron a.g a.ways (long s) a.ron a.place s.requires.1 c.before.if-ron-place.true))
     (λ c.
     let s = c.before.before in
     let a = s.args in
-    omega (arith, s.requires.0, c.is-concealed.ensures.0, concealed_ron a.t2 a.t3 (long s) a.ron a.place s.requires.1 c.before.if1.true))
+    omega (arith, s.requires.0, c.is_concealed.ensures.0, concealed_ron a.g a.ways (long s) a.ron a.place s.requires.1 c.before.if-ron-place.true))
     (λ c.
     let s = c.before in
-    s.requires.0 ∙ ap (concealed s.args.t2) (sym (ways_same s.args.t3 s.args.ron s.args.place c.if1.false))))
+    s.requires.0 ∙ ap (concealed s.args.g) (sym (ways_same s.args.ways s.args.ron s.args.place c.if-ron-place.false))))

@@ -6,4 +6,4 @@ use Rattle.yaku_groups.proofs.four_winds.Tie as tie
 
 pub four_winds_spec : {M : Type 1} → statement M
 unfolding four_winds
-four_winds_spec = tie.close (tie.spec (λ c κs. search rules) (λ c. rw c.winds.ensures))
+four_winds_spec = tie.close (tie.spec (λ c κs. search rules) (λ c. rw c.winds-n.ensures))

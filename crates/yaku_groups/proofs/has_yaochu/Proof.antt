@@ -10,5 +10,5 @@ unfolding has_yaochu
 has_yaochu_spec =
     tie.close
     (tie.spec
-    (λ c κs. search rules) (λ c. rw (lt-ltb _ _ c.if1.true))
-    (λ c. rw (le-ltb _ _ c.before.if1.false) c.is-yaochu.ensures))
+    (λ c κs. search rules) (λ c. rw (lt-ltb _ _ c.if-c-lt34.true))
+    (λ c. rw (le-ltb _ _ c.before.if-c-lt34.false) c.is_yaochu.ensures))

@@ -8,9 +8,9 @@ pub in_three_at_spec : {M : Type 1} → statement M
 in_three_at_spec =
     tie.close
     (tie.spec
-    (λ c. rw (lt-leb _ _ c.if1.true)) (λ c. search rules) (λ c. search rules) (λ c κs. search rules)
+    (λ c. rw (lt-leb _ _ c.if-c-low.true)) (λ c. search rules) (λ c. search rules) (λ c κs. search rules)
     (λ c. search rules) (λ c κs. search rules)
     (λ c.
     let then2 = c.before.before in
-    rw (le-leb _ _ then2.before.if1.false, lt-ltb _ _ then2.if2.true, c.before.has.ensures, c.has2.ensures))
-    (λ c. rw (le-leb _ _ c.before.if1.false, le-ltb _ _ c.if2.false)))
+    rw (le-leb _ _ then2.before.if-c-low.false, lt-ltb _ _ then2.if-c-low-2.true, c.before.has.ensures, c.has-then-c-low-2.ensures))
+    (λ c. rw (le-leb _ _ c.before.if-c-low.false, le-ltb _ _ c.if-c-low-2.false)))

@@ -12,5 +12,5 @@ in_three_suits_spec =
     (λ c κs. search rules) (λ c. search rules) (λ c κs. search rules)
     (λ c.
     let at2 = c.before.before in
-    rw (c.in-three-at4.ensures, c.before.in-three-at3.ensures, at2.in-three-at2.ensures, at2.before.in-three-at.ensures)
+    rw (c.in_three_at-4.ensures, c.before.in_three_at-3.ensures, at2.in_three_at-2.ensures, at2.before.in_three_at.ensures)
     (groups_in_turn _ _)))

@@ -10,19 +10,19 @@ use Rattle.yaku_groups.proofs.kans_at.Statement.{statement}
 use Rattle.yaku_groups.proofs.kans_at.Tie as tie
 
 -- four ways
-long : (c : tie.Start) → length c.args.t2 ≡ 4
+long : (c : tie.Start) → length c.args.ways ≡ 4
 long c = search rules
 
 pub kans_at_spec : {M : Type 1} → statement M
 kans_at_spec =
     tie.close
-    (tie.spec (λ c. group_placed c.before.args.ron c.before.args.place c.if1.true) (λ c. search rules) (λ c. search rules) (λ c κs. search rules)
+    (tie.spec (λ c. group_placed c.before.args.ron c.before.args.place c.if-ron-place.true) (λ c. search rules) (λ c. search rules) (λ c κs. search rules)
     (λ c.
     let s = c.before.before in
-    omega (arith, s.requires.0, c.one.ensures.0, kans_ron [] s.args.t2 (long s) s.args.ron s.args.place s.requires.1 c.before.if1.true))
+    omega (arith, s.requires.0, c.one.ensures.0, kans_ron [] s.args.ways (long s) s.args.ron s.args.place s.requires.1 c.before.if-ron-place.true))
     (λ c.
     let s = c.before.before in
-    omega (arith, s.requires.0, c.one.ensures.0, kans_ron [] s.args.t2 (long s) s.args.ron s.args.place s.requires.1 c.before.if1.true))
+    omega (arith, s.requires.0, c.one.ensures.0, kans_ron [] s.args.ways (long s) s.args.ron s.args.place s.requires.1 c.before.if-ron-place.true))
     (λ c.
     let s = c.before in
-    s.requires.0 ∙ ap kans (sym (ways_same s.args.t2 s.args.ron s.args.place c.if1.false))))
+    s.requires.0 ∙ ap kans (sym (ways_same s.args.ways s.args.ron s.args.place c.if-ron-place.false))))

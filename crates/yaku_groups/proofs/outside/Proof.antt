@@ -38,10 +38,10 @@ outside_spec =
     (λ c.
     let r = c.before.before in
     let y = r.before in
-    asked y.before.args.g y.before.args.pair y.is-yaochu.result r.has-run.result y.is-yaochu.ensures r.has-run.ensures
-    c.all-have-yaochu.result c.all-have-yaochu.ensures c.before.if1.true)
+    asked y.before.args.g y.before.args.pair y.is_yaochu.result r.has_run.result y.is_yaochu.ensures r.has_run.ensures
+    c.all_have_yaochu.result c.all_have_yaochu.ensures c.before.if-is_yaochu-has_run.true)
     (λ c.
     let r = c.before in
     let y = r.before in
-    unasked y.before.args.g y.before.args.pair y.is-yaochu.result r.has-run.result y.is-yaochu.ensures r.has-run.ensures
-    c.if1.false))
+    unasked y.before.args.g y.before.args.pair y.is_yaochu.result r.has_run.result y.is_yaochu.ensures r.has_run.ensures
+    c.if-is_yaochu-has_run.false))

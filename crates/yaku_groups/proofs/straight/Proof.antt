@@ -9,4 +9,4 @@ unfolding straight
 straight_spec =
     tie.close
     (tie.spec (λ c κs. search rules) (λ c κs. search rules) (λ c κs. search rules)
-    (λ c. rw (c.straight-from3.ensures, c.before.straight-from2.ensures, c.before.before.straight-from.ensures)))
+    (λ c. rw (c.straight_from-3.ensures, c.before.straight_from-2.ensures, c.before.before.straight_from.ensures)))

@@ -10,5 +10,5 @@ straight_from_spec =
     (tie.spec (λ c κs. search rules) (λ c. search rules) (λ c κs. search rules) (λ c. search rules) (λ c κs. search rules)
     (λ c.
     let t = c.before.before in
-    rw (sym t.before.has.ensures ∙ t.if1.true, c.has3.ensures, c.before.has2.ensures))
-    (λ c. rw (sym c.before.has.ensures ∙ c.if1.false)))
+    rw (sym t.before.has.ensures ∙ t.if-has.true, c.has-then-has-2.ensures, c.before.has-then-has.ensures))
+    (λ c. rw (sym c.before.has.ensures ∙ c.if-has.false)))

@@ -14,15 +14,15 @@ returns c =
     let one2 = odd2.before.before in
     let odd = one2.before in
     rw (
-      odd.after-odd.ensures.0,
-      odd2.after-odd2.ensures.0,
-      c.after-odd3.ensures.0,
+      odd.after_odd.ensures.0,
+      odd2.after_odd-2.ensures.0,
+      c.after_odd-3.ensures.0,
       odd.before.one.ensures.0,
-      one2.one2.ensures.0,
-      odd2.before.one3.ensures.0,
-      one5.before.one4.ensures.0,
-      one5.one5.ensures.0,
-      c.before.one6.ensures.0,
+      one2.one-2.ensures.0,
+      odd2.before.one-3.ensures.0,
+      one5.before.one-4.ensures.0,
+      one5.one-5.ensures.0,
+      c.before.one-6.ensures.0,
     ) (sym (pairs_in_turn _ _ _ _))
 
 pub twins_spec : {M : Type 1} → statement M
