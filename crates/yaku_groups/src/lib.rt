@@ -1,6 +1,7 @@
 // What the yaku ask of the four groups: twin runs, the same group in three suits, straight; and of each group, whatever the codes: outside,
 // triplets, kans, winds.
 #![tactic(auto)]
+
 ghost use Rattle.std.specs.Prelude.{◌≡◌, ◌&&◌, cond, ◌+◌, ◌≤◌, ◌%◌, ltb, leb, get_or};
 ghost use Rattle.tiles.specs.Below.{all, any};
 ghost use Rattle.tiles.specs.Groups.{is_run};
