@@ -1,5 +1,6 @@
 // The hand: its fields, the tiles held, the tallies of its tiles (01, Tiles and the hand record).
 #![tactic(auto)]
+
 ghost use Rattle.std.specs.Prelude.{◌≡◌, cond, ℕ, ◌+◌, ◌-◌, ◌*◌, ◌/◌, ◌%◌, ◌≤◌, ◌<◌, eqb, get_or};
 ghost use Rattle.tiles.specs.Below.{count_below};
 ghost use Rattle.tiles.specs.Tally.{tally_of};
