@@ -1,6 +1,7 @@
 // What a search for the readings of a tally tests and takes off it.
 // A tally is handed over whole, and each removal gives a new one.
 #![tactic(auto)]
+
 ghost use Rattle.std.specs.Prelude.{◌≡◌, true, false, ℕ, ◌+◌, ◌*◌, ◌<◌, ◌≤◌, length, get_or};
 ghost use Rattle.tiles.specs.Below.{sum};
 ghost use Rattle.tiles.specs.Groups.{is_group};
