@@ -4,13 +4,13 @@ section, "Where each stands", anew.
 
 Of a name in backquotes:
 - with `::` it is a function or struct of a crate; a bare name behind one, in the same cell, may be a function of the same crate;
-- with a slash it is a must-fail edit (crate/edit) or a path, below crates/ or the root, or below some crate where it begins with specs/;
-- a bare name is a definition, theorem, type or member of one in specs/ (laws apart), a struct, an exported call, a crate, or a Rattle word;
+- with a slash it is a must-fail edit (crate/edit) or a path, below crates/ or the root, or below some crate where it begins with specs/ or proofs/;
+- a bare name is a definition, theorem, type or member of one in specs/ or proofs/Claims.antt, a struct, an exported call, a crate, or a Rattle word;
 - after "theorem" it is a theorem; `name`, `name` (`path`) and `path`: `name`, `name` say that the names stand in that file, and
   `function` ≡ `name` that the function's contract has it; in a column "edit" everything but a crate is an edit;
 - with a space, a bracket or another sign it is text or a command, whose tools/ and .sh files exist.
-And every exported call, every theorem that a file directly in specs/ declares `pub`, and every must-fail edit stands in a row of a table; of each row
-that names edits the gate tries one (must-fail/, not must-fail/by-hand/); the figures given for tools/lines.py, tools/promises.py and the edits are theirs. Sections of document 02's requests (## S-n) are checked like the others, and stand
+And every exported call, every theorem that a file directly in specs/ or proofs/Claims.antt declares `pub`, and every must-fail edit stands in a row of a table; of each row
+that names edits the gate tries one (must-fail/, not by-hand/); the figures given for tools/lines.py, tools/promises.py and the edits are theirs. Sections of document 02's requests (## S-n) are checked like the others, and stand
 in the order of their numbers.
 The last section gives file and line of each definition, theorem, type, field, struct and function that the page names, a row each: of a field or case
 where its type is named in the same cell ("Demand 3" names `Demand3`), of a name that stands in several files each of them, what says how the code
@@ -66,7 +66,7 @@ class Page:
 
     def path_exists(self, name):
         places = [os.path.join(tree.CRATES, name), os.path.join(tree.ROOT, name)]
-        if name.startswith(("specs/", "src/")):
+        if name.startswith(("specs/", "src/", "proofs/", "must-fail/", "by-hand/")):
             places.append(os.path.join(tree.CRATES, "*", name))
         return any(glob.glob(p) for p in places)
 

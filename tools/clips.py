@@ -4,7 +4,7 @@
 - docs/clips.tsv: eight columns, clips ascending; kana where there is Japanese and pinyin where there is Mandarin, each column in its own letters;
 - include/herbassolh.h: a clip's name, or a name and a number, is that clip (HB_CLIP_TENS + 2 is 11); every HB_CLIP_ name stands on the sheet;
   the English yaku are the names of HB_YAKU_, and there is a sentence for each HB_REFUSAL_;
-- the crates: a language has words for the clips that `isPhrase` (crates/speech_told/specs/Sheet.antt) and `onSheet`
+- the crates: a language has words for the clips that `is_phrase` (crates/speech_told/specs/Sheet.antt) and `on_sheet`
   (crates/speech_numerals/specs/Heard.antt) give it, and for no others; every clip of a message is one of them, which is proved, and
   that every clip of the sheet is in a message is tested (other_scorer/tests/say_sheet.rs);
 - HB_MESSAGE_MAX: the longest that the theorems NAME-short let a message be;

@@ -1,5 +1,5 @@
 #!/usr/bin/env bash
-# Tries must-fail edits: edit.sh CRATE NAME.., for crates/CRATE/must-fail/NAME.edit or must-fail/by-hand/NAME.edit; edit.sh CRATE alone tries all that
+# Tries must-fail edits: edit.sh CRATE NAME.., for crates/CRATE/must-fail/NAME.edit or by-hand/NAME.edit; edit.sh CRATE alone tries all that
 # the gate leaves to be tried by hand. In a copy of the tree that has these edits alone it runs `rt must-fail CRATE`, which proves the crate with those
 # that it depends on (none again where target/ has them), makes each edit in a copy of the crate and expects that the prover refuses it.
 # Shows the edits, then what rt says; exits 1 where one is not refused.

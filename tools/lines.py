@@ -2,15 +2,15 @@
 """Counts what the exported contracts and the theorems rest on: what an auditor has to believe.
 
 It starts from the signature and contract (`requires`, `ensures`) of every `extern "C"` function and from the statement of every theorem
-declared `pub` in a file directly in crates/*/specs, and follows each name to its end: through definitions and types of specs/, and the Rattle
+declared `pub` in a file directly in crates/*/specs or in crates/*/proofs/Claims.antt, and follows each name to its end: through definitions and types of specs/, and the Rattle
 structs and enums that they or a signature name. Counted, once each: those contracts and statements, definitions (head and equations), types
 (`record`, `data`), structs, and the head of a `module _ (..)` around any of them. Characters are those of the counted lines, spaces at both
 ends and line ends left out.
-Not counted: proofs under a statement, specs/laws/ and specs/search/, the kit's own names, attributes. Given apart: comment lines at what is
+Not counted: proofs under a statement, proofs/laws/ and specs/search/, the kit's own names, attributes. Given apart: comment lines at what is
 counted, and import lines of the files of specs/ that hold any of it.
 
 The row `papers` counts what documents 01 and 02 ask for, without what is said, every reading and a claim written; `total` counts all.
-Then it lists names of specs/laws/ and specs/search/ through which meaning passes (they are not followed), files of specs/ that import
+Then it lists names of proofs/laws/ and specs/search/ through which meaning passes (they are not followed), files of specs/ that import
 specs/search/, imports that name nothing, and the definitions of specs/ that nothing exported or claimed reaches, with who cites them: they may
 go. Exit status 1 where one of the first three is found. With --each, every counted item too."""
 import os
@@ -21,7 +21,7 @@ import tree
 
 KINDS = {"definition": "definitions", "type": "definitions", "theorem": "statements", "function": "contracts", "struct": "structs"}
 BESIDE = ("speech_", "score_readings", "claim_writer", "unfinished_writer")  # what is said, every reading, writers: no document of the two asks for them
-CALLS = ("hb_say", "hb_reading", "hb_write_claim", "hb_write_unfinished", "hb_unfinished", "claim-within", "unfinished-within", "record-within")  # their calls, and what is said of these
+CALLS = ("hb_say", "hb_reading", "hb_write_claim", "hb_write_unfinished", "hb_unfinished", "claim_within", "unfinished_within", "record_within")  # their calls, and what is said of these
 COLUMNS = ("definitions", "statements", "contracts", "structs")
 
 
@@ -74,7 +74,7 @@ class Count:
         for f in self.tree.files.values():
             for name, (module, there) in f.imports.items():
                 of_code = module.split("::")[0] in self.tree.crates and there[0].isupper() and not there.isupper()
-                if (module.startswith("Rattle·") or of_code) and not self.tree.in_module(module, there):
+                if (re.match(rf"Rattle\.(?:{'|'.join(self.tree.crates)})\.", module) or of_code) and not self.tree.in_module(module, there):
                     yield f"{f.path}: {name} from {module}"
 
     def searchers(self):
@@ -94,10 +94,10 @@ class Count:
                 found.add("contracts of " + f.crate if f.part == "src" else f.part + " of " + f.crate)
         if any(word.search(" ".join(i.code + i.proof)) for i in item.file.items if i is not item):
             found.add("its own file")
-        module = "specs." + item.file.path.split("/specs/")[1][:-5].replace("/", ".") + "."
+        module = item.file.path[len(item.file.crate) + 1:-5].replace("/", ".") + "."
         for path in self.tree.paths("*", "proofs/**/*.antt"):
             text = tree.read(os.path.join(self.tree.root, path))
-            if f"{item.file.crate}.{module}" in text.replace("·specs.", ".") and word.search(text):
+            if f"{item.file.crate}.{module}" in text and word.search(text):
                 found.add("proofs of " + path.split("/")[0])
         return ", ".join(sorted(found)) or "nothing"
 

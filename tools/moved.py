@@ -4,7 +4,7 @@
 An item is known by its kind and name (a contract by its function's crate too, a struct by its name). Moved: the same text in another file.
 Changed: another text (of a theorem the statement, of a function signature and contract), whether moved or not. What stayed is counted, and
 named with --stayed. Only specs/ (laws and search apart) and public functions and structs of src/ are looked at; proofs are the files of
-specs/laws/ and proofs/, a moved one by git's measure. TO is the working tree where it is not given."""
+proofs/, a moved one by git's measure. TO is the working tree where it is not given."""
 import re
 import subprocess
 import sys

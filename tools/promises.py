@@ -1,6 +1,6 @@
 #!/usr/bin/env python3
 """Counts the public functions of crates/*/src, those without a promise (`ensures`) and those exported to C with a `requires`; and looks for contracts,
-of inner functions too, that cite a definition of specs/laws/, where only proofs stand. Names the offenders; exit status 1 where there is one."""
+of inner functions too, that cite a definition of proofs/laws/, where only proofs stand. Names the offenders; exit status 1 where there is one."""
 import sys
 
 import tree

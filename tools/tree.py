@@ -1,4 +1,5 @@
-"""What stands in the tree, for the tools beside this file: the items of crates/*/specs (.antt) and of crates/*/src (.rt), and the must-fail edits.
+"""What stands in the tree, for the tools beside this file: the items of crates/*/specs, of crates/*/proofs/Claims.antt, SearchClaims.antt and laws/ (.antt),
+those of crates/*/src (.rt), and the must-fail edits.
 
 An .antt item is a head ([abbrev|unfoldable] [pub] [record|data] NAME .. : ..), its deeper-indented lines, and the equations that begin with
 NAME. `abbrev` and `unfoldable` make a definition, `record` and `data` a type; a head with neither is a theorem: its equations, and an
@@ -14,7 +15,7 @@ INDEX = ("Lib.antt", "laws.antt", "search.antt")
 
 HEAD = re.compile(r"(abbrev |unfoldable )?(pub )?(record |data )?([^\s:(){}]+)(?: [^:]*?|(?: [({].*?[)}])*) ?:(?: |$)")
 MEMBER = re.compile(r"\s+(?:pub )?([^\s:(){}]+) :(?: |$)")
-IMPORT = re.compile(r"(?:unfoldable )?(pub |ghost )?use ([^{};]+?)(?:\.\{([^}]*)\}| as (\S+?))?;?$")
+IMPORT = re.compile(r"(?:unfoldable )?(pub |ghost )?use ([^{};]+?)(?:(?:\.|::)\{([^}]*)\}| as (\S+?))?;?$")
 
 
 def read(path):
@@ -44,7 +45,7 @@ class Item:
 
 @dataclass
 class File:
-    """A source file: its crate, its path below crates/, its part (specs, laws, search, src), items and imports."""
+    """A source file: its crate, its path below crates/, its part (specs, which the claims belong to; laws; search; src), items and imports."""
     crate: str
     path: str
     part: str
@@ -74,7 +75,7 @@ def add_import(file, statement):
 
 def antt_file(crate, path, text):
     """The items of an .antt file."""
-    part = next((p for p in ("laws", "search") if f"/specs/{p}/" in path), "specs")
+    part = "laws" if "/proofs/laws/" in path else "search" if "/specs/search/" in path or path.endswith("/proofs/SearchClaims.antt") else "specs"
     file = File(crate, path, part)
     lines = text.split("\n")
     modules, item, body, comments, statement = [], None, False, 0, ""
@@ -138,12 +139,15 @@ def antt_file(crate, path, text):
 def rt_file(crate, path, text):
     """The structs, enums and functions of an .rt file; of a function its signature and contract."""
     file = File(crate, path, "src")
-    item, comments, repr_c = None, 0, False
+    item, comments, repr_c, statement = None, 0, False, ""
     for number, line in enumerate(text.split("\n"), 1):
         bare = line.strip()
-        if re.match(r"(ghost )?use ", line):
-            add_import(file, bare)
-            file.import_lines += bool(bare.startswith("ghost"))
+        if statement or re.match(r"(ghost )?use ", line):
+            statement += " " * bool(statement) + bare
+            file.import_lines += statement.startswith("ghost")
+            if statement.count("{") == statement.count("}"):
+                add_import(file, re.sub(r",? ?\}", "}", statement.replace("{ ", "{")))
+                statement = ""
         elif bare.startswith("//"):
             if item:
                 item.comments += 1
@@ -177,17 +181,18 @@ class Tree:
     """All of it: of the working tree, or below another root."""
 
     def __init__(self, root=ROOT):
-        self.crates = [l.split(":")[0] for l in read(os.path.join(root, "crates.txt")).split("\n") if l and not l.startswith("#")]
+        self.crates = [l.split(":")[0].split()[0] for l in read(os.path.join(root, "crates.txt")).split("\n") if l and not l.startswith("#")]
         self.root = os.path.join(root, "crates")
         self.files = {}
         for crate in self.crates:
-            for path in self.paths(crate, "specs/**/*.antt"):
-                if os.path.basename(path) not in INDEX:
-                    self.files[path] = antt_file(crate, path, read(os.path.join(self.root, path)))
+            for pattern in ("specs/**/*.antt", "proofs/Claims.antt", "proofs/SearchClaims.antt", "proofs/laws/**/*.antt"):
+                for path in self.paths(crate, pattern):
+                    if os.path.basename(path) not in INDEX:
+                        self.files[path] = antt_file(crate, path, read(os.path.join(self.root, path)))
             for path in self.paths(crate, "src/*.rt"):
                 self.files[path] = rt_file(crate, path, read(os.path.join(self.root, path)))
-        self.edits = {path.split("/")[0] + "/" + os.path.basename(path)[:-5] for path in self.paths("*", "must-fail/**/*.edit")}
         self.in_gate = {path.split("/")[0] + "/" + os.path.basename(path)[:-5] for path in self.paths("*", "must-fail/*.edit")}
+        self.edits = self.in_gate | {path.split("/")[0] + "/" + os.path.basename(path)[:-5] for path in self.paths("*", "by-hand/*.edit")}
 
     def paths(self, crate, pattern):
         """Paths below crates/."""
@@ -210,14 +215,14 @@ class Tree:
         """The item that a name of a module is; None where the module is the kit's."""
         if "::" in module or re.fullmatch(r"\w+", module):
             return self.struct(module.split("::")[0], name)
-        m = re.match(r"Rattle·(\w+)(?:·specs)?\.specs\.(.*)", module)
+        m = re.match(r"Rattle\.(\w+)\.(specs|proofs)\.(.*)", module)
         if not m:
             return None
-        crate, path = m.groups()
+        crate, folder, path = m.groups()
         declared = re.match(r"declared\.(\w+)", path)
         if declared:
             return self.struct(crate, declared.group(1))
-        file = self.files.get(f"{crate}/specs/{path.replace('.', '/')}.antt")
+        file = self.files.get(f"{crate}/{folder}/{path.replace('.', '/')}.antt")
         return self.named(file, name, handed=True) if file else None
 
     def named(self, file, name, handed=False):
@@ -245,6 +250,8 @@ class Tree:
         found = {}
         for word in re.split(r"[\s(){}\[\],;&⌜⌝]+", text):
             word = word.rstrip(".")
+            if "." in word and word.split(".")[0] not in item.file.aliases and not word.startswith("Rattle."):
+                word = word.split(".")[0]  # a value, and a field of it
             if word and not word.startswith(".") and word != item.name:
                 other = self.named(item.file, word)
                 if other and other is not item:

@@ -80,8 +80,9 @@ def from_kit(text, crates):
     for use in list(USE.finditer(text)):
         path, listed, alias = use.groups()
         head = re.split(r"::|\.", path)[0]
-        if head.split("·")[0] != "Rattle" and head not in crates:
-            names |= {head, alias or re.split(r"::|\.", path)[-1]} | {word for name in (listed or "").split(",") for word in name.split()}
+        own = head == "Rattle" and path.split(".")[1] in crates or head in crates
+        if not own:
+            names |= {alias or re.split(r"::|\.", path)[-1]} | {word for name in (listed or "").split(",") for word in name.split()} | ({head} - {"Rattle"})
             text = text.replace(use.group(0), re.sub(r"[^\n]", " ", use.group(0)))
     return names, text
 
