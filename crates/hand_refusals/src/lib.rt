@@ -1,6 +1,7 @@
 // What a hand is refused for: 2 to 5, first match wins, for Read and for Write (01, Read; Write). What 2, 3 and 4 ask of the tiles held
 // stands apart: an unfinished hand has no fields.
 #![tactic(auto)]
+
 ghost use Rattle.std.specs.Prelude.{◌≡◌, true, false, ◌&&◌, ◌||◌, not, ◌+◌, ◌-◌, ◌*◌, ◌/◌, ◌%◌, ◌≤◌, ltb, eqb, get_or};
 ghost use Rattle.tiles.specs.Below.{all_below, any_below};
 ghost use Rattle.tiles.specs.Kinds.{is_run_start};
