@@ -1,6 +1,7 @@
 // Numbers as text and a line of `tally` (01, Log). `line` takes all input.
 #![tactic(auto)]
-ghost use Rattle.std.specs.Prelude.{◌≡◌, [], ◌∷◌, ◌++◌, ◌+◌, ◌≤◌, length, nat_abs};
+
+ghost use Rattle.std.specs.Prelude.{◌≡◌, [], ◌∷◌, ◌++◌, ◌+◌, ◌≤◌, min, length, take, drop, nat_abs};
 ghost use Rattle.text.specs.Text.{digits_of, signed_of, line_of, length_in, buffer_with, scores_text};
 ghost use Rattle.text.specs.Put.{Put};
 
@@ -101,6 +102,20 @@ fn put_line(
     number(buf, d, sticks, b'\n')
 }
 
+// Copies bytes to the start of a buffer, as many as fit, and returns how many.
+pub fn copy(from: &[u8], to: &mut [u8]) -> usize
+    ensures count { result ≡ min (length from.now) (length to.old) }
+    ensures copied { to.new ≡ take result from.now ++ drop result to.old }
+{
+    let n = if from.len() < to.len() {
+        from.len()
+    } else {
+        to.len()
+    };
+    to[..n].copy_from_slice(&from[..n]);
+    n
+}
+
 // A line at the start of a buffer, or nothing where it is too short; 83 bytes are enough.
 pub fn line(
     buf: &mut [u8],
@@ -119,5 +134,5 @@ pub fn line(
     if buf.len() < n {
         return 0;
     }
-    bytes::copy(&text[..n], buf)
+    copy(&text[..n], buf)
 }

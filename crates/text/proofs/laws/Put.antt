@@ -1,7 +1,7 @@
 -- Texts put into a buffer one after the other.
 use Rattle.std.specs.Prelude.{◌≡◌, refl, List, [], ◌∷◌, ◌++◌, ℕ, ◌+◌, ◌/◌, ◌%◌, ◌≤◌, ◌<◌, length, take, set, ℤ}
 use Rattle.std.proofs.Common.{append_assoc, arith, length-append}
-use Rattle.std.proofs.lemmas.List.Edits.{sets, sets-eq}
+use Rattle.std.proofs.lemmas.List.Edits.{sets-eq}
 use Rattle.std.proofs.Math.Seq.{take-append_seam}
 use Rattle.bits.proofs.laws.Pack.{sets_append}
 use Rattle.text.specs.Text.{digits_of, spaced, scores_text, line_of}
