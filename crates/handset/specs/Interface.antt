@@ -3,9 +3,9 @@
 use Rattle.std.specs.Prelude.{◌≡◌, true, false, List, ℕ, ◌/◌, ◌%◌, length, get_or}
 use Rattle.position.specs.declared.Position.{Position}
 use Rattle.text.specs.Text.{line_of, length_in, buffer_with}
-use Rattle.log.specs.Entry.{letter_of}
-use Rattle.log.specs.Next.{Next, end, entry, bad}
-use Rattle.log.specs.Log.{next_of}
+use Rattle.log_entry.specs.Entry.{letter_of}
+use Rattle.log_entry.specs.Next.{Next, end, entry, bad}
+use Rattle.log_entry.specs.Log.{next_of}
 use Rattle.handset.specs.declared.NextEntry.{NextEntry}
 
 -- Next entry: the kind, argument and letter of an entry, and the length of its part; or "end", or 14

@@ -286,10 +286,10 @@ pub extern "C" fn hb_correct_multi_ron(g: &mut Game, number: u8, records: &[u8])
 pub extern "C" fn hb_log_next(s: &[u8], at: usize) -> NextEntry
     ensures { result ≡ next_entry_of s.now at }
 {
-    let part = log::next_entry(s, at);
+    let part = log_entry::next_entry(s, at);
     let length = part.len();
     if length == 0 {
-        let refusal = log::refusal_at(s, at);
+        let refusal = log_entry::refusal_at(s, at);
         return NextEntry {
             refusal,
             end: refusal == 0,
@@ -300,13 +300,13 @@ pub extern "C" fn hb_log_next(s: &[u8], at: usize) -> NextEntry
         };
     }
     let header = part[0];
-    let kind = log::kind(header);
+    let kind = log_entry::kind(header);
     NextEntry {
         refusal: 0,
         end: false,
         kind,
-        argument: log::argument(header),
-        letter: log::letter(kind),
+        argument: log_entry::argument(header),
+        letter: log_entry::letter(kind),
         length,
     }
 }

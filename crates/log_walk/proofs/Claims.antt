@@ -3,7 +3,7 @@ use Rattle.std.specs.Prelude.{◌≡◌, List, [], ◌∷◌, ◌++◌, map, len
 use Rattle.std.proofs.Common.{arith}
 use Rattle.game.specs.Game.{fresh_game, game_from}
 use Rattle.game.proofs.Claims.{Demand3, demand_3, refusals_from, runs_exists}
-use Rattle.log.specs.Log.{entries_of}
+use Rattle.log_entry.specs.Log.{entries_of}
 use Rattle.text.specs.Words.{bytes_of}
 use Rattle.log_walk.specs.declared.Walk.{Walk}
 use Rattle.log_walk.specs.Walk.{printed_text, started, text_left, lines_of}

@@ -3,9 +3,9 @@ use Rattle.std.specs.Prelude.{◌≡◌, ◌||◌, cond, List, [], ◌∷◌, �
 use Rattle.position.specs.declared.Position.{Position}
 use Rattle.game.specs.declared.Game.{Game}
 use Rattle.game.specs.Game.{fresh_game, game_refusal, game_after}
-use Rattle.log.specs.Entry.{letter_of}
-use Rattle.log.specs.Next.{LogEntry, Next, end, entry, bad}
-use Rattle.log.specs.Log.{next_of, entries_of}
+use Rattle.log_entry.specs.Entry.{letter_of}
+use Rattle.log_entry.specs.Next.{LogEntry, Next, end, entry, bad}
+use Rattle.log_entry.specs.Log.{next_of, entries_of}
 use Rattle.text.specs.Text.{line_of}
 use Rattle.log_walk.specs.declared.Step.{Step}
 use Rattle.log_walk.specs.declared.Walk.{Walk}

@@ -4,8 +4,8 @@ ghost use Rattle.std.specs.Prelude.{◌≡◌, ◌≤◌, ◌<◌, length, get_o
 ghost use Rattle.position.specs.Booking as Booking;
 ghost use Rattle.game.specs.Game.{booking, correction};
 ghost use Rattle.game.specs.Runs.{Books};
-ghost use Rattle.log.specs.search.Lengths.{correction_kind, kind_in, holder_in, feeder_in, yaku_in};
-ghost use Rattle.log.specs.search.Found.{result_by, booking_by, entry_of};
+ghost use Rattle.log_entry.specs.search.Lengths.{correction_kind, kind_in, holder_in, feeder_in, yaku_in};
+ghost use Rattle.log_entry.specs.search.Found.{result_by, booking_by, entry_of};
 ghost use Rattle.log_walk.specs.Walk.{no_entry, step_of, BooksEntry, started};
 
 use game::Game;
@@ -36,9 +36,9 @@ fn book_pao(g: Game, s: &[u8]) -> Booked
     ensures { Books g (booking (Booking.pao (holder_in s.now) (feeder_in s.now) (yaku_in s.now))) result.refusal result.game }
 {
     let b = first(s);
-    let holder = log::holder(b);
-    let feeder = log::feeder(b);
-    let yaku = log::yaku(b);
+    let holder = log_entry::holder(b);
+    let feeder = log_entry::feeder(b);
+    let yaku = log_entry::yaku(b);
     game_bookings::pao(g, holder, feeder, yaku)
 }
 
@@ -46,13 +46,13 @@ fn book_pao(g: Game, s: &[u8]) -> Booked
 fn book_result(g: Game, kind: u8, argument: u8, s: &[u8]) -> Booked
     ensures { Books g (booking (Booking.result (result_by kind argument s.now))) result.refusal result.game }
 {
-    if kind == log::WIN {
+    if kind == log_entry::WIN {
         return game_bookings::win(g, s);
     }
-    if kind == log::DRAW {
+    if kind == log_entry::DRAW {
         return game_bookings::draw(g, argument);
     }
-    if kind == log::MULTI_RON {
+    if kind == log_entry::MULTI_RON {
         return game_bookings::multi_ron(g, argument, s);
     }
     game_bookings::chombo(g, argument)
@@ -62,10 +62,10 @@ fn book_result(g: Game, kind: u8, argument: u8, s: &[u8]) -> Booked
 fn book_booking(g: Game, kind: u8, argument: u8, s: &[u8]) -> Booked
     ensures { Books g (booking (booking_by kind argument s.now)) result.refusal result.game }
 {
-    if kind == log::RIICHI {
+    if kind == log_entry::RIICHI {
         return game_bookings::riichi(g, argument);
     }
-    if kind == log::PAO {
+    if kind == log_entry::PAO {
         return book_pao(g, s);
     }
     book_result(g, kind, argument, s)
@@ -75,13 +75,13 @@ fn book_booking(g: Game, kind: u8, argument: u8, s: &[u8]) -> Booked
 fn book_correction(g: Game, kind: u8, argument: u8, s: &[u8]) -> Booked
     ensures { Books g (correction (result_by kind argument s.now)) result.refusal result.game }
 {
-    if kind == log::WIN {
+    if kind == log_entry::WIN {
         return game_bookings::correct_win(g, s);
     }
-    if kind == log::DRAW {
+    if kind == log_entry::DRAW {
         return game_bookings::correct_draw(g, argument);
     }
-    if kind == log::MULTI_RON {
+    if kind == log_entry::MULTI_RON {
         return game_bookings::correct_multi_ron(g, argument, s);
     }
     game_bookings::correct_chombo(g, argument)
@@ -94,12 +94,12 @@ fn book_part(g: Game, part: &[u8]) -> Booked
 {
     let end = part.len();
     let header = part[0];
-    let kind = log::kind(header);
-    if kind == log::CORRECTION {
+    let kind = log_entry::kind(header);
+    if kind == log_entry::CORRECTION {
         let inner = part[1];
-        return book_correction(g, log::kind(inner), log::argument(inner), &part[2..end]);
+        return book_correction(g, log_entry::kind(inner), log_entry::argument(inner), &part[2..end]);
     }
-    book_booking(g, kind, log::argument(header), &part[1..end])
+    book_booking(g, kind, log_entry::argument(header), &part[1..end])
 }
 
 // No entry: the game stays.
@@ -118,17 +118,17 @@ fn no_entry(g: Game, refusal: u8) -> Step
 pub fn book_at(g: Game, s: &[u8], at: usize) -> Step
     ensures { result ≡ step_of g s.now at }
 {
-    let part = log::next_entry(s, at);
+    let part = log_entry::next_entry(s, at);
     let end = part.len();
     if end == 0 {
-        return no_entry(g, log::refusal_at(s, at));
+        return no_entry(g, log_entry::refusal_at(s, at));
     }
     let header = part[0];
     let b = book_part(g, part);
     let after = b.game;
     Step {
         refusal: b.refusal,
-        letter: log::letter(log::kind(header)),
+        letter: log_entry::letter(log_entry::kind(header)),
         len: end,
         game: after,
     }

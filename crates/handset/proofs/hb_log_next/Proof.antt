@@ -7,12 +7,12 @@ use Prim.Native.Nat.{ℕ, ◌/◌, ◌%◌, ◌<◌}
 use native.Mathlib.Omega.{arith}
 use lib.Dec.{eqb}
 use lib.ListN.{length, get_or}
-use Rattle.log.specs.Entry.{letter_of}
-use Rattle.log.specs.Log.{part_at, refusal_at}
-use Rattle.log.specs.search.Found.{entry_of}
-use Rattle.log.proofs.laws.Exact.{by_place}
-use Rattle.log.proofs.laws.Letters.{IsLetter, letter_told}
-use Rattle.log.proofs.laws.Next.{next_end, next_bad, next_part, refusal_end, refusal_bad, length_part, part_is_entry}
+use Rattle.log_entry.specs.Entry.{letter_of}
+use Rattle.log_entry.specs.Log.{part_at, refusal_at}
+use Rattle.log_entry.specs.search.Found.{entry_of}
+use Rattle.log_entry.proofs.laws.Exact.{by_place}
+use Rattle.log_entry.proofs.laws.Letters.{IsLetter, letter_told}
+use Rattle.log_entry.proofs.laws.Next.{next_end, next_bad, next_part, refusal_end, refusal_bad, length_part, part_is_entry}
 use Rattle.handset.specs.declared.NextEntry.{NextEntry}
 use Rattle.handset.specs.Interface.{next_entry_by, next_entry_of}
 use Rattle.handset.proofs.hb_log_next.Statement.{statement}

@@ -9,11 +9,11 @@ use Rattle.claim_writer.specs.declared.Claim.{Claim}
 use Rattle.claim_writer.specs.Writes.{Writes, unnamed, short, written}
 use Rattle.claim_writer.specs.Write as claims
 use Rattle.text.specs.Text.{length_in}
-use Rattle.log.specs.Next.{Next, end, entry, bad}
-use Rattle.log.specs.Log.{next_of, part_in, part_at}
-use Rattle.log.proofs.laws.Parts.{none_empty}
-use Rattle.log.proofs.laws.Next.{part_inside, none_left}
-use Rattle.log.proofs.laws.Walk.{parts_none}
+use Rattle.log_entry.specs.Next.{Next, end, entry, bad}
+use Rattle.log_entry.specs.Log.{next_of, part_in, part_at}
+use Rattle.log_entry.proofs.laws.Parts.{none_empty}
+use Rattle.log_entry.proofs.laws.Next.{part_inside, none_left}
+use Rattle.log_entry.proofs.laws.Walk.{parts_none}
 use Rattle.log_walk.specs.declared.Walk.{Walk}
 use Rattle.log_walk.specs.declared.Printed.{Printed}
 use Rattle.log_walk.specs.Walk.{filled, lines_of}

@@ -4,9 +4,9 @@ use mathlib.Core.Path.{sym, ap, ◌∙◌}
 use native.Mathlib.Omega.{arith}
 use lib.ListN.{length}
 use Prim.Native.Nat.{◌<◌}
-use Rattle.log.specs.Log.{part_at}
-use Rattle.log.proofs.laws.Exact.{correction_some}
-use Rattle.log.proofs.laws.Next.{part_is_entry}
+use Rattle.log_entry.specs.Log.{part_at}
+use Rattle.log_entry.proofs.laws.Exact.{correction_some}
+use Rattle.log_entry.proofs.laws.Next.{part_is_entry}
 use Rattle.log_walk.proofs.laws.Turn.{step_none, step_entry}
 use Rattle.log_walk.proofs.book_at.Statement.{statement}
 use Rattle.log_walk.proofs.book_at.Tie as tie

@@ -3,7 +3,7 @@ use Rattle.std.specs.Prelude.{◌≡◌, List, [], ◌∷◌, ◌++◌, ℕ}
 use Rattle.std.proofs.Common.{sym, ap, ◌∙◌}
 use Rattle.position.specs.Ledger.{fresh, not_open, out_of_form, total_of, refusal_for, refusals_of, after, applied, effect_of, riichi_gives, draw_gives}
 use Rattle.game.specs.Game.{fresh_game, game_out_of_form, game_not_open, game_refusal, with_entry, game_after}
-use Rattle.log.proofs.laws.Examples as log
+use Rattle.log_entry.proofs.laws.Examples as log
 use Rattle.text.specs.Words.{bytes_of}
 use Rattle.text.specs.Text.{last_digits, digits_of, signed_of, spaced, line_of}
 use Rattle.log_walk.specs.Walk.{entry_line, text_from, printed_text}

@@ -7,12 +7,12 @@ use borrow.Author.Tests.{leb-true, leb-false, lt-ltb, le-ltb, le-leb, lt-leb, eq
 use Rattle.std.proofs.Math.Dec.{eqb}
 use Rattle.std.proofs.Math.ListN.{length}
 use Rattle.std.proofs.Math.Seq.{take-append_seam, drop-append_seam}
-use Rattle.log.specs.Entry.{letter_of}
-use Rattle.log.specs.Next.{LogEntry}
-use Rattle.log.specs.Log.{entries_of}
-use Rattle.log.proofs.laws.Parts.{from_on, none_empty}
-use Rattle.log.proofs.laws.Next.{none_left, entry_at}
-use Rattle.log.proofs.laws.Walk.{parts_none}
+use Rattle.log_entry.specs.Entry.{letter_of}
+use Rattle.log_entry.specs.Next.{LogEntry}
+use Rattle.log_entry.specs.Log.{entries_of}
+use Rattle.log_entry.proofs.laws.Parts.{from_on, none_empty}
+use Rattle.log_entry.proofs.laws.Next.{none_left, entry_at}
+use Rattle.log_entry.proofs.laws.Walk.{parts_none}
 use Rattle.text.specs.Text.{digits_of, spaced, line_of, length_in, buffer_with}
 use Rattle.position.specs.declared.Position.{Position}
 use Rattle.game.specs.declared.Game.{Game}

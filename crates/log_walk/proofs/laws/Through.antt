@@ -4,12 +4,12 @@ use Rattle.std.proofs.Math.Path.{refl}
 use Rattle.std.proofs.Common.{sym, ap, ◌∙◌, append_assoc, arith, leb-true, leb-false, eqb-true, length-append, length-drop, drop-drop, take_all, take-take}
 use Rattle.std.proofs.lemmas.Bool.{eqb-false}
 use Rattle.std.proofs.Math.Seq.{take-append_seam}
-use Rattle.log.specs.Next.{LogEntry}
-use Rattle.log.specs.Log.{entries_of}
-use Rattle.log.specs.search.Lengths.{entry_length}
-use Rattle.log.proofs.laws.Parts.{length_inside, part_length}
-use Rattle.log.proofs.laws.Next.{first_entry}
-use Rattle.log.proofs.laws.Walk.{along, parts_none, parts_some}
+use Rattle.log_entry.specs.Next.{LogEntry}
+use Rattle.log_entry.specs.Log.{entries_of}
+use Rattle.log_entry.specs.search.Lengths.{entry_length}
+use Rattle.log_entry.proofs.laws.Parts.{length_inside, part_length}
+use Rattle.log_entry.proofs.laws.Next.{first_entry}
+use Rattle.log_entry.proofs.laws.Walk.{along, parts_none, parts_some}
 use Rattle.log_walk.specs.declared.Walk.{Walk}
 use Rattle.log_walk.specs.declared.Printed.{Printed}
 use Rattle.log_walk.specs.Walk.{started, text_from, text_left, printed_text, filled, lines_of}

@@ -6,15 +6,15 @@ use Rattle.std.proofs.Math.Seq.{drop-drop}
 use Rattle.game.specs.declared.Game.{Game}
 use Rattle.game.specs.Game.{booking, correction, game_refusal, game_after}
 use Rattle.game.specs.Runs.{Books}
-use Rattle.log.specs.Entry.{letter_of}
-use Rattle.log.specs.Log.{part_at, refusal_at, entries_of}
-use Rattle.log.specs.search.Lengths.{kind_in, argument_in}
-use Rattle.log.specs.search.Found.{result_by, booking_by, result_of, booking_of, entry_of}
-use Rattle.log.proofs.laws.Parts.{from_on}
-use Rattle.log.proofs.laws.Letters.{IsLetter, letter_told}
-use Rattle.log.proofs.laws.Exact.{by_place}
-use Rattle.log.proofs.laws.Next.{next_end, next_bad, next_part, refusal_end, refusal_bad, length_part, part_inside, entry_at, part_is_entry}
-use Rattle.log.proofs.laws.Walk.{parts_end, parts_turn}
+use Rattle.log_entry.specs.Entry.{letter_of}
+use Rattle.log_entry.specs.Log.{part_at, refusal_at, entries_of}
+use Rattle.log_entry.specs.search.Lengths.{kind_in, argument_in}
+use Rattle.log_entry.specs.search.Found.{result_by, booking_by, result_of, booking_of, entry_of}
+use Rattle.log_entry.proofs.laws.Parts.{from_on}
+use Rattle.log_entry.proofs.laws.Letters.{IsLetter, letter_told}
+use Rattle.log_entry.proofs.laws.Exact.{by_place}
+use Rattle.log_entry.proofs.laws.Next.{next_end, next_bad, next_part, refusal_end, refusal_bad, length_part, part_inside, entry_at, part_is_entry}
+use Rattle.log_entry.proofs.laws.Walk.{parts_end, parts_turn}
 use Rattle.log_walk.specs.Walk.{no_entry, step_by, step_of}
 use Rattle.log_walk.specs.declared.Step.{Step}
 
