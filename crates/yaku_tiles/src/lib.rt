@@ -1,5 +1,6 @@
 // The yaku that go by the tiles alone. Nine sorts of kinds are told apart, and one pass over the tally says which of them are there.
 #![tactic(auto)]
+
 ghost use Rattle.std.specs.Prelude.{◌≡◌, ◌<◌};
 ghost use Rattle.yaku_tiles.specs.search.TileTests.{tile_tests_of};
 ghost use Rattle.yaku_tiles.specs.search.Sorts.{sorts_in, within};

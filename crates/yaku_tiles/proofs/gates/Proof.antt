@@ -1,6 +1,5 @@
 -- `yaku_tiles::gates` meets its contract: where no suit has all tiles, no suit is asked.
 use borrow.Author.Rules.{rules}
-use borrow.Author.Tests.{not-true, not-false}
 use mathlib.Core.Path.{◌≡◌, refl, sym, ◌∙◌}
 use mathlib.Core.Bool.{Bool, true, false, ◌&&◌, ◌||◌}
 use mathlib.Core.List.{List}
@@ -33,7 +32,7 @@ gates_spec =
     (λ c.
     let a = c.before in
     let x = a.args in
-    none x.meldless x.man x.pin x.sou (gates_of x.t 0) (gates_of x.t 1) (gates_of x.t 2) (not-true _ c.if1.true)
+    none x.meldless x.man x.pin x.sou (gates_of x.t 0) (gates_of x.t 1) (gates_of x.t 2) c.if-not-meldless-man.true
     ∙ by_suits x.t x.meldless x.man x.pin x.sou a.requires)
     (λ c κs. search rules) (λ c κs. search rules) (λ c κs. search rules)
     (λ c.
@@ -41,6 +40,6 @@ gates_spec =
     let first = two.before in
     let a = first.before.before in
     let x = a.args in
-    rw (first.gates-of.ensures, two.gates-of2.ensures, c.gates-of3.ensures)
-    (one x.meldless ((x.man || x.pin) || x.sou) _ (not-false _ first.before.if1.false)
+    rw (first.gates_of.ensures, two.gates_of-2.ensures, c.gates_of-3.ensures)
+    (one x.meldless ((x.man || x.pin) || x.sou) _ first.before.if-not-meldless-man.false
     ∙ by_suits x.t x.meldless x.man x.pin x.sou a.requires)))

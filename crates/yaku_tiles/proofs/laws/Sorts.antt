@@ -2,7 +2,7 @@
 use Rattle.std.specs.Prelude.{◌≡◌, refl, List, [], ◌∷◌, map, ℕ, zero, suc, ◌<◌, get_or, eqb, ltb}
 use Rattle.std.proofs.Common.{sym, ap, ◌∙◌, arith, lt-ltb, ltb-true, eqb-true, ne_eqb}
 use mathlib.Core.Bool.{Bool, true, false, cond, not, ◌||◌, ◌&&◌}
-use Rattle.tiles.specs.Below.{all, any, all_below}
+use Rattle.tiles.specs.Below.{any, all_below}
 use Rattle.tiles.proofs.laws.Below.{and_true, every_at, every_of, every_cong, any_at, both_ways}
 use Rattle.yaku_tiles.specs.OfTiles.{only}
 use Rattle.yaku_tiles.specs.search.Sorts.{sorts, any_of, sorts_in, within}

@@ -22,11 +22,11 @@ suits c κs =
     let pin = sou.before in
     let man = pin.before in
     let t = man.before.before.args.t in
-    let x = man.before.sorts.result in
-    let s = man.before.sorts.ensures in (
-      man.only.ensures ∙ only_within t x (in_suit 0) s refl,
-      pin.only2.ensures ∙ only_within t x (in_suit 1) s refl,
-      sou.only3.ensures ∙ only_within t x (in_suit 2) s refl,
+    let x = man.before.sorts-x.result in
+    let s = man.before.sorts-x.ensures in (
+      man.only-man.ensures ∙ only_within t x (in_suit 0) s refl,
+      pin.only-pin.ensures ∙ only_within t x (in_suit 1) s refl,
+      sou.only-sou.ensures ∙ only_within t x (in_suit 2) s refl,
     )
 
 returns : tie.Need-returns
@@ -45,21 +45,21 @@ returns c =
     let pin = sou.before in
     let man = pin.before in
     let t = man.before.before.args.t in
-    let x = man.before.sorts.result in
-    let s = man.before.sorts.ensures in
+    let x = man.before.sorts-x.result in
+    let s = man.before.sorts-x.ensures in
     rw (
-      man.only.ensures ∙ only_within t x (in_suit 0) s refl,
-      pin.only2.ensures ∙ only_within t x (in_suit 1) s refl,
-      sou.only3.ensures ∙ only_within t x (in_suit 2) s refl,
-      number.only4.ensures ∙ only_within t x is_number s refl,
-      honour.only5.ensures ∙ only_within t x is_honour s refl,
-      man-honour.only6.ensures ∙ only_within t x (λ k. in_suit 0 k || is_honour k) s refl,
-      pin-honour.only7.ensures ∙ only_within t x (λ k. in_suit 1 k || is_honour k) s refl,
-      sou-honour.only8.ensures ∙ only_within t x (λ k. in_suit 2 k || is_honour k) s refl,
-      simple.only9.ensures ∙ only_within t x is_simple s refl,
-      yaochu.only10.ensures ∙ only_within t x is_yaochu s refl,
-      terminal.only11.ensures ∙ only_within t x is_terminal s refl,
-      green.only12.ensures ∙ only_within t x is_green s refl,
+      man.only-man.ensures ∙ only_within t x (in_suit 0) s refl,
+      pin.only-pin.ensures ∙ only_within t x (in_suit 1) s refl,
+      sou.only-sou.ensures ∙ only_within t x (in_suit 2) s refl,
+      number.only-numbers.ensures ∙ only_within t x is_number s refl,
+      honour.only-honours.ensures ∙ only_within t x is_honour s refl,
+      man-honour.only.ensures ∙ only_within t x (λ k. in_suit 0 k || is_honour k) s refl,
+      pin-honour.only-2.ensures ∙ only_within t x (λ k. in_suit 1 k || is_honour k) s refl,
+      sou-honour.only-3.ensures ∙ only_within t x (λ k. in_suit 2 k || is_honour k) s refl,
+      simple.only-4.ensures ∙ only_within t x is_simple s refl,
+      yaochu.only-5.ensures ∙ only_within t x is_yaochu s refl,
+      terminal.only-6.ensures ∙ only_within t x is_terminal s refl,
+      green.only-7.ensures ∙ only_within t x is_green s refl,
       c.gates.ensures,
     )
 
