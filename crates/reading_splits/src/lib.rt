@@ -1,5 +1,6 @@
 // Whether a tally is a pair and groups (01, Readings; 02, S-9).
 #![tactic(auto)]
+
 ghost use Rattle.std.specs.Prelude.{◌≡◌, true, false, ◌↔◌, suc, ◌-◌, ◌≤◌, length, get_or};
 ghost use Rattle.reading_splits.specs.Splits.{Splits};
 ghost use Rattle.reading_splits.specs.search.SplitsInto.{lowest as lowest_of, splits_into};

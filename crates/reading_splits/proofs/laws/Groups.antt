@@ -1,15 +1,15 @@
 -- Without a pair to come the lowest tile has one part that it can be in: a triplet where there are three of it, else a run. And with a pair to
 -- come it is one of the kinds that can be the pair.
-use Rattle.std.specs.Prelude.{◌≡◌, refl, Bool, false, ◌&&◌, ◌||◌, not, cond, List, [], ◌∷◌, ℕ, zero, suc, ◌+◌, ◌-◌, ◌*◌, ◌%◌, ◌≤◌, ◌<◌, ltb, leb, eqb, length, get_or}
+use Rattle.std.specs.Prelude.{◌≡◌, refl, Bool, false, ◌&&◌, ◌||◌, cond, List, ◌∷◌, ℕ, suc, ◌+◌, ◌-◌, ◌*◌, ◌%◌, ◌≤◌, ◌<◌, ltb, eqb, length, get_or}
 use Rattle.std.proofs.Common.{sym, ◌∙◌, ⊎_elim, arith, lt-ltb, le-ltb, le-leb, ltb-true, ltb-false}
 use Rattle.std.proofs.Math.Path.{ap}
 use Rattle.std.proofs.Math.Bool.{true}
 use Rattle.std.proofs.lemmas.Bool.{false≢true, lt-leb}
 use Rattle.tiles.specs.Groups.{is_group, at_kind, uses}
 use Rattle.reading.specs.Reading.{used_by}
-use Rattle.reading.specs.All.{Each, none, also as each}
-use Rattle.reading.specs.search.Readings.{is_empty, less, fits, without}
-use Rattle.reading.specs.search.Pairs.{PairBeside, Among, OnlyPairs}
+use Rattle.reading.specs.All.{Each, also as each}
+use Rattle.reading.specs.search.Readings.{less, fits, without}
+use Rattle.reading.specs.search.Pairs.{Among, OnlyPairs}
 use Rattle.reading.proofs.laws.Groups.{run_in, fits_group, without_at, without_long, less_long, at_same, at_other}
 use Rattle.reading_splits.specs.search.SplitsInto.{also, lowest, splits_into}
 use Rattle.reading_splits.proofs.laws.SplitsInto.{SplitsInto, Taken, take_group, lowest_code, lowest_below, add_pair}
