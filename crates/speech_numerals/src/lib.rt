@@ -1,6 +1,7 @@
 // Numbers as clips in four languages (SPEECH, Numbers): 1 Japanese, 2 English, 3 Korean, 4 Mandarin. A function that is given a buffer requires room for
 // its work.
 #![tactic(auto)]
+
 ghost use Rattle.std.specs.Prelude.{◌≡◌, cond, ◌+◌, ◌≤◌, ◌<◌, length};
 ghost use Rattle.text.specs.Put.{Put};
 ghost use Rattle.speech_numerals.specs.Numerals.{place_of, under_hundred, three_of, scaled_three, english_of, is_gap, thousands_of, hundreds_of, tens_of};

@@ -1,0 +1,18 @@
+use Rattle.std.proofs.Common.{arith}
+use borrow.Author.Tests.{eq-eqb, ne_eqb}
+use Rattle.text.proofs.laws.Put.{put_none, put_after}
+use Rattle.speech_numerals.specs.Numerals.{scaled_four}
+use Rattle.speech_numerals.proofs.scaled_four.Goals as goal
+
+pub returns-then-g-eq0 : goal.returns-then-g-eq0
+unfolding scaled_four
+returns-then-g-eq0 c = (rw (eq-eqb _ _ c.if-g-eq0.true) (put_none c.args.buf.now c.args.at), omega arith)
+
+pub returns-then-language-scale : goal.returns-then-language-scale
+unfolding scaled_four
+returns-then-language-scale c =
+    (rw (ne_eqb _ _ c.if-g-eq0.false, c.if-language-scale.true) (put_after c.args.scale (put_none c.args.buf.now c.args.at)), omega arith)
+
+pub returns : goal.returns
+unfolding scaled_four
+returns c = (rw (ne_eqb _ _ c.if-g-eq0.false, c.if-language-scale.false) (put_after c.args.scale c.four-e.ensures.0), omega arith)
