@@ -1,6 +1,7 @@
 #!/usr/bin/env bash
 # The layout of the sources: format.sh [--write]. Rattle's by `rt fmt`, Rust's by `cargo fmt` (rustfmt.toml), C's by clang-format 14 (.clang-format; all
 # but include/herbassolh.h, whose comments stand in columns by hand). It names the files that have another layout and exits 1; --write gives it to them.
+# Rattle's is given alone: `rt ci` refuses a source that has another.
 # A program that is not installed, or another version of clang-format, is told and passed over.
 cd -- "$(dirname -- "${BASH_SOURCE[0]}")/.." || exit 2
 [[ $# == 0 || $* == --write ]] || { echo "format.sh [--write]" >&2; exit 2; }
@@ -8,10 +9,12 @@ check=$((1 - $#))
 failed=0 looked=""
 c_files=(examples/*.c interface/*.c interface/tests/*.[ch] portable/board/*.c tools/*.c)
 
-if command -v rt >/dev/null; then
-    if ((check)); then rt fmt --check || failed=1; else rt fmt >/dev/null || failed=1; fi
-    looked="rt fmt"
-else echo "layout: rt is not installed; .rt and .antt were not looked at"; fi
+if ((!check)); then
+    if command -v rt >/dev/null; then
+        for crate in crates/*/; do (cd -- "$crate" && rt fmt >/dev/null) || failed=1; done
+        looked="rt fmt"
+    else echo "layout: rt is not installed; .rt and .antt were not looked at"; fi
+fi
 
 if cargo fmt --version >/dev/null 2>&1; then
     for folder in interface other_scorer; do
