@@ -99,7 +99,7 @@ def defined(path, name):
 
 
 def check_crates(rows):
-    phrase, numeral = defined(PHRASES, "isPhrase"), defined(NUMERALS, "onSheet")
+    phrase, numeral = defined(PHRASES, "is_phrase"), defined(NUMERALS, "on_sheet")
     by_clip = {int(row["clip"]): row for row in rows}
     for language, (column, name) in enumerate(LANGUAGES, 1):
         here = {clip for clip, row in by_clip.items() if row[column]}
