@@ -7,7 +7,7 @@
 - the crates: a language has words for the clips that `is_phrase` (crates/speech_told/specs/Sheet.antt) and `on_sheet`
   (crates/speech_numerals/specs/Heard.antt) give it, and for no others; every clip of a message is one of them, which is proved, and
   that every clip of the sheet is in a message is tested (other_scorer/tests/say_sheet.rs);
-- HB_MESSAGE_MAX: the longest that the theorems NAME-short let a message be;
+- HB_MESSAGE_MAX: the longest that the theorems NAME_short let a message be;
 - docs/CLIPS.md: its tables are those of docs/clips.tsv; --write writes them anew."""
 import os
 import re
@@ -20,7 +20,7 @@ PAGE = "docs/CLIPS.md"
 HEADER = "include/herbassolh.h"
 PHRASES = "crates/speech_told/specs/Sheet.antt"
 NUMERALS = "crates/speech_numerals/specs/Heard.antt"
-SHORT = ("crates/speech_told/specs/Claims.antt", "crates/speech_table/specs/Claims.antt")
+SHORT = ("crates/speech_told/proofs/Claims.antt", "crates/speech_table/proofs/Claims.antt")
 DECLARED = "interface/archive/src/lib.rs"
 HEADS = ["clip", "name", "ja", "kana", "en", "ko", "zh", "pinyin"]
 LANGUAGES = [("ja", "Japanese"), ("en", "English"), ("ko", "Korean"), ("zh", "Mandarin")]  # 1 to 4
@@ -135,10 +135,10 @@ def tables(rows):
 
 
 def check_longest():
-    """HB_MESSAGE_MAX, in the header and in its declaration in Rust, is the longest that a theorem NAME-short lets a message be."""
-    short = [int(n) for path in SHORT for n in re.findall(r"^ *pub \w+-short :.*≤ (\d+)$", read(path), flags=re.M)]
+    """HB_MESSAGE_MAX, in the header and in its declaration in Rust, is the longest that a theorem NAME_short lets a message be."""
+    short = [int(n) for path in SHORT for n in re.findall(r"^ *pub \w+_short :.*≤ (\d+)$", read(path), flags=re.M)]
     if len(short) != 6:
-        yield f"{' and '.join(SHORT)}: {len(short)} theorems NAME-short of six messages"
+        yield f"{' and '.join(SHORT)}: {len(short)} theorems NAME_short of six messages"
     for path, pattern in ((HEADER, r"HB_MESSAGE_MAX = (\d+)"), (DECLARED, r"MESSAGE_MAX: usize = (\d+)")):
         if int(re.search(pattern, read(path)).group(1)) != max(short, default=0):
             yield f"{path}: the longest message has {max(short, default=0)} clips at most"

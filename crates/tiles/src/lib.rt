@@ -1,5 +1,6 @@
 // The 34 kinds of tile: tests of a kind, the dora, and tallies of how many there are of each. A test takes any number.
 #![tactic(auto)]
+
 ghost use Rattle.std.specs.Prelude.{◌≡◌, ◌<◌, ◌≤◌, ◌+◌, get_or};
 ghost use Rattle.tiles.specs.Tally.{more as more_of};
 ghost use Rattle.tiles.specs.Kinds.{is_yaochu, is_run_start, dora_of};

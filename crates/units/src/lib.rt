@@ -1,5 +1,6 @@
 // "Han, fu and points are the rules' three units, and a figure in one is never passed where another belongs" (01, Fu and points).
 #![tactic(auto)]
+
 ghost use Rattle.std.specs.Prelude.{◌≡◌, ◌<◌};
 
 // Han: of a yaku, of the dora, and their sum h.

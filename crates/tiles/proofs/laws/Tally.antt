@@ -1,9 +1,8 @@
 -- What a tally holds at a kind, and that it is known by that.
-use Rattle.std.specs.Prelude.{◌≡◌, refl, Bool, true, false, cond, List, [], ◌∷◌, ℕ, zero, suc, ◌+◌, ◌≤◌, ◌<◌, eqb, ltb, get_or, set, length}
-use Rattle.std.proofs.Common.{sym, ap, ◌∙◌, add-zero, add-suc, suc-add, le_of_suc-le-suc, not-suc-le-zero, arith, get_or-set_same, get_or-set_other, ext_get_or, eqb-true, ltb-true, ltb-false}
+use Rattle.std.specs.Prelude.{◌≡◌, refl, Bool, true, false, cond, List, [], ◌∷◌, ℕ, ◌+◌, ◌≤◌, ◌<◌, eqb, ltb, get_or, set, length}
+use Rattle.std.proofs.Common.{sym, ◌∙◌, add-zero, arith, get_or-set_same, get_or-set_other, ext_get_or, eqb-true, ltb-true, ltb-false}
 use Rattle.std.proofs.Math.ListN.{get_or-eq_default}
 use Rattle.std.proofs.lemmas.Bool.{eqb-false}
-use Rattle.tiles.specs.Below.{tabulate}
 use Rattle.tiles.specs.Groups.{at_kind}
 use Rattle.tiles.specs.Tally.{tally_of, more}
 use Rattle.tiles.proofs.laws.Tabulate.{length_tabulate, get_d_tabulate}
