@@ -1,5 +1,6 @@
 // A complete hand is made kind by kind: a state says what is begun and what is left to do, and each choice at a kind leads to another.
 #![tactic(auto)]
+
 ghost use Rattle.std.specs.Prelude.{◌≡◌, ℕ, ◌+◌, ◌-◌, ◌<◌, ◌≤◌, min};
 ghost use Rattle.ready_choices.specs.search.Moves.{choices as choices_of, tetra as tetra_of, triangle as triangle_of};
 ghost use Rattle.ready_choices.specs.search.Moves.{x_of, y_of, z_of, state as state_of, live as live_of};

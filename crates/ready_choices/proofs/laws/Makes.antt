@@ -8,7 +8,7 @@ use Rattle.tiles.proofs.laws.Below.{and_true, every_at}
 use Rattle.tiles.specs.Below.{all_below}
 use Rattle.ready_choices.specs.declared.Begun.{Begun}
 use Rattle.ready_choices.specs.declared.Move.{Move}
-use Rattle.ready_choices.specs.search.Moves.{a_of, b_of, g_of, p_of, x_of, y_of, z_of, state, may, fine, kept}
+use Rattle.ready_choices.specs.search.Moves.{a_of, b_of, g_of, p_of, x_of, y_of, z_of, state, may, kept}
 use Rattle.ready_choices.specs.search.Made.{Parted, takes, Makes, value_of}
 use Rattle.ready_choices.proofs.laws.Reach.{kept_more}
 use Rattle.ready_choices.proofs.laws.State.{state_read, state_small}
@@ -131,7 +131,7 @@ module _ (k s e x y z : ℕ) (u : Begun) (t : Bool) (lo : s < 70) (q : t ≡ is_
   pub makes_read : leb (x + y) u.g && leb z u.p && (eqb x 0 || t) ≡ true → Makes k s e (takes u x y z)
   unfolding takes
   makes_read h =
-      rw (c.runs-a lo, c.runs-b lo, c.groups lo, c.pairs lo, ex, ey, ez) (makes_regular k s e t lo q (rw (c.groups lo, c.pairs lo, ex, ey, ez) at h))
+      rw (c.runs_a lo, c.runs_b lo, c.groups lo, c.pairs lo, ex, ey, ez) (makes_regular k s e t lo q (rw (c.groups lo, c.pairs lo, ex, ey, ez) at h))
 
   pub makes_unreadable : leb (x + y) u.g && leb z u.p && (eqb x 0 || t) ≡ false → Makes k s e (record { fine = false; to = 0; tiles = 0 })
   makes_unreadable h = makes_no_regular k s e t lo q (rw (c.groups lo, c.pairs lo, ex, ey, ez) at h)

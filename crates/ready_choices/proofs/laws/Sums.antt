@@ -1,5 +1,5 @@
 -- Sums over the numbers below n: of one term, of sums, in other order.
-use Rattle.std.specs.Prelude.{◌≡◌, refl, ℕ, zero, suc, ◌+◌, ◌-◌, ◌≤◌, ◌<◌}
+use Rattle.std.specs.Prelude.{◌≡◌, refl, ℕ, zero, suc, ◌+◌, ◌≤◌, ◌<◌}
 use Rattle.std.proofs.Common.{⊎_elim, eq-or-lt_of_le, le_of_suc-le-suc, arith}
 use Rattle.tiles.specs.Below.{sum_below}
 use Rattle.tiles.specs.Groups.{at_kind}
