@@ -1,5 +1,6 @@
 // The hand record, Read, and how long the record is that bytes start with (01, Tiles and the hand record). It takes all input.
 #![tactic(auto)]
+
 ghost use Rattle.std.specs.Prelude.{◌≡◌, ◌+◌, ◌*◌, ◌-◌, ◌≤◌, length};
 ghost use Rattle.bits.specs.Bits.{bits_of};
 ghost use Rattle.hand_record.specs.search.Offsets.{held_in};

@@ -1,5 +1,5 @@
 -- A sound record read and written back gives the same bytes; an accepted hand written and read gives the same hand.
-use Prim.Native.Nat.{ℕ, ◌+◌, ◌*◌, ◌-◌, ◌<◌, ◌≤◌}
+use Prim.Native.Nat.{ℕ, ◌*◌, ◌-◌, ◌<◌, ◌≤◌}
 use Rattle.std.specs.Prelude.{◌≡◌, Bool, true, ◌||◌, cond, ltb, get_or, take}
 use Rattle.std.proofs.Math.Path.{refl, sym, ap, subst}
 use Rattle.std.proofs.Common.{◌∙◌, arith, length-take, length-take-le, get_or-take, pow_pos}

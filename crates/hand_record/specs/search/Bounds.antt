@@ -1,5 +1,5 @@
 -- The ranges of a hand that was read, which the code that scores it asks for.
-use Rattle.std.specs.Prelude.{◌≡◌, false, ℕ, ◌≤◌}
+use Rattle.std.specs.Prelude.{◌≡◌, false, ◌≤◌}
 use Rattle.hand.specs.declared.Hand.{Hand}
 use Rattle.hand.specs.Refusals.{wrong_discarder}
 
