@@ -1,5 +1,6 @@
 // The 36 yaku of a reading, and which of them are listed.
 #![tactic(auto)]
+
 ghost use Rattle.std.specs.Prelude.{◌≡◌, ◌<◌, ◌≤◌};
 ghost use Rattle.yaku_basics.specs.Tests.{concealed, kans};
 ghost use Rattle.yaku_tiles.specs.search.TileTests.{tile_tests_of};

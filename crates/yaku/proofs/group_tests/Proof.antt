@@ -35,34 +35,34 @@ returns c =
     let counted = twin.before in
     let low = counted.before in
     let tiles = low.before.requires.0 in
-    let little = low.little-dragons.ensures in
-    let values = counted.value-han.ensures.0 in
-    let twins = twin.twins.ensures in
-    let far = outside.outside.ensures in
-    let value = worthy.is-value.ensures in (
+    let little = low.little_dragons-little.ensures in
+    let values = counted.value_han-values.ensures.0 in
+    let twins = twin.twins-twin.ensures in
+    let far = outside.outside-outside.ensures in
+    let value = worthy.is_value-value.ensures in (
       same
           -- 0 to 5
           (six refl refl (ap (λ (x : TileTests). x.simples) tiles) (rw (values, little)) refl (rw twins)
           -- 6 to 11
           (six refl refl refl refl refl refl
           -- 12 to 17
-          (six refl runs.in-three-suits.ensures straight.straight.ensures
-          (rw (far, ap (λ (x : TileTests). x.honour) tiles)) three.in-three-suits2.ensures triplets.triplets.ensures
+          (six refl runs.in_three_suits.ensures straight.straight.ensures
+          (rw (far, ap (λ (x : TileTests). x.honour) tiles)) three.in_three_suits-2.ensures triplets.triplets.ensures
           -- 18 to 23
           (six refl refl (ap (λ (x : TileTests). x.yaochus) tiles) (rw twins)
           (rw (far, ap (λ (x : TileTests). x.honour) tiles)) (ap (λ (x : TileTests). x.half) tiles)
           -- 24 to 29
           (six little (ap (λ (x : TileTests). x.flush) tiles) refl refl (rw dragons.dragons.ensures.0)
-          winds.four-winds.ensures
+          winds.four_winds.ensures
           -- 30 to 35
           (six refl refl (ap (λ (x : TileTests). x.honours) tiles) (ap (λ (x : TileTests). x.terminals) tiles)
           (ap (λ (x : TileTests). x.greens) tiles) (ap (λ (x : TileTests). x.gates) tiles) refl))))))
-          c.before.is-yakuman.ensures
-          c.has-yaku.ensures
+          c.before.is_yakuman-yakuman.ensures
+          c.has_yaku-any.ensures
           (rw (values, little))
-          (rw (last.may-be-pinfu.ensures, value))
+          (rw (last.may_be_pinfu-runs.ensures, value))
           value,
-      counted.value-han.ensures.1,
+      counted.value_han-values.ensures.1,
     )
 
 pub group_tests_spec : {M : Type 1} → statement M

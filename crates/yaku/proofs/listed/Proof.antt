@@ -15,5 +15,5 @@ listed_spec =
     (λ c. search rules) (λ c. search rules) (λ c. search rules) (λ c. search rules) (λ c. search rules)
     (λ c. search rules) (λ c. search rules) (λ c. search rules) (λ c. search rules) (λ c. search rules)
     (λ c. search rules) (λ c. search rules) (λ c. search rules)
-    (λ c. rw (sym c.before.requires ∙ c.if1.true))
-    (λ c. rw (sym c.before.requires ∙ c.if1.false)))
+    (λ c. rw (sym c.before.requires ∙ c.if-yakuman.true))
+    (λ c. rw (sym c.before.requires ∙ c.if-yakuman.false)))

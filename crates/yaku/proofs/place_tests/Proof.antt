@@ -67,5 +67,5 @@ place_tests_spec =
     (λ c.
     let all-ankou = c.before.before in let e = all-ankou.before.before in
     let g = e.before.before in let s = g.before in
-    by_place s.args.w s.args.p s.args.k e.earns-wait.result s.args.ankou s.args.kan
-    s.requires.0 (rw (← e.before.placed.ensures) e.earns-wait.ensures) s.requires.1.0 s.requires.1.1))
+    by_place s.args.w s.args.p s.args.k e.earns_wait-wait.result s.args.ankou s.args.kan
+    s.requires.0 (rw (← e.before.placed.ensures) e.earns_wait-wait.ensures) s.requires.1.0 s.requires.1.1))

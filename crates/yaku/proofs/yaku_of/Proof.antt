@@ -1,6 +1,6 @@
 -- `yaku::yaku_of` meets its contract.
 use borrow.Author.Rules.{rules}
-use Rattle.yaku.specs.Yaku.{is_yakuman, yaku_of}
+use Rattle.yaku.specs.Yaku.{yaku_of}
 use Rattle.yaku.specs.search.Common.{place_tests_of}
 use Rattle.yaku.proofs.yaku_of.Statement.{statement}
 use Rattle.yaku.proofs.yaku_of.Tie as tie
