@@ -1,5 +1,6 @@
 // From han and fu to the basic points, the payments, the winner's gain and the four changes (01, Fu and points).
 #![tactic(auto)]
+
 ghost use Rattle.std.specs.Prelude.{◌≡◌, cond, ◌<◌, ◌≤◌, pos, ◌-ℤ◌};
 ghost use Rattle.points.specs.Points.{plain as plain_of, limit as limit_of, ordinary as ordinary_of, basic as basic_of, hundreds as hundreds_of, times_a};
 ghost use Rattle.points.specs.Points.{pays as pays_of, gain as gain_of, changes as changes_of};

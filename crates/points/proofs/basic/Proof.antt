@@ -10,5 +10,5 @@ unfolding basic
 basic_spec =
     tie.close
     (tie.spec
-    (λ c κs. search rules) (λ c. (rw c.if1.true, search rules))
-    (λ c. (rw c.before.if1.false c.ordinary.ensures.0, omega arith)))
+    (λ c κs. search rules) (λ c. (rw c.if-yakuman.true, search rules))
+    (λ c. (rw c.before.if-yakuman.false c.ordinary.ensures.0, omega arith)))

@@ -22,5 +22,5 @@ change_spec =
     tie.close
     (tie.spec (λ c. search rules) (λ c. search rules)
     (λ c. let s = c.before.before in rw (plus s.args.paid.0 (omega arith)) (minus_fits _ s.requires.1))
-    (λ c. rw (plus _ c.before.before.requires.0, c.before.if1.true))
-    (λ c. let s = c.before.before in rw (plus s.args.paid.0 (omega arith), to_z-of_z w32 _ (minus_fits _ s.requires.1), c.before.if1.false)))
+    (λ c. rw (plus _ c.before.before.requires.0, c.before.if-wins.true))
+    (λ c. let s = c.before.before in rw (plus s.args.paid.0 (omega arith), to_z-of_z w32 _ (minus_fits _ s.requires.1), c.before.if-wins.false)))

@@ -11,20 +11,20 @@ returns c =
     let third = c.before.before in
     let second = third.before.before in
     let first = second.before.before in
-    let z0 = back first.change.result _ first.change.type-inv first.change.ensures in
-    let z1 = back second.change2.result _ second.change2.type-inv second.change2.ensures in
-    let z2 = back third.change3.result _ third.change3.type-inv third.change3.ensures in
-    let z3 = back c.change4.result _ c.change4.type-inv c.change4.ensures in
+    let z0 = back first.change-c0.result _ first.change-c0.type_inv first.change-c0.ensures in
+    let z1 = back second.change-c1.result _ second.change-c1.type_inv second.change-c1.ensures in
+    let z2 = back third.change-c2.result _ third.change-c2.type_inv third.change-c2.ensures in
+    let z3 = back c.change-c3.result _ c.change-c3.type_inv c.change-c3.ensures in
     rw (
       z0,
       z1,
       z2,
       z3,
-      first.before.before.gain.ensures.0,
+      first.before.before.gain-got.ensures.0,
       first.before.pays.ensures.0,
-      second.before.pays2.ensures.0,
-      third.before.pays3.ensures.0,
-      c.before.pays4.ensures.0,
+      second.before.pays-2.ensures.0,
+      third.before.pays-3.ensures.0,
+      c.before.pays-4.ensures.0,
     )
 
 pub changes_spec : {M : Type 1} → statement M

@@ -12,11 +12,11 @@ ordinary_spec =
     tie.close
     (tie.spec
     (λ c κs. search rules)
-    (λ c. (rw (le-leb 5 _ c.before.if1.true) c.limit.ensures.0, c.limit.ensures.1))
+    (λ c. (rw (le-leb 5 _ c.before.if-n-ge5.true) c.limit.ensures.0, c.limit.ensures.1))
     (λ c κs. search rules) (λ c κs. search rules)
     (λ c.
     let plain = c.before.before in (
-      rw (lt-leb 5 _ plain.before.if1.false, ← plain.plain.ensures, lt-ltb _ _ c.before.if2.true) c.limit2.ensures.0,
-      c.limit2.ensures.1,
+      rw (lt-leb 5 _ plain.before.if-n-ge5.false, ← plain.plain-a.ensures, lt-ltb _ _ c.before.if-a-gt2000.true) c.limit-then-a-gt2000.ensures.0,
+      c.limit-then-a-gt2000.ensures.1,
     ))
-    (λ c. (rw (lt-leb 5 _ c.before.before.if1.false, ← c.before.plain.ensures, le-ltb _ _ c.if2.false), omega arith)))
+    (λ c. (rw (lt-leb 5 _ c.before.before.if-n-ge5.false, ← c.before.plain-a.ensures, le-ltb _ _ c.if-a-gt2000.false), omega arith)))

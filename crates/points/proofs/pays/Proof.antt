@@ -11,6 +11,6 @@ unfolding pays
 pays_spec =
     tie.close
     (tie.spec
-    (λ c κs. search rules) (λ c. omega (arith, mul-le-mul c.times-a.ensures.1 c.before.requires))
-    (λ c κs. mul-le-mul c.times-a.ensures.1 c.before.requires)
-    (λ c. (rw (← c.before.times-a.ensures.0) c.hundreds.ensures.0, c.hundreds.ensures.1)))
+    (λ c κs. search rules) (λ c. omega (arith, mul-le-mul c.times_a.ensures.1 c.before.requires))
+    (λ c κs. mul-le-mul c.times_a.ensures.1 c.before.requires)
+    (λ c. (rw (← c.before.times_a.ensures.0) c.hundreds.ensures.0, c.hundreds.ensures.1)))

@@ -12,4 +12,4 @@ plain_spec =
     tie.close
     (tie.spec
     (λ c κs. search rules) (λ c κs. search rules) (λ c. search rules) (λ c. search rules)
-    (λ c. rw (← c.before.wide-han.ensures, ← c.wide-fu.ensures.0) (shl_exact 8 _ 32 c.wide-fu.ensures.1 (omega arith))))
+    (λ c. rw (← c.before.wide_han-n.ensures, ← c.wide_fu.ensures.0) (shl_exact 8 _ 32 c.wide_fu.ensures.1 (omega arith))))

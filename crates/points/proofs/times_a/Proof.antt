@@ -10,13 +10,13 @@ unfolding times_a
 times_a_spec =
     tie.close
     (tie.spec
-    (λ c. (rw (eq-eqb _ _ c.if1.true), search rules))
+    (λ c. (rw (eq-eqb _ _ c.if-winner-seat.true), search rules))
     (λ c.
     let then2 = c.before.before in
-    (rw (ne_eqb _ _ then2.before.if1.false, then2.if2.true, eq-eqb _ _ c.before.if3.true, eq-eqb _ _ c.if4.true), search rules))
+    (rw (ne_eqb _ _ then2.before.if-winner-seat.false, then2.if-ron.true, eq-eqb _ _ c.before.if-discarder-seat.true, eq-eqb _ _ c.if-winner-dealer.true), search rules))
     (λ c.
     let then2 = c.before.before in
-    (rw (ne_eqb _ _ then2.before.if1.false, then2.if2.true, eq-eqb _ _ c.before.if3.true, ne_eqb _ _ c.if4.false), search rules))
-    (λ c. (rw (ne_eqb _ _ c.before.before.if1.false, c.before.if2.true, ne_eqb _ _ c.if3.false), search rules))
-    (λ c. (rw (ne_eqb _ _ c.before.before.if1.false, c.before.if2.false, c.if5.true), search rules))
-    (λ c. (rw (ne_eqb _ _ c.before.before.if1.false, c.before.if2.false, c.if5.false), search rules)))
+    (rw (ne_eqb _ _ then2.before.if-winner-seat.false, then2.if-ron.true, eq-eqb _ _ c.before.if-discarder-seat.true, ne_eqb _ _ c.if-winner-dealer.false), search rules))
+    (λ c. (rw (ne_eqb _ _ c.before.before.if-winner-seat.false, c.before.if-ron.true, ne_eqb _ _ c.if-discarder-seat.false), search rules))
+    (λ c. (rw (ne_eqb _ _ c.before.before.if-winner-seat.false, c.before.if-ron.false, c.if-winner-dealer-2.true), search rules))
+    (λ c. (rw (ne_eqb _ _ c.before.before.if-winner-seat.false, c.before.if-ron.false, c.if-winner-dealer-2.false), search rules)))
