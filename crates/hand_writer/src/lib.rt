@@ -1,5 +1,6 @@
 // Write: a hand as its record (01, Tiles and the hand record). It takes all input.
 #![tactic(auto)]
+
 ghost use Rattle.std.specs.Prelude.{◌≡◌, ◌+◌, ◌*◌, ◌-◌, ◌≤◌, length};
 ghost use Rattle.bits.specs.Bits.{pack, fill};
 ghost use Rattle.hand_record.specs.Record.{held_widths, widths, held_values, values_of, written_of, buffer_of};
