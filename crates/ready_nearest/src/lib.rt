@@ -1,6 +1,7 @@
 // How far a tally is from ready: the complete hand that keeps most of its tiles, with one tile less. It is found kind by kind: a table of 35 rows
 // of 80 states has the most that can be kept from each state on, one row for each kind and one after the last.
 #![tactic(auto)]
+
 ghost use Rattle.std.specs.Prelude.{◌≡◌, true, ℕ, ◌+◌, ◌*◌, ◌<◌, ◌≤◌, max, length, get_or};
 ghost use Rattle.tiles.specs.Below.{sum_below};
 ghost use Rattle.ready_choices.specs.search.Tallies.{HandTally, MeldsTally, NearestTally};

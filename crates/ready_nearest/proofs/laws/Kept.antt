@@ -5,7 +5,7 @@ use Rattle.std.proofs.lemmas.Bool.{false≢true, lt-leb, eqb-false}
 use Rattle.tiles.specs.Kinds.{is_run_start}
 use Rattle.ready_choices.specs.declared.Begun.{Begun}
 use Rattle.ready_choices.specs.declared.Move.{Move}
-use Rattle.ready_choices.specs.search.Moves.{x_of, y_of, z_of, choices, live, may, most, kept, worth}
+use Rattle.ready_choices.specs.search.Moves.{x_of, y_of, z_of, choices, live, most, kept, worth}
 use Rattle.ready_choices.specs.search.Made.{Parted, takes, Makes, value_of}
 use Rattle.ready_choices.proofs.laws.Most.{most_more}
 use Rattle.ready_choices.proofs.laws.State.{state_read}
