@@ -1,4 +1,5 @@
-"""What stands in the tree, for the tools beside this file: the items of crates/*/specs, of crates/*/proofs/Claims.antt, SearchClaims.antt and laws/ (.antt),
+"""What stands in the tree, for the tools beside this file: the items of crates/*/specs, of crates/*/proofs/Claims.antt, ExactlyOne.antt, SearchClaims.antt and laws/
+(.antt),
 those of crates/*/src (.rt), and the must-fail edits.
 
 An .antt item is a head ([abbrev|unfoldable] [pub] [record|data] NAME .. : ..), its deeper-indented lines, and the equations that begin with
@@ -75,7 +76,7 @@ def add_import(file, statement):
 
 def antt_file(crate, path, text):
     """The items of an .antt file."""
-    part = "laws" if "/proofs/laws/" in path else "search" if "/specs/search/" in path or path.endswith("/proofs/SearchClaims.antt") else "specs"
+    part = "laws" if "/laws/" in path else "search" if "/specs/search/" in path or path.endswith("/proofs/SearchClaims.antt") else "specs"
     file = File(crate, path, part)
     lines = text.split("\n")
     modules, item, body, comments, statement = [], None, False, 0, ""
@@ -185,7 +186,7 @@ class Tree:
         self.root = os.path.join(root, "crates")
         self.files = {}
         for crate in self.crates:
-            for pattern in ("specs/**/*.antt", "proofs/Claims.antt", "proofs/SearchClaims.antt", "proofs/laws/**/*.antt"):
+            for pattern in ("specs/**/*.antt", "proofs/Claims.antt", "proofs/ExactlyOne.antt", "proofs/SearchClaims.antt", "proofs/laws/**/*.antt"):
                 for path in self.paths(crate, pattern):
                     if os.path.basename(path) not in INDEX:
                         self.files[path] = antt_file(crate, path, read(os.path.join(self.root, path)))

@@ -1,17 +1,12 @@
--- Judge: for every record, claim, dealer and round wind there is exactly one answer that S-13 names.
+-- Judge: the one answer that S-13 names for a record, claim, dealer and round wind (`ExactlyOne`: there is one, and every answer is that one).
 use Rattle.std.specs.Prelude.{List, ◌≡◌, ℕ}
-use Rattle.tiles.specs.One.{ExactlyOne}
 use Rattle.claim.specs.declared.Judged.{Judged}
-use Rattle.claim.specs.IsJudged.{judged_as, IsJudged}
-use Rattle.claim.proofs.laws.Exact as laws
-
--- there is an answer, and every answer is that one
-pub exactly_one_answer : (s claim : List ℕ) (dealer wind : ℕ) → ExactlyOne (IsJudged s claim dealer wind)
-exactly_one_answer = laws.exactly_one
+use Rattle.claim.specs.IsJudged.{judged_as}
+use Rattle.claim.specs.search.Judge.{found_of}
 
 -- what they are answered: that one
 unfoldable pub judged_of : List ℕ → List ℕ → ℕ → ℕ → Judged
-judged_of s claim dealer wind = (exactly_one_answer s claim dealer wind).0
+judged_of s claim dealer wind = found_of s claim dealer wind
 
 -- the claim is not refused, and its verdict is v
 abbrev pub HasVerdict : List ℕ → List ℕ → ℕ → ℕ → ℕ → Type 0

@@ -1,30 +1,13 @@
--- Write claim: for every claim and buffer there is exactly one answer, and one buffer that is left.
-use Rattle.std.specs.Prelude.{List, ◌≡◌, ℕ}
+-- Write claim: the one answer for a claim and a buffer, and the one buffer that is left (`ExactlyOne`: there is one, and every other is that one).
+use Rattle.std.specs.Prelude.{List, ℕ}
 use Rattle.hand_record.specs.declared.Written.{Written}
 use Rattle.claim_writer.specs.declared.Claim.{Claim}
-use Rattle.claim_writer.specs.Writes.{Writes}
-use Rattle.claim_writer.proofs.laws.Exact as laws
-
--- there is an answer with what is left, and every other is that one
-pub exactly_one_answer : (c : Claim) (buf : List ℕ)
-    → (w : Written) × (out : List ℕ) × Writes c buf w out × ((v : Written) (l : List ℕ) → Writes c buf v l → (v ≡ w) × (l ≡ out))
-exactly_one_answer = laws.exactly_one
+use Rattle.claim_writer.specs.search.Bytes.{found_written, found_buffer}
 
 -- that answer
 unfoldable pub written_of : Claim → List ℕ → Written
-written_of c buf = (exactly_one_answer c buf).0
+written_of c buf = found_written c buf
 
 -- that buffer
 unfoldable pub buffer_of : Claim → List ℕ → List ℕ
-buffer_of c buf = (exactly_one_answer c buf).1
-
-module _ (c : Claim) (buf : List ℕ) where
-  -- `Writes` says so of them
-  pub is_written : Writes c buf (written_of c buf) (buffer_of c buf)
-  unfolding written_of buffer_of
-  is_written = (exactly_one_answer c buf).2
-
-  -- and of no other answer or buffer
-  pub one_answer : (v : Written) (l : List ℕ) → Writes c buf v l → (v ≡ written_of c buf) × (l ≡ buffer_of c buf)
-  unfolding written_of buffer_of
-  one_answer = (exactly_one_answer c buf).3
+buffer_of c buf = found_buffer c buf

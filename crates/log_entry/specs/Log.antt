@@ -1,16 +1,12 @@
--- Next entry (01, Log): for every log and offset there is exactly one thing that it gives; and the entries that a walk finds, one after the other.
+-- Next entry (01, Log): the one thing that it gives for a log and an offset (`ExactlyOne`: there is one, and every other is that one); and the entries that
+-- a walk finds, one after the other.
 use Rattle.std.specs.Prelude.{List, [], ◌∷◌, ◌++◌, ℕ, zero, suc, length, drop}
-use Rattle.tiles.specs.One.{ExactlyOne}
-use Rattle.log_entry.specs.Next.{LogEntry, Next, end, entry, bad, IsNext}
-use Rattle.log_entry.proofs.laws.Exact as laws
-
--- there is one, and every other is that one: so at most one prefix of bytes is an entry
-pub exactly_one : (log : List ℕ) (at : ℕ) → ExactlyOne (IsNext log at)
-exactly_one = laws.exactly_one
+use Rattle.log_entry.specs.Next.{LogEntry, Next, end, entry, bad}
+use Rattle.log_entry.specs.search.Found.{found_at}
 
 -- what Next entry gives: that one
 unfoldable pub next_of : List ℕ → ℕ → Next
-next_of log at = (exactly_one log at).0
+next_of log at = found_at log at
 
 -- the part: "an empty part" at 14 and at the end
 abbrev pub part_in : Next → List ℕ

@@ -1,4 +1,2 @@
 -- Claims  the theorem that 0 means ready
--- laws    from tiles held to tallies and back; a reader of the meaning needs neither search nor laws
-pub mod laws
 pub mod Claims

@@ -4,7 +4,7 @@ use Rattle.hand.specs.declared.Held.{Held}
 use Rattle.unfinished.specs.Unfinished.{held_of, refusal_of}
 use Rattle.ready.specs.declared.Ready.{Ready}
 use Rattle.ready.specs.Ready.{IsNearest, IsAnswer}
-use Rattle.ready.proofs.laws.Claims as laws
+use Rattle.ready.specs.laws.Claims as laws
 
 -- there is an answer, and every answer has its refusal and its number
 pub exactly_one : (s : List ℕ) → (a : Ready) × IsAnswer s a × ((b : Ready) → IsAnswer s b → (b.refusal ≡ a.refusal) × (b.swaps ≡ a.swaps))

@@ -1,14 +1,8 @@
--- For every record, dealer, round wind and number there is exactly one answer.
+-- The one answer for a record, dealer, round wind and number (`ExactlyOne`: there is one, and every answer is that one).
 use Rattle.std.specs.Prelude.{List, ℕ}
-use Rattle.tiles.specs.One.{ExactlyOne}
 use Rattle.score_readings.specs.declared.NthReading.{NthReading}
-use Rattle.score_readings.specs.IsNth.{IsNth}
-use Rattle.score_readings.proofs.laws.Exact as laws
-
--- there is an answer, and every answer is that one
-pub exactly_one : (s : List ℕ) (dealer wind n : ℕ) → ExactlyOne (IsNth s dealer wind n)
-exactly_one = laws.exactly_one
+use Rattle.score_readings.specs.search.Found.{found_of}
 
 -- that one answer
 unfoldable pub nth_of : List ℕ → ℕ → ℕ → ℕ → NthReading
-nth_of s dealer wind n = (exactly_one s dealer wind n).0
+nth_of s dealer wind n = found_of s dealer wind n

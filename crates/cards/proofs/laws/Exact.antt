@@ -76,7 +76,7 @@ no_card suit size h (x ∷ l) c = go c.suited
     go : Each (λ k. in_suit suit k ≡ true) (x ∷ l) → ⊥
     go (each p r) = omega (arith, suit_in suit x p)
 
-card_list_none : (suit size : ℕ) → 2 < suit → IsCardList suit size []
+pub card_list_none : (suit size : ℕ) → 2 < suit → IsCardList suit size []
 card_list_none suit size h = record { order = ended; every = λ l c. absurd (no_card suit size h l c); only = λ l m. absurd (Memᴰ.not-nil m) }
 
 -- ---- two lists in ascending order with the same elements are one list

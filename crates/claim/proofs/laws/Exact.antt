@@ -130,5 +130,5 @@ module _ (s claim : List ℕ) (dealer wind : ℕ) where
   only (passed x v) (faulty c w z k) = absurd (k _ _ x.names)
   only (passed x v) (passed y w) = ap judged_as (same_verdict x v y w)
 
-  pub exactly_one : (a : Judged) × IsJudged s claim dealer wind a × ((b : Judged) → IsJudged s claim dealer wind b → b ≡ a)
+  abbrev pub exactly_one : (a : Judged) × IsJudged s claim dealer wind a × ((b : Judged) → IsJudged s claim dealer wind b → b ≡ a)
   exactly_one = (found_of s claim dealer wind, found_is, λ b i. only i found_is)

@@ -35,8 +35,9 @@ use Rattle.claim.proofs.laws.Exact.{one_claim}
 use Rattle.claim.proofs.laws.Judged.{gain_fits}
 use Rattle.claim_writer.specs.declared.Claim.{Claim}
 use Rattle.claim_writer.specs.Writes.{reading_of, claim_of, IsClaimOf, Writes, unnamed, short, written, refused_with}
-use Rattle.claim_writer.specs.Write.{written_of, buffer_of, is_written}
-use Rattle.claim_writer.specs.Write as Write
+use Rattle.claim_writer.specs.Write.{written_of, buffer_of}
+use Rattle.claim_writer.proofs.ExactlyOne.{is_written}
+use Rattle.claim_writer.proofs.ExactlyOne as Write
 use Rattle.claim_writer.specs.search.Bytes.{bytes_for}
 use Rattle.claim_writer.proofs.laws.Named.{formed_passes, made}
 

@@ -53,5 +53,5 @@ module _ (c : Claim) (buf : List ℕ) where
       let e = only_one c s t i j in
       (ap (λ (x : List ℕ). record { refusal = 0; len = length x }) e, ap (λ (x : List ℕ). x ++ drop (length x) buf) e)
 
-  pub exactly_one : (w : Written) × (out : List ℕ) × Writes c buf w out × ((v : Written) (l : List ℕ) → Writes c buf v l → (v ≡ w) × (l ≡ out))
+  abbrev pub exactly_one : (w : Written) × (out : List ℕ) × Writes c buf w out × ((v : Written) (l : List ℕ) → Writes c buf v l → (v ≡ w) × (l ≡ out))
   exactly_one = (found_written c buf, found_buffer c buf, found_is, λ v l i. only i found_is)

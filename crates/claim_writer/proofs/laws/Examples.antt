@@ -5,7 +5,8 @@ use Rattle.tiles.specs.Groups.{is_group}
 use Rattle.hand_record.specs.declared.Written.{Written}
 use Rattle.claim_writer.specs.declared.Claim.{Claim}
 use Rattle.claim_writer.specs.Writes.{refused_with}
-use Rattle.claim_writer.specs.Write.{written_of, buffer_of, one_answer}
+use Rattle.claim_writer.specs.Write.{written_of, buffer_of}
+use Rattle.claim_writer.proofs.ExactlyOne.{one_answer}
 use Rattle.claim_writer.specs.search.Bytes.{ordered, is_nameable, packed, length_for, bytes_for, found_written, found_buffer}
 use Rattle.claim_writer.proofs.laws.Exact.{found_is}
 

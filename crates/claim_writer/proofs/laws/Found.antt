@@ -15,7 +15,8 @@ use Rattle.hand_record.specs.declared.Written.{Written}
 use Rattle.claim.proofs.laws.Claimed.{widths, sum_widths, sizes}
 use Rattle.claim_writer.specs.declared.Claim.{Claim}
 use Rattle.claim_writer.specs.Writes.{refused_with, Writes}
-use Rattle.claim_writer.specs.Write.{written_of, buffer_of, one_answer}
+use Rattle.claim_writer.specs.Write.{written_of, buffer_of}
+use Rattle.claim_writer.proofs.ExactlyOne.{one_answer}
 use Rattle.claim_writer.specs.search.Bytes.{in_order, ordered, is_nameable, regular_values, other_values, widths_for, values_for, packed, length_for, bytes_for}
 use Rattle.claim_writer.proofs.laws.Bits.{in_parts}
 use Rattle.claim_writer.proofs.laws.Named.{ordered_four, parts, long_0, bytes_long}

@@ -8,6 +8,7 @@ use Rattle.hand_record.specs.Record.{length_of, write_refusal, written_of}
 use Rattle.claim_writer.specs.declared.Claim.{Claim}
 use Rattle.claim_writer.specs.Writes.{Writes, unnamed, short, written}
 use Rattle.claim_writer.specs.Write as claims
+use Rattle.claim_writer.proofs.ExactlyOne.{is_written}
 use Rattle.text.specs.Text.{length_in}
 use Rattle.log_entry.specs.Next.{Next, end, entry, bad}
 use Rattle.log_entry.specs.Log.{next_of, part_in, part_at}
@@ -47,7 +48,7 @@ claim_fits c buf (short s i h) = omega arith
 claim_fits c buf (written s i h) = h
 
 pub claim_within : (c : Claim) (buf : List ℕ) → (claims.written_of c buf).len ≤ length buf
-claim_within c buf = claim_fits c buf (claims.is_written c buf)
+claim_within c buf = claim_fits c buf (is_written c buf)
 
 entry_length_lem : (n : Next) → (next_entry_by n).length ≡ length (part_in n)
 entry_length_lem end = refl

@@ -214,5 +214,5 @@ module _ (log : List ℕ) (at : ℕ) where
       ∙ ap (λ (q : List ℕ). entry (record { part = q; entry = entry_of q })) p
       ∙ ap (λ (e : Game.Entry). entry (record { part = x.part; entry = e })) (entry_is s.0))
 
-pub exactly_one : (log : List ℕ) (at : ℕ) → (n : Next) × IsNext log at n × ((m : Next) → IsNext log at m → m ≡ n)
+abbrev pub exactly_one : (log : List ℕ) (at : ℕ) → (n : Next) × IsNext log at n × ((m : Next) → IsNext log at m → m ≡ n)
 exactly_one log at = (found_at log at, found_is log at, only_found log at)

@@ -1,7 +1,8 @@
 -- What Next entry gives is an answer, and the only one.
 use Rattle.std.specs.Prelude.{◌≡◌, List, ℕ}
 use Rattle.log_entry.specs.Next.{Next, IsNext}
-use Rattle.log_entry.specs.Log.{exactly_one, next_of}
+use Rattle.log_entry.specs.Log.{next_of}
+use Rattle.log_entry.proofs.laws.Exact.{exactly_one}
 
 module _ (log : List ℕ) (at : ℕ) where
   pub is_next : IsNext log at (next_of log at)

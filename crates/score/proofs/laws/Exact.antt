@@ -56,7 +56,7 @@ module _ (s : List ℕ) (dealer wind : ℕ) where
   only (read d w f e m) (unreadable c v n q) = not_both n f q e
   only (read d w f e m) (read c v g q k) = only_one (hand_of (read_of s)) dealer wind m k
 
-  pub exactly_one : (a : Scored) × IsScore s dealer wind a × ((b : Scored) → IsScore s dealer wind b → b ≡ a)
+  abbrev pub exactly_one : (a : Scored) × IsScore s dealer wind a × ((b : Scored) → IsScore s dealer wind b → b ≡ a)
   exactly_one = (found_of s dealer wind, found_is, λ b i. only i found_is)
 
   pub found_score : {x : Scored} → x ≡ found_of s dealer wind → IsScore s dealer wind x

@@ -2,7 +2,8 @@
 use Rattle.std.specs.Prelude.{List, ◌≡◌, ℕ}
 use Rattle.score.specs.declared.Scored.{Scored}
 use Rattle.score.specs.IsScore.{IsScore}
-use Rattle.score.specs.Score.{exactly_one, score_of}
+use Rattle.score.specs.Score.{score_of}
+use Rattle.score.proofs.laws.Exact.{exactly_one}
 
 module _ (s : List ℕ) (dealer wind : ℕ) where
   -- it is an answer

@@ -102,7 +102,7 @@ module _ (s : List ℕ) (dealer wind n : ℕ) where
   only (shown d w f e a l b i) (no_such d' w' g q z) = outside z a l
   only (shown d w f e a l b i) (shown d' w' g q a' l' c j) = ap (shown_as h dealer wind r) (bool_same b c i j)
 
-  pub exactly_one : (a : NthReading) × IsNth s dealer wind n a × ((b : NthReading) → IsNth s dealer wind n b → b ≡ a)
+  abbrev pub exactly_one : (a : NthReading) × IsNth s dealer wind n a × ((b : NthReading) → IsNth s dealer wind n b → b ≡ a)
   exactly_one = (found_of s dealer wind n, found_is, λ b i. only i found_is)
 
   pub found_nth : {x : NthReading} → x ≡ found_of s dealer wind n → IsNth s dealer wind n x

@@ -2,7 +2,8 @@
 use Rattle.std.specs.Prelude.{List, ◌≡◌, ℕ}
 use Rattle.score_readings.specs.declared.NthReading.{NthReading}
 use Rattle.score_readings.specs.IsNth.{IsNth}
-use Rattle.score_readings.specs.NthOf.{exactly_one, nth_of}
+use Rattle.score_readings.specs.NthOf.{nth_of}
+use Rattle.score_readings.proofs.laws.Exact.{exactly_one}
 
 module _ (s : List ℕ) (dealer wind n : ℕ) where
   -- it is an answer

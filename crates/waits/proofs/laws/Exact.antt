@@ -63,7 +63,7 @@ module _ (s d : List ℕ) where
       let ef : f ≡ h = both_ways f h (λ x. j.1 (g.0 x)) (λ x. g.1 (j.0 x)) in
       ap (λ (u : List Bool). record { refusal = 0; waits = u; furiten = f }) ew ∙ ap (λ (b : Bool). record { refusal = 0; waits = v; furiten = b }) ef
 
-pub exactly_one : (s d : List ℕ) → (a : Waits) × IsWaits s d a × ((b : Waits) → IsWaits s d b → b ≡ a)
+abbrev pub exactly_one : (s d : List ℕ) → (a : Waits) × IsWaits s d a × ((b : Waits) → IsWaits s d b → b ≡ a)
 exactly_one s d = (found_of s d, found s d, λ b h. only s d h (found s d))
 
 -- ---- what the call's parts give: u is what the reader gave

@@ -2,7 +2,8 @@
 use Rattle.std.specs.Prelude.{List, ◌≡◌, ℕ}
 use Rattle.waits.specs.declared.Waits.{Waits}
 use Rattle.waits.specs.Waits.{IsWaits}
-use Rattle.waits.specs.Answer.{exactly_one, waits_of}
+use Rattle.waits.specs.Answer.{waits_of}
+use Rattle.waits.proofs.laws.Exact.{exactly_one}
 
 module _ (s discards : List ℕ) where
   -- it is an answer

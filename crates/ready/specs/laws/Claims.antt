@@ -13,10 +13,10 @@ use Rattle.ready_nearest.proofs.laws.Attained.{nearest_exists}
 use Rattle.ready.specs.declared.Ready.{Ready}
 use Rattle.ready.specs.Ready.{SameMelds, IsReady, IsNearest, swaps, IsAnswer, unreadable, nearest}
 use Rattle.ready.specs.search.Written.{same_melds_with}
-use Rattle.ready.proofs.laws.Written.{written_exists}
-use Rattle.ready.proofs.laws.Tallies.{tally_cong, same_melds, wait_tally, tally_wait, melds_tally, hand_tally_lem}
-use Rattle.ready.proofs.laws.Nearest.{nearest_written}
-use Rattle.ready.proofs.laws.Answer.{same_melds_self}
+use Rattle.ready.specs.laws.Written.{written_exists}
+use Rattle.ready.specs.laws.Tallies.{tally_cong, same_melds, wait_tally, tally_wait, melds_tally, hand_tally_lem}
+use Rattle.ready.specs.laws.Nearest.{nearest_written}
+use Rattle.ready.specs.laws.Answer.{same_melds_self}
 
 -- ---- there is one
 
