@@ -23,7 +23,8 @@ KINDS = {"definition": "definitions", "type": "definitions", "theorem": "stateme
 BESIDE = ("speech_", "score_readings", "claim_writer", "unfinished_writer")  # what is said, every reading, writers: no document of the two asks for them
 CALLS = ("hb_say", "hb_reading", "hb_write_claim", "hb_write_unfinished", "hb_unfinished", "claim_within", "unfinished_within", "record_within")  # their calls, and what is said of these
 # definitions of the one answer that a theorem of an ExactlyOne.antt names: its relation says what it is, and the search that gives it is not followed
-ONE_ANSWER = ("score_of", "nth_of", "judged_of", "waits_of", "written_of", "buffer_of", "cards_of", "next_of")
+ONE_ANSWER = {("score", "score_of"), ("score_readings", "nth_of"), ("claim", "judged_of"), ("waits", "waits_of"), ("claim_writer", "written_of"),
+              ("claim_writer", "buffer_of"), ("cards", "cards_of"), ("log_entry", "next_of")}
 COLUMNS = ("definitions", "statements", "contracts", "structs")
 
 
@@ -44,7 +45,7 @@ class Count:
                 continue
             self.reached[id(item)] = item
             for other in t.uses(item):
-                if item.name in ONE_ANSWER:
+                if (item.file.crate, item.name) in ONE_ANSWER:
                     continue
                 if other.file.part in ("laws", "search"):
                     self.through.setdefault(id(other), (other, item))
@@ -86,7 +87,7 @@ class Count:
         for f in self.tree.files.values():
             names = [name for name, (module, _) in f.imports.items() if ".specs.search." in module]
             names += [name for name, module in f.aliases.items() if ".specs.search." in module]
-            if f.part == "specs" and names and not any(i.name in ONE_ANSWER for i in f.items):
+            if f.part == "specs" and names and not any((f.crate, i.name) in ONE_ANSWER for i in f.items):
                 yield f"{f.path}: {', '.join(names)}"
 
     def citers(self, item):
