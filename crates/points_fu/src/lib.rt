@@ -1,5 +1,6 @@
 // Fu, item by item, and their sum.
 #![tactic(auto)]
+
 ghost use Rattle.std.specs.Prelude.{◌≡◌, cond, ◌≤◌};
 ghost use Rattle.yaku_basics.specs.search.Ways.{ways_at};
 ghost use Rattle.yaku.specs.search.Common.{group_tests_of, place_tests_of};

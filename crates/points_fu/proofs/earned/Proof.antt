@@ -28,10 +28,10 @@ returns c =
     let at_pair = at-wait.before in
     let at-ron = at_pair.before in
     let start = at-ron.before.before in
-    let ron = at-ron.fu-if.ensures in
-    let pair = at_pair.fu-if2.ensures in
-    let wait = at-wait.fu-if3.ensures in
-    let tsumo = c.fu-if4.ensures in (
+    let ron = at-ron.fu_if-ron.ensures in
+    let pair = at_pair.fu_if-pair.ensures in
+    let wait = at-wait.fu_if-wait.ensures in
+    let tsumo = c.fu_if-tsumo.ensures in (
       rw (
         ron.0,
         pair.0,

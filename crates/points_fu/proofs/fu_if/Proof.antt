@@ -5,4 +5,4 @@ use Rattle.points_fu.proofs.fu_if.Statement.{statement}
 use Rattle.points_fu.proofs.fu_if.Tie as tie
 
 pub fu_if_spec : {M : Type 1} → statement M
-fu_if_spec = tie.close (tie.spec (λ c. (rw c.if1.true, search rules)) (λ c. (rw c.if1.false, search rules)))
+fu_if_spec = tie.close (tie.spec (λ c. (rw c.if-b.true, search rules)) (λ c. (rw c.if-b.false, search rules)))

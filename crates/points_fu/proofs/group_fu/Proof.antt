@@ -11,18 +11,18 @@ unfolding group_fu
 group_fu_spec =
     tie.close
     (tie.spec
-    (λ c. (rw (lt-leb 34 _ c.if1.true), search rules)) (λ c κs. search rules) (λ c κs. search rules)
+    (λ c. (rw (lt-leb 34 _ c.if-c-lt34.true), search rules)) (λ c κs. search rules) (λ c κs. search rules)
     (λ c. search rules)
     (λ c.
     let yaochu = c.before.before in
     let then2 = yaochu.before in
     let t = then2.before in (
       rw (
-        le-leb 34 _ t.before.if1.false,
-        lt-ltb _ _ then2.if2.true,
-        ← yaochu.is-yaochu.ensures,
-        c.before.if3.true,
-        ← t.triplet-fu.ensures.0,
+        le-leb 34 _ t.before.if-c-lt34.false,
+        lt-ltb _ _ then2.if-c-lt68.true,
+        ← yaochu.is_yaochu.ensures,
+        c.before.if-is_yaochu.true,
+        ← t.triplet_fu-n.ensures.0,
       ),
       omega arith,
     ))
@@ -30,12 +30,12 @@ group_fu_spec =
     let then2 = c.before.before in
     let t = then2.before in (
       rw (
-        le-leb 34 _ t.before.if1.false,
-        lt-ltb _ _ then2.if2.true,
-        ← c.before.is-yaochu.ensures,
-        c.if3.false,
-        ← t.triplet-fu.ensures.0,
+        le-leb 34 _ t.before.if-c-lt34.false,
+        lt-ltb _ _ then2.if-c-lt68.true,
+        ← c.before.is_yaochu.ensures,
+        c.if-is_yaochu.false,
+        ← t.triplet_fu-n.ensures.0,
       ),
       omega arith,
     ))
-    (λ c. (rw (le-leb 34 _ c.before.before.if1.false, le-ltb _ _ c.if2.false), search rules)))
+    (λ c. (rw (le-leb 34 _ c.before.before.if-c-lt34.false, le-ltb _ _ c.if-c-lt68.false), search rules)))

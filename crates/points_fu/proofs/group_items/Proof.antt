@@ -13,4 +13,4 @@ group_items_spec =
     (λ c. search rules) (λ c. search rules) (λ c κs. search rules) (λ c. search rules) (λ c. search rules) (λ c κs. search rules)
     (λ c.
     let second = c.before.before in
-    rw (second.before.group-fu.ensures.0, second.group-fu2.ensures.0, c.before.group-fu3.ensures.0, c.group-fu4.ensures.0)))
+    rw (second.before.group_fu.ensures.0, second.group_fu-2.ensures.0, c.before.group_fu-3.ensures.0, c.group_fu-4.ensures.0)))

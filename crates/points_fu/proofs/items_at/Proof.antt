@@ -26,12 +26,12 @@ by_ron all g ways ron place x ea l few e ex = rw (ea, ex) (items_ron g ways l ro
 pub items_at_spec : {M : Type 1} → statement M
 items_at_spec =
     tie.close
-    (tie.spec (λ c. group_placed c.before.args.ron c.before.args.place c.if1.true)
+    (tie.spec (λ c. group_placed c.before.args.ron c.before.args.place c.if-ron-place.true)
     (λ c. search rules) (λ c. search rules) (λ c κs. search rules) (λ c. search rules)
     (λ c.
     let s = c.before.before in
-    by_ron s.args.all s.args.t2 s.args.ways s.args.ron s.args.place c.group-fu.result
-    s.requires.0 (long s) s.requires.1 c.before.if1.true c.group-fu.ensures.0)
+    by_ron s.args.all s.args.g s.args.ways s.args.ron s.args.place c.group_fu.result
+    s.requires.0 (long s) s.requires.1 c.before.if-ron-place.true c.group_fu.ensures.0)
     (λ c.
     let s = c.before in
-    s.requires.0 ∙ ap (items_by s.args.t2) (sym (ways_same s.args.ways s.args.ron s.args.place c.if1.false))))
+    s.requires.0 ∙ ap (items_by s.args.g) (sym (ways_same s.args.ways s.args.ron s.args.place c.if-ron-place.false))))

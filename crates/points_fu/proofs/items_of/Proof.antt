@@ -30,7 +30,7 @@ within i n r e h l = omega arith
 listed : (c : tie.Start) → c.args.q.yakuman ≡ yakuman c.args.w c.args.p
 listed c = yakuman_placed c.args.w c.args.p c.args.q c.requires.1.0
 
-returns_3 : tie.Need-returns-3
+returns_3 : tie.Need-returns
 unfolding items_of earned
 returns_3 c =
     let at-rounded = c.before.before in
@@ -41,13 +41,13 @@ returns_3 c =
       rw (
         regular_rounded start.args.w start.args.p,
         ← listed start,
-        else2.before.if1.false,
-        ne_eqb _ _ else2.if2.false,
-        at-rounded.rounded.ensures.0,
-        at_Added.added.ensures,
-        at-earned.earned.ensures.0,
+        else2.before.if-q.false,
+        ne_eqb _ _ else2.if-shape-eq1.false,
+        at-rounded.rounded-r.ensures.0,
+        at_Added.added-n.ensures,
+        at-earned.earned-i.ensures.0,
       ),
-      within _ _ _ at_Added.added.ensures at-rounded.rounded.ensures.1.0 at-rounded.rounded.ensures.1.1,
+      within _ _ _ at_Added.added-n.ensures at-rounded.rounded-r.ensures.1.0 at-rounded.rounded-r.ensures.1.1,
     )
 
 pub items_of_spec : {M : Type 1} → statement M
@@ -56,12 +56,12 @@ items_of_spec =
     tie.close
     (tie.spec
     (λ c κs. search rules)
-    (λ c. (rw (← listed c.before.before, c.before.if1.true) c.base-alone.ensures, rw c.base-alone.ensures (omega (arith, added_alone 0))))
+    (λ c. (rw (← listed c.before.before, c.before.if-q.true) c.base_alone.ensures, rw c.base_alone.ensures (omega (arith, added_alone 0))))
     (λ c κs. search rules)
     (λ c.
     let else1 = c.before.before in (
-      rw (← listed else1.before, else1.if1.false, eq-eqb _ _ c.before.if2.true) c.base-alone2.ensures,
-      rw c.base-alone2.ensures (omega (arith, added_alone 25)),
+      rw (← listed else1.before, else1.if-q.false, eq-eqb _ _ c.before.if-shape-eq1.true) c.base_alone-then-shape-eq1.ensures,
+      rw c.base_alone-then-shape-eq1.ensures (omega (arith, added_alone 25)),
     ))
     (λ c κs. search rules) (λ c κs. search rules) (λ c κs. search rules) (λ c. search rules)
     returns_3)

@@ -9,7 +9,6 @@ use Rattle.tiles.specs.Groups.{is_triplet}
 use Rattle.tiles.proofs.laws.Below.{and_true, cond_le}
 use Rattle.yaku_basics.proofs.laws.Ways.{four, ways_open, group_placed}
 use Rattle.yaku_basics.specs.search.Ways.{ways_at}
-use Rattle.units.specs.declared.Fu.{Fu}
 use Rattle.yaku_basics.specs.Tests.{is_value}
 use Rattle.yaku.specs.Yaku.{has_wait_fu, pinfu, yakuman}
 use Rattle.yaku.specs.declared.Won.{Won}
