@@ -1,6 +1,7 @@
 // Records that lie end to end (02, S-6): the hands that they are or the refusal of the first that does not read, whether the hands are rons on one tile,
 // and who wins first. Each record is read once.
 #![tactic(auto)]
+
 ghost use Rattle.std.specs.Prelude.{◌≡◌, List, map, ℕ, ◌≤◌, take};
 ghost use Rattle.hand_rons.specs.Records.{hand_for, records_of, first_unreadable, conflict, not_on_one_tile, is_winner, first_after, cut_of, IsFirst};
 

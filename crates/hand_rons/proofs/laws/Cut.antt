@@ -8,7 +8,6 @@ use Rattle.hand.specs.declared.Hand.{Hand}
 use Rattle.hand_record.specs.Record.{length_of, count_in, refusal_in, read_of}
 use Rattle.hand_record.specs.Lengths.{record_length}
 use Rattle.hand_record.proofs.laws.Lengths.{record_short, record_inside, whole_length, broken_unreadable, broken_left}
-use Rattle.hand_rons.specs.declared.First.{First}
 use Rattle.hand_rons.specs.Records.{hand_for, records_of, first_unreadable, cut_of, IsFirst}
 use Rattle.hand_rons.proofs.laws.OneTile.{Read}
 

@@ -1,5 +1,5 @@
 -- Records that read and are rons on one tile: a seat wins one at most, and the first winner is one.
-use Rattle.std.specs.Prelude.{◌≡◌, refl, Bool, true, false, not, ◌||◌, cond, List, [], ◌∷◌, ℕ, zero, suc, ◌+◌, ◌%◌, ◌≤◌, ◌<◌, ltb, eqb, length, take, drop}
+use Rattle.std.specs.Prelude.{◌≡◌, refl, Bool, true, false, not, ◌||◌, cond, List, [], ◌∷◌, ℕ, zero, suc, ◌+◌, ◌%◌, ◌≤◌, ◌<◌, ltb, eqb, length, drop}
 use Rattle.std.proofs.Common.{sym, ap, ◌∙◌, arith, ltb-true, ltb-false, eqb-true, eq-eqb}
 use Rattle.std.proofs.lemmas.Bool.{false≢true, eqb-false, not-false}
 use Rattle.tiles.proofs.laws.Below.{or_both}
@@ -9,7 +9,7 @@ use Rattle.hand_record.specs.declared.Answer.TheVariants.{Refused}
 use Rattle.hand_record.specs.declared.HandRead.{HandRead}
 use Rattle.hand_record.specs.Record.{length_of, count_in, refusal_in, read_of}
 use Rattle.hand_record.proofs.laws.Bounds.{answer_is, other_seat, read_bounds, refused_number}
-use Rattle.hand_rons.specs.Records.{hand_for, records_of, first_unreadable, conflict, conflicts, not_on_one_tile, is_winner, discarder_of, first_after}
+use Rattle.hand_rons.specs.Records.{hand_for, records_of, first_unreadable, conflict, conflicts, not_on_one_tile, is_winner, first_after}
 use Rattle.hand_rons.specs.Records.{first_winner}
 pub use Rattle.hand_rons.specs.search.Read.{Read, AllRead}
 
