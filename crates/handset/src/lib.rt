@@ -1,6 +1,7 @@
-// The public calls as the handset's firmware links them, with one prefix. They take all input. The bookings and the corrections are lent the game and update it
+// The public calls as firmware knows them, with one prefix; crate `handset_c` exports them to C. They take all input. The bookings and the corrections are lent the game and update it
 // there: each gives 0, or its refusal with the game as it was.
 #![tactic(auto)]
+
 ghost use Rattle.std.specs.Prelude.{◌≡◌, [], ◌++◌, ◌+◌, ◌≤◌, ◌<◌, length, take, drop, cond, ltb};
 ghost use Rattle.hand_record.specs.Record.{read_hand_of, written_of, buffer_of};
 ghost use Rattle.score.specs.IsScore.{IsScore};
@@ -56,16 +57,14 @@ pub struct NextEntry {
 }
 
 // Read: the hand of a sound record, or the refusal.
-#[unsafe(no_mangle)]
-pub extern "C" fn hb_read(s: &[u8]) -> ReadHand
+pub fn hb_read(s: &[u8]) -> ReadHand
     ensures { result ≡ read_hand_of s.now }
 {
     hand_record::read_hand(s)
 }
 
 // Write: a hand's record at the start of a buffer, and its length, or the refusal.
-#[unsafe(no_mangle)]
-pub extern "C" fn hb_write(h: Hand, buf: &mut [u8]) -> Written
+pub fn hb_write(h: Hand, buf: &mut [u8]) -> Written
     ensures value { result ≡ written_of h buf.old }
     ensures buf_after { buf.new ≡ buffer_of h buf.old }
 {
@@ -73,8 +72,7 @@ pub extern "C" fn hb_write(h: Hand, buf: &mut [u8]) -> Written
 }
 
 // Score: what a record is worth for a dealer and a round wind, or the refusal.
-#[unsafe(no_mangle)]
-pub extern "C" fn hb_score(s: &[u8], dealer: u8, wind: u8) -> Scored
+pub fn hb_score(s: &[u8], dealer: u8, wind: u8) -> Scored
     ensures score { IsScore s.now dealer wind result }
     ensures value { result ≡ score_of s.now dealer wind }
 {
@@ -82,8 +80,7 @@ pub extern "C" fn hb_score(s: &[u8], dealer: u8, wind: u8) -> Scored
 }
 
 // Reading: the n-th reading of a record's tiles, from 1, in document 01's order, with what it is worth; or the refusal.
-#[unsafe(no_mangle)]
-pub extern "C" fn hb_reading(s: &[u8], dealer: u8, wind: u8, n: u32) -> NthReading
+pub fn hb_reading(s: &[u8], dealer: u8, wind: u8, n: u32) -> NthReading
     ensures nth { IsNth s.now dealer wind n result }
     ensures value { result ≡ nth_of s.now dealer wind n }
 {
@@ -91,16 +88,14 @@ pub extern "C" fn hb_reading(s: &[u8], dealer: u8, wind: u8, n: u32) -> NthReadi
 }
 
 // How many readings a record's tiles have; or the refusal.
-#[unsafe(no_mangle)]
-pub extern "C" fn hb_reading_count(s: &[u8], dealer: u8, wind: u8) -> ReadingCount
+pub fn hb_reading_count(s: &[u8], dealer: u8, wind: u8) -> ReadingCount
     ensures { result ≡ count_of s.now dealer wind }
 {
     score_readings::count(s, dealer, wind)
 }
 
 // Slip: six lines of what Score gives for a record, a dealer and a round wind, 150 bytes at the start of a page; or the refusal, and the page as it was.
-#[unsafe(no_mangle)]
-pub extern "C" fn hb_slip(s: &[u8], dealer: u8, wind: u8, page: &mut [u8]) -> u8
+pub fn hb_slip(s: &[u8], dealer: u8, wind: u8, page: &mut [u8]) -> u8
     ensures value { result ≡ slip_refusal (score_of s.now dealer wind) page.old }
     ensures page_after { page.new ≡ slip_page (score_of s.now dealer wind) page.old }
 {
@@ -108,8 +103,7 @@ pub extern "C" fn hb_slip(s: &[u8], dealer: u8, wind: u8, page: &mut [u8]) -> u8
 }
 
 // Waits: the kinds that an unfinished hand waits for, and whether it is in furiten by a list of discards; or the refusal.
-#[unsafe(no_mangle)]
-pub extern "C" fn hb_waits(s: &[u8], discards: &[u8]) -> Waits
+pub fn hb_waits(s: &[u8], discards: &[u8]) -> Waits
     ensures waits { IsWaits s.now discards.now result }
     ensures value { result ≡ waits_of s.now discards.now }
 {
@@ -117,8 +111,7 @@ pub extern "C" fn hb_waits(s: &[u8], discards: &[u8]) -> Waits
 }
 
 // Ready: the fewest tiles of an unfinished hand to swap until it is ready, and a ready hand that many swaps away; or the refusal.
-#[unsafe(no_mangle)]
-pub extern "C" fn hb_ready(s: &[u8]) -> Ready
+pub fn hb_ready(s: &[u8]) -> Ready
     ensures refusal_value { (result.refusal ≡ refusal_of s.now) × (result.swaps ≡ fewest_swaps s.now) }
     ensures answer { IsAnswer s.now result }
 {
@@ -126,8 +119,7 @@ pub extern "C" fn hb_ready(s: &[u8]) -> Ready
 }
 
 // Write, of an unfinished hand: the bytes of the tiles held at the start of a buffer, as Waits and Ready take them, and their length, or the refusal.
-#[unsafe(no_mangle)]
-pub extern "C" fn hb_write_unfinished(x: Held, buf: &mut [u8]) -> Written
+pub fn hb_write_unfinished(x: Held, buf: &mut [u8]) -> Written
     ensures value { result ≡ unfinished_written x buf.old }
     ensures buf_after { buf.new ≡ unfinished_buffer x buf.old }
 {
@@ -135,8 +127,7 @@ pub extern "C" fn hb_write_unfinished(x: Held, buf: &mut [u8]) -> Written
 }
 
 // The unfinished hand that a record is without its winning tile, at the start of a buffer, and its length, or the refusal.
-#[unsafe(no_mangle)]
-pub extern "C" fn hb_unfinished(s: &[u8], buf: &mut [u8]) -> Written
+pub fn hb_unfinished(s: &[u8], buf: &mut [u8]) -> Written
     ensures value { result ≡ written_from s.now buf.old }
     ensures buf_after { buf.new ≡ buffer_from s.now buf.old }
 {
@@ -144,8 +135,7 @@ pub extern "C" fn hb_unfinished(s: &[u8], buf: &mut [u8]) -> Written
 }
 
 // Cards: every practice card of a suit and a size, one byte a tile, at the start of a buffer, and how many they are; or refusal 19, and the buffer as it was.
-#[unsafe(no_mangle)]
-pub extern "C" fn hb_cards(suit: u8, size: u8, buf: &mut [u8]) -> Cards
+pub fn hb_cards(suit: u8, size: u8, buf: &mut [u8]) -> Cards
     ensures value { result ≡ answer_of suit size (length buf.old) }
     ensures buf_after { buf.new ≡ card_buffer suit size buf.old }
 {
@@ -154,8 +144,7 @@ pub extern "C" fn hb_cards(suit: u8, size: u8, buf: &mut [u8]) -> Cards
 
 // Judge: whether a claim of a reading and the winner's gain for a record, a dealer and a round wind is accepted, or the first of the four conditions that
 // is false; or the refusal.
-#[unsafe(no_mangle)]
-pub extern "C" fn hb_judge(s: &[u8], claim: &[u8], dealer: u8, wind: u8) -> Judged
+pub fn hb_judge(s: &[u8], claim: &[u8], dealer: u8, wind: u8) -> Judged
     ensures judged { IsJudged s.now claim.now dealer wind result }
     ensures value { result ≡ judged_of s.now claim.now dealer wind }
 {
@@ -163,8 +152,7 @@ pub extern "C" fn hb_judge(s: &[u8], claim: &[u8], dealer: u8, wind: u8) -> Judg
 }
 
 // Write claim: the bytes of a claim at the start of a buffer, and their number, or the refusal.
-#[unsafe(no_mangle)]
-pub extern "C" fn hb_write_claim(claim: Claim, buf: &mut [u8]) -> Written
+pub fn hb_write_claim(claim: Claim, buf: &mut [u8]) -> Written
     ensures writes { Writes claim buf.old result buf.new }
     ensures value { result ≡ claim_written_of claim buf.old }
     ensures buf_after { buf.new ≡ claim_buffer_of claim buf.old }
@@ -173,16 +161,14 @@ pub extern "C" fn hb_write_claim(claim: Claim, buf: &mut [u8]) -> Written
 }
 
 // A game before its first booking.
-#[unsafe(no_mangle)]
-pub extern "C" fn hb_fresh_game() -> Game
+pub fn hb_fresh_game() -> Game
     ensures { result ≡ fresh_game }
 {
     game_bookings::fresh_game()
 }
 
 // Riichi of a seat.
-#[unsafe(no_mangle)]
-pub extern "C" fn hb_riichi(g: &mut Game, seat: u8) -> u8
+pub fn hb_riichi(g: &mut Game, seat: u8) -> u8
     ensures { Books g.old (booking (Booking.riichi seat)) result g.new }
 {
     let b = game_bookings::riichi(*g, seat);
@@ -191,8 +177,7 @@ pub extern "C" fn hb_riichi(g: &mut Game, seat: u8) -> u8
 }
 
 // A win by a record.
-#[unsafe(no_mangle)]
-pub extern "C" fn hb_win(g: &mut Game, s: &[u8]) -> u8
+pub fn hb_win(g: &mut Game, s: &[u8]) -> u8
     ensures { Books g.old (booking (Booking.result (Booking.win s.now))) result g.new }
 {
     let b = game_bookings::win(*g, s);
@@ -201,8 +186,7 @@ pub extern "C" fn hb_win(g: &mut Game, s: &[u8]) -> u8
 }
 
 // A draw, by four bits of who is ready, seat 0 first.
-#[unsafe(no_mangle)]
-pub extern "C" fn hb_draw(g: &mut Game, bits: u8) -> u8
+pub fn hb_draw(g: &mut Game, bits: u8) -> u8
     ensures { Books g.old (booking (Booking.result (Booking.draw bits))) result g.new }
 {
     let b = game_bookings::draw(*g, bits);
@@ -211,8 +195,7 @@ pub extern "C" fn hb_draw(g: &mut Game, bits: u8) -> u8
 }
 
 // Chombo of a seat.
-#[unsafe(no_mangle)]
-pub extern "C" fn hb_chombo(g: &mut Game, seat: u8) -> u8
+pub fn hb_chombo(g: &mut Game, seat: u8) -> u8
     ensures { Books g.old (booking (Booking.result (Booking.chombo seat))) result g.new }
 {
     let b = game_bookings::chombo(*g, seat);
@@ -221,8 +204,7 @@ pub extern "C" fn hb_chombo(g: &mut Game, seat: u8) -> u8
 }
 
 // Multiple ron: one to three rons on one tile, their number, and the records end to end.
-#[unsafe(no_mangle)]
-pub extern "C" fn hb_multi_ron(g: &mut Game, number: u8, records: &[u8]) -> u8
+pub fn hb_multi_ron(g: &mut Game, number: u8, records: &[u8]) -> u8
     ensures { Books g.old (booking (Booking.result (Booking.multi_ron number records.now))) result g.new }
 {
     let b = game_bookings::multi_ron(*g, number, records);
@@ -231,8 +213,7 @@ pub extern "C" fn hb_multi_ron(g: &mut Game, number: u8, records: &[u8]) -> u8
 }
 
 // Pao: the feeder of a holder's yaku, 28 or 29, named for this hand.
-#[unsafe(no_mangle)]
-pub extern "C" fn hb_pao(g: &mut Game, holder: u8, feeder: u8, yaku: u8) -> u8
+pub fn hb_pao(g: &mut Game, holder: u8, feeder: u8, yaku: u8) -> u8
     ensures { Books g.old (booking (Booking.pao holder feeder yaku)) result g.new }
 {
     let b = game_bookings::pao(*g, holder, feeder, yaku);
@@ -242,8 +223,7 @@ pub extern "C" fn hb_pao(g: &mut Game, holder: u8, feeder: u8, yaku: u8) -> u8
 
 // The correction of the last finished booking by a win, which is booked in the earlier position; 9 where the game is out of form, 20 where there is none
 // to supersede.
-#[unsafe(no_mangle)]
-pub extern "C" fn hb_correct_win(g: &mut Game, s: &[u8]) -> u8
+pub fn hb_correct_win(g: &mut Game, s: &[u8]) -> u8
     ensures { Books g.old (correction (Booking.win s.now)) result g.new }
 {
     let b = game_bookings::correct_win(*g, s);
@@ -252,8 +232,7 @@ pub extern "C" fn hb_correct_win(g: &mut Game, s: &[u8]) -> u8
 }
 
 // The same by a draw.
-#[unsafe(no_mangle)]
-pub extern "C" fn hb_correct_draw(g: &mut Game, bits: u8) -> u8
+pub fn hb_correct_draw(g: &mut Game, bits: u8) -> u8
     ensures { Books g.old (correction (Booking.draw bits)) result g.new }
 {
     let b = game_bookings::correct_draw(*g, bits);
@@ -262,8 +241,7 @@ pub extern "C" fn hb_correct_draw(g: &mut Game, bits: u8) -> u8
 }
 
 // The same by a chombo of a seat.
-#[unsafe(no_mangle)]
-pub extern "C" fn hb_correct_chombo(g: &mut Game, seat: u8) -> u8
+pub fn hb_correct_chombo(g: &mut Game, seat: u8) -> u8
     ensures { Books g.old (correction (Booking.chombo seat)) result g.new }
 {
     let b = game_bookings::correct_chombo(*g, seat);
@@ -272,8 +250,7 @@ pub extern "C" fn hb_correct_chombo(g: &mut Game, seat: u8) -> u8
 }
 
 // The same by a multiple ron.
-#[unsafe(no_mangle)]
-pub extern "C" fn hb_correct_multi_ron(g: &mut Game, number: u8, records: &[u8]) -> u8
+pub fn hb_correct_multi_ron(g: &mut Game, number: u8, records: &[u8]) -> u8
     ensures { Books g.old (correction (Booking.multi_ron number records.now)) result g.new }
 {
     let b = game_bookings::correct_multi_ron(*g, number, records);
@@ -282,8 +259,7 @@ pub extern "C" fn hb_correct_multi_ron(g: &mut Game, number: u8, records: &[u8])
 }
 
 // Next entry of a log from an offset: its kind, argument, letter and length, header included. Where there is none all is zero but the refusal, 14, or `end`.
-#[unsafe(no_mangle)]
-pub extern "C" fn hb_log_next(s: &[u8], at: usize) -> NextEntry
+pub fn hb_log_next(s: &[u8], at: usize) -> NextEntry
     ensures { result ≡ next_entry_of s.now at }
 {
     let part = log_entry::next_entry(s, at);
@@ -312,8 +288,7 @@ pub extern "C" fn hb_log_next(s: &[u8], at: usize) -> NextEntry
 }
 
 // Books the entry that bytes start with, such as the part of a log that Next entry gave, in the lent game; 14 where they start with none.
-#[unsafe(no_mangle)]
-pub extern "C" fn hb_book_entry(g: &mut Game, s: &[u8]) -> u8
+pub fn hb_book_entry(g: &mut Game, s: &[u8]) -> u8
     ensures { BooksEntry g.old s.now result g.new }
 {
     let b = log_walk::book_entry(*g, s);
@@ -322,8 +297,7 @@ pub extern "C" fn hb_book_entry(g: &mut Game, s: &[u8]) -> u8
 }
 
 // A walk over a log before its first entry, with a fresh game.
-#[unsafe(no_mangle)]
-pub extern "C" fn hb_log_start() -> Walk
+pub fn hb_log_start() -> Walk
     ensures { result ≡ started }
 {
     log_walk::start()
@@ -331,8 +305,7 @@ pub extern "C" fn hb_log_start() -> Walk
 
 // Books entries of a log from where a walk stands and writes their lines into a buffer, as many whole lines as fit: how many bytes, and where the walk
 // then stands.
-#[unsafe(no_mangle)]
-pub extern "C" fn hb_log_lines(w: Walk, s: &[u8], buf: &mut [u8]) -> Printed
+pub fn hb_log_lines(w: Walk, s: &[u8], buf: &mut [u8]) -> Printed
     ensures value { result ≡ lines_of (length buf.old) w s.now }
     ensures buf_after { buf.new ≡ take result.written (text_left w s.now) ++ drop result.written buf.old }
     ensures s_value { 83 + result.written ≤ length buf.old → result.walk.entry < 4294967295 → text_left result.walk s.now ≡ [] }
@@ -350,14 +323,7 @@ fn line_of(p: Position, entry: u32, letter: u8, refusal: u8, buf: &mut [u8]) -> 
 
 // A line of `tally` at the start of a buffer, or nothing where it does not fit: an entry's number, letter and refusal, and the lent position's scores and
 // sticks.
-#[unsafe(no_mangle)]
-pub extern "C" fn hb_log_line(
-    p: &Position,
-    entry: u32,
-    letter: u8,
-    refusal: u8,
-    buf: &mut [u8],
-) -> usize
+pub fn hb_log_line(p: &Position, entry: u32, letter: u8, refusal: u8, buf: &mut [u8]) -> usize
     ensures { Lined p.now entry letter refusal buf.old result buf.new }
 {
     line_of(*p, entry, letter, refusal, buf)
@@ -365,48 +331,42 @@ pub extern "C" fn hb_log_line(
 
 // Score, said: the clips of what a record is worth and who pays what, in a language, at the start of a buffer, and how many they are; or the refusal, and the
 // buffer as it was.
-#[unsafe(no_mangle)]
-pub extern "C" fn hb_say_score(language: u8, s: &[u8], dealer: u8, wind: u8, buf: &mut [u8]) -> Said
+pub fn hb_say_score(language: u8, s: &[u8], dealer: u8, wind: u8, buf: &mut [u8]) -> Said
     ensures { Answers language (score_of s.now dealer wind).refusal (score_said language s.now dealer wind) buf.old result buf.new }
 {
     speech_score::say_score(language, s, dealer, wind, buf)
 }
 
 // The fu of a record, said: each item and the sum; or the refusal.
-#[unsafe(no_mangle)]
-pub extern "C" fn hb_say_fu(language: u8, s: &[u8], dealer: u8, wind: u8, buf: &mut [u8]) -> Said
+pub fn hb_say_fu(language: u8, s: &[u8], dealer: u8, wind: u8, buf: &mut [u8]) -> Said
     ensures { Answers language (score_of s.now dealer wind).refusal (fu_message language (score_of s.now dealer wind)) buf.old result buf.new }
 {
     speech_fu::say_fu(language, s, dealer, wind, buf)
 }
 
 // The scores of a lent position, said, with its sticks and counters; or the refusal.
-#[unsafe(no_mangle)]
-pub extern "C" fn hb_say_scores(language: u8, p: &Position, buf: &mut [u8]) -> Said
+pub fn hb_say_scores(language: u8, p: &Position, buf: &mut [u8]) -> Said
     ensures { SaysScores language p.now buf.old result buf.new }
 {
     speech_table::say_scores(language, *p, buf)
 }
 
 // A refusal, said: the clip of its sentence, or that of 0, accepted; or the refusal of this call.
-#[unsafe(no_mangle)]
-pub extern "C" fn hb_say_refusal(language: u8, number: u8, buf: &mut [u8]) -> Said
+pub fn hb_say_refusal(language: u8, number: u8, buf: &mut [u8]) -> Said
     ensures { Answers language (cond (ltb 22 number) 8 0) (refusal_message number) buf.old result buf.new }
 {
     speech_score::say_refusal(language, number, buf)
 }
 
 // The waits of an unfinished hand, said, and furiten by a list of discards; or the refusal.
-#[unsafe(no_mangle)]
-pub extern "C" fn hb_say_waits(language: u8, s: &[u8], discards: &[u8], buf: &mut [u8]) -> Said
+pub fn hb_say_waits(language: u8, s: &[u8], discards: &[u8], buf: &mut [u8]) -> Said
     ensures { Answers language (waits_of s.now discards.now).refusal (waits_message (waits_of s.now discards.now)) buf.old result buf.new }
 {
     speech_table::say_waits(language, s, discards, buf)
 }
 
 // How far an unfinished hand is from ready, said; or the refusal.
-#[unsafe(no_mangle)]
-pub extern "C" fn hb_say_ready(language: u8, s: &[u8], buf: &mut [u8]) -> Said
+pub fn hb_say_ready(language: u8, s: &[u8], buf: &mut [u8]) -> Said
     ensures { SaysReady language s.now buf.old result buf.new }
 {
     speech_table::say_ready(language, s, buf)
