@@ -1,5 +1,6 @@
 // The reader of an unfinished hand (02, S-1 and S-14): m melds and 13 - 3m tiles. It takes all input.
 #![tactic(auto)]
+
 ghost use Rattle.std.specs.Prelude.{◌≡◌, ◌≤◌, length};
 ghost use Rattle.bits.specs.Bits.{bits_of};
 ghost use Rattle.hand_record.specs.search.Offsets.{held_in, padding_after};

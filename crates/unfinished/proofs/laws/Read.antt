@@ -1,16 +1,13 @@
 -- What `read_of` comes to, case by case.
-use Rattle.std.specs.Prelude.{ℕ, zero, suc, ◌+◌, ◌*◌, ◌-◌, ◌≤◌, ◌<◌, ◌≡◌, refl, false, ◌||◌, cond, not, List, [], ◌∷◌, ltb, eqb, length}
+use Rattle.std.specs.Prelude.{ℕ, zero, suc, ◌+◌, ◌*◌, ◌-◌, ◌≤◌, ◌<◌, ◌≡◌, refl, false, ◌||◌, not, List, [], ◌∷◌, ltb, eqb, length}
 use Rattle.std.proofs.Common.{arith, ltb-false, le-ltb, eqb-true, eq-eqb, ne_eqb}
 use Rattle.std.proofs.lemmas.Bool.{eqb-false, not-false}
 use Rattle.tiles.proofs.laws.Below.{or_both}
 use Rattle.bits.specs.Bits.{bits_of}
-use Rattle.hand.specs.declared.Held.{Held}
-use Rattle.hand_record.specs.Record.{none_held}
 use Rattle.hand_record.specs.search.Offsets.{held_in, padding_after}
 use Rattle.hand_record.proofs.laws.Offsets as offsets
 use Rattle.hand_record.proofs.laws.Read.{bool_true}
-use Rattle.unfinished.specs.declared.Unfinished.{Unfinished}
-use Rattle.unfinished.specs.Unfinished.{length_of, pad_of, widths, count_in, held_of, padding_of, wrong_length, held_refusal, refusal_of}
+use Rattle.unfinished.specs.Unfinished.{length_of, pad_of, widths, count_in, held_of, padding_of, wrong_length, refusal_of}
 use Rattle.unfinished.specs.Unfinished.{refused_with, given_by, read_of}
 
 -- the widths fill the bytes
