@@ -12,6 +12,6 @@ out=$root/target/portable/$name.c
 
 bash "$root/tools/archive.sh" --mir
 mkdir -p "$root/target/portable"
-python3 -B "$here/generator/generate.py" "${options[@]}" handset herbassolh.h "$(rt version)" "$root/target/rlib" "$kit/on/$(uname -m)/rlib" >"$out.new"
+python3 -B "$here/generator/generate.py" "${options[@]}" handset herbassolh.h "$(rt version)" "$root/target/rlib" "$kit/rlibs" >"$out.new"
 mv -- "$out.new" "$out"
 echo "$out: $(wc -l <"$out") lines, $(sed -n '/^ \* Calls:/,/^ \*\//p' "$out" | grep -ow 'hb_[a-z_]*' | wc -l) calls"

@@ -13,7 +13,7 @@ count=${1:-100000}
 here=$(cd -- "$(dirname -- "${BASH_SOURCE[0]}")" && pwd)
 root=$(dirname -- "$here")
 kit=$(dirname -- "$(dirname -- "$(readlink -f -- "$(command -v rt)")")")
-rlibs=("$root/target/rlib" "$kit/on/$(uname -m)/rlib")
+rlibs=("$root/target/rlib" "$kit/rlibs")
 made=$root/target/portable
 file=$made/herbassolh.c
 builds=0 checks=0 comparisons=0

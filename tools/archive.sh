@@ -1,7 +1,7 @@
 #!/usr/bin/env bash
 # The archive that firmware links, target/staticlib/libhandset.a, made where it is missing or older than the code: archive.sh [--mir]
 # It proves what has changed since it was last proved, and prints what rt says of each crate.
-# --mir: the proved library of handset and those below it instead, crates/*/out/rlib, with the MIR that portable/make.sh reads.
+# --mir: the proved library of handset and those below it instead, target/rlib, with the MIR that portable/make.sh reads.
 # interface/build.sh, portable/make.sh, portable/board.sh and tools/cost.py call it, so that none of them proves what another has.
 set -euo pipefail
 cd -- "$(dirname -- "${BASH_SOURCE[0]}")/.."
@@ -22,4 +22,8 @@ fi
 if [[ $crate == handset_c ]]; then
     mkdir -p target/staticlib
     cp -- crates/handset_c/out/libhandset_c.a "$archive"
+else
+    rm -rf -- target/rlib
+    mkdir -p target/rlib
+    for library in crates/*/out/rlib/*.rlib; do cp -r -- "$library" target/rlib/; done
 fi

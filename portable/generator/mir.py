@@ -2,7 +2,7 @@
 
 A built library is a folder NAME.rlib. Its toolchain/mir.json is the MIR that was proved and that the toolchain compiles, a list of functions;
 its lang/src has the interface as text, which has what MIR lacks: the names of fields, variants and parameters, the sign of a number that is
-given to C, and which functions are exported (`no_mangle`). Of these only the sign could change an answer, and the C compiler holds it to the header."""
+given to C, and which functions are exported (those named hb_..). Of these only the sign could change an answer, and the C compiler holds it to the header."""
 import glob
 import hashlib
 import json
@@ -71,9 +71,9 @@ class Libraries:
             self.fields[f"{path}::{name}"] = [(f"f{i}", kind.split()[-1]) for i, kind in enumerate(part.split(" , "))]
         for name, part in re.findall(r"\benum (\w+) \{ (.*?) ?\}", text):
             self.fields[f"{path}::{name}"] = re.findall(r"(?:^|, )(\w+)()", re.sub(r"\(.*?\)", "", part))
-        for mark, name, part in re.findall(r"(# \[ no_mangle \] )?(?:pub )?(?:extern \"C\" )?fn (\w+) (?:< .*? > )?\( (.*?) ?\)", text):
+        for name, part in re.findall(r"(?:pub )?fn (\w+) (?:< .*? > )?\( (.*?) ?\)", text):
             self.parameters[f"{path}::{name}"] = named.findall(part)
-            self.exported.setdefault(crate, []).extend([f"{path}::{name}"] if mark else [])
+            self.exported.setdefault(crate, []).extend([f"{path}::{name}"] if name.startswith("hb_") else [])
 
     @staticmethod
     def names(table, key, count):
