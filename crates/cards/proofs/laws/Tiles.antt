@@ -5,7 +5,7 @@ use mathlib.Core.List.{List, [], ◌∷◌}
 use Prim.Native.Nat.{ℕ, zero, suc, ◌+◌, ◌-◌, ◌*◌, ◌/◌, ◌≤◌, ◌<◌}
 use native.Mathlib.Omega.{arith}
 use Rattle.std.proofs.lemmas.Bool.{eqb-false}
-use Rattle.tiles.specs.Below.{sum, count_below, sum_below}
+use Rattle.tiles.specs.Below.{sum, sum_below}
 use Rattle.tiles.specs.Kinds.{in_suit}
 use Rattle.tiles.specs.Groups.{at_kind, uses}
 use Rattle.tiles.proofs.laws.Below.{and_true, number_total}
