@@ -1,5 +1,6 @@
 // What a reading is worth: its yaku, h, fu, the basic points and the winner's gain.
 #![tactic(auto)]
+
 ghost use Rattle.std.specs.Prelude.{◌≡◌, cond, ◌+◌, ◌<◌, ◌≤◌, eqb};
 ghost use Rattle.yaku_tiles.specs.search.TileTests.{tile_tests_of};
 ghost use Rattle.yaku.specs.Yaku.{is_yakuman, yaku_of, has_yaku};

@@ -11,15 +11,15 @@ returns c =
     let concealed = c.before.before in
     let h = concealed.before in
     let han-of = h.before in
-    let tests = han-of.before.before.group-tests.ensures.0 in
+    let tests = han-of.before.before.group_tests-tests.ensures.0 in
     record {
       groups = refl;
       tests = tests;
-      han = rw (h.han.ensures.0, han-of.han-of.ensures.0, tests);
-      few = h.han.ensures.1;
-      ankou = concealed.concealed.ensures;
-      kan = c.before.kans.ensures;
-      items = c.group-items.ensures;
+      han = rw (h.han-han.ensures.0, han-of.han_of.ensures.0, tests);
+      few = h.han-han.ensures.1;
+      ankou = concealed.concealed-ankou.ensures;
+      kan = c.before.kans-kan.ensures;
+      items = c.group_items-items.ensures;
     }
 
 pub common_of_spec : {M : Type 1} → statement M

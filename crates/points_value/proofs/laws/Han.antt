@@ -3,7 +3,7 @@ use Rattle.std.specs.Prelude.{◌≡◌, refl, Bool, true, false, ◌&&◌, cond
 use Rattle.std.proofs.Common.{arith, eqb-true, leb-true}
 use Rattle.tiles.specs.Below.{tabulate, all_below, sum_below}
 use Rattle.tiles.proofs.laws.Below.{every_at, and_true}
-use Rattle.points_value.specs.Han.{han_for, yaku_han}
+use Rattle.points_value.specs.Han.{yaku_han}
 pub use Rattle.points_value.specs.search.Han.{fixed_han}
 unfoldable pub use Rattle.points_value.specs.search.Han.{han_by}
 

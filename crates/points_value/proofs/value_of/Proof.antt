@@ -38,10 +38,10 @@ earned_is : (p : FullReading) (ways : List ℕ) (l : List Fu) → p.ways ≡ way
 earned_is p ways l ew el = rw (el, ← ew)
 
 -- the start, from after kans_at, and from after place_tests
-abbrev from_kans : tie.After-kans-at → tie.Start
+abbrev from_kans : tie.After-kans_at-kan → tie.Start
 from_kans c = let concealed-at = c.before in let gs = concealed-at.before in gs.before.before
 
-abbrev start : tie.After-place-tests → tie.Start
+abbrev start : tie.After-place_tests-q → tie.Start
 start c = let items_at = c.before in from_kans items_at.before.before
 
 returns : tie.Need-returns
@@ -52,20 +52,20 @@ returns c =
     let at_Added = at-basic.before in
     let at-items = at_Added.before in
     let at-han = at-items.before in
-    let q = at-han.before.place-tests in
+    let q = at-han.before.place_tests-q in
     let s = start at-han.before in
     let m = yakuman_placed s.args.w s.args.p q.result q.ensures in
     let a = s.args in
     let h =
-    han_is a.w a.p q.result q.ensures a.dora a.k.han.0 at-han.hand-han.result.0 s.pre.0.han at-han.hand-han.ensures.0 in (
+    han_is a.w a.p q.result q.ensures a.dora a.k.han.0 at-han.hand_han-h.result.0 s.requires.0.han at-han.hand_han-h.ensures.0 in (
       rw (
         ← m,
-        ← c.yaku-of.ensures,
+        ← c.yaku_of-y.ensures,
         ← h,
-        ← at-items.items_of.ensures.0,
-        ← at_Added.added.ensures,
-        ← at-basic.basic.ensures.0,
-        ← at-gain.gain.ensures.0,
+        ← at-items.items_of-items.ensures.0,
+        ← at_Added.added-f.ensures,
+        ← at-basic.basic-a.ensures.0,
+        ← at-gain.gain-g.ensures.0,
       ),
       (m, any_is s.args.w s.args.p q.result q.ensures),
     )
@@ -76,23 +76,23 @@ value_of_spec =
     (tie.spec
     (λ c κs. let s = c.before.before in (s.requires.0.ankou, s.requires.1.1))
     (λ c κs. let gs = c.before in let s = gs.before.before in (s.requires.0.kan, s.requires.1.1))
-    (λ c κs. let s = from_kans c.before in (s.pre.0.items, s.pre.1.1))
+    (λ c κs. let s = from_kans c.before in (s.requires.0.items, s.requires.1.1))
     (λ c κs.
     let k = c.before.before in
     let h = k.before in
     let s = from_kans k in
-    let w = sym s.pre.1.0 in
-    (s.pre.0.tests, (h.concealed-at.ensures ∙ ap (concealed s.args.p.groups) w, k.kans-at.ensures ∙ ap kans w, s.pre.1.1)))
+    let w = sym s.requires.1.0 in
+    (s.requires.0.tests, (h.concealed_at-ankou.ensures ∙ ap (concealed s.args.p.groups) w, k.kans_at-kan.ensures ∙ ap kans w, s.requires.1.1)))
     (λ c κs. (start c).requires.0.few)
     (λ c κs.
     let q = c.before in
     let i = q.before in
     let s = start q in
-    (s.pre.0.tests, (q.place-tests.ensures, earned_is s.args.p _ i.items_at.result s.pre.1.0 i.items_at.ensures)))
+    (s.requires.0.tests, (q.place_tests-q.ensures, earned_is s.args.p _ i.items_at-group.result s.requires.1.0 i.items_at-group.ensures)))
     (λ c κs. search rules) (λ c κs. search rules) (λ c κs. search rules)
     (λ c κs.
     let at_Added = c.before.before in
     let at-han = at_Added.before.before in
     let q = at-han.before in
-    ((start q).requires.0.tests, q.place-tests.ensures))
+    ((start q).requires.0.tests, q.place_tests-q.ensures))
     returns)

@@ -18,11 +18,11 @@ use Rattle.points_value.proofs.yaku_han.han_each.Tie as tie
 abbrev fixed_at : List Bool → Bool → ℕ → Han
 fixed_at y closed j = han (cond (get_or y j false) (get_or (fixed_han closed) j 0) 0)
 
-abbrev invariant_loop : tie.invariant-loop
+abbrev invariant_loop : tie.invariant-loop-i
 invariant_loop closed values y each out₀ i₀ out i =
     (i ≤ 37) × (length out ≡ 37) × (sets out i (tabulate (37 - i) i (fixed_at y closed)) ≡ tabulate 37 0 (fixed_at y closed))
 
-abbrev decreases_loop : tie.decreases-loop
+abbrev decreases_loop : tie.decreases-loop-i
 decreases_loop closed values y each out₀ i₀ out i = 37 - i
 
 -- a turn sets one of them
@@ -48,25 +48,25 @@ han_each_spec =
     (tie.spec invariant_loop decreases_loop
     (λ c. (search rules, refl, refl))
     (λ c. search rules) (λ c. search rules) (λ c κs. search rules) (λ c. search rules)
-    (λ c. omega (arith, c.before.before.loop.invariant.1))
+    (λ c. omega (arith, c.before.before.loop-i.invariant.1))
     (λ c. search rules)
     (λ c. search rules)
     (λ c.
     let l = c.before.before in
     let a = l.before.args in
-    let i = l.loop.i in (
+    let i = l.loop-i.i in (
       omega arith,
-      length-set l.loop.out i c.han-for.result ∙ l.loop.invariant.1,
-      turn (fixed_at a.t1 a.closed) l.loop.out i (i + 1) (36 - i) c.han-for.result
-          (fixed a.t1 a.closed i _ c.han-for.result c.han-for.ensures (han_at a.closed i c.before.loop-test.true).0)
+      length-set l.loop-i.out i c.han_for.result ∙ l.loop-i.invariant.1,
+      turn (fixed_at a.y a.closed) l.loop-i.out i (i + 1) (36 - i) c.han_for.result
+          (fixed a.y a.closed i _ c.han_for.result c.han_for.ensures (han_at a.closed i c.before.loop-i-test.true).0)
           (omega arith) (omega arith) (omega arith)
-          ∙ l.loop.invariant.2,
+          ∙ l.loop-i.invariant.2,
     ))
     (λ c. search rules) (λ c κs. search rules)
-    (λ c. omega (arith, c.before.before.loop.invariant.1))
+    (λ c. omega (arith, c.before.before.loop-i.invariant.1))
     (λ c.
     let l = c.before.before in
     let a = l.before.args in
-    whole a.t1 a.closed a.values.0 l.loop.out c.han-if.result
-    (ended (fixed_at a.t1 a.closed) l.loop.out l.loop.i _ l.loop.invariant.0 c.before.loop-test.false l.loop.invariant.2)
-    c.han-if.ensures.0))
+    whole a.y a.closed a.values.0 l.loop-i.out c.han_if.result
+    (ended (fixed_at a.y a.closed) l.loop-i.out l.loop-i.i _ l.loop-i.invariant.0 c.before.loop-i-test.false l.loop-i.invariant.2)
+    c.han_if.ensures.0))

@@ -7,6 +7,6 @@ pub han_for_spec : {M : Type 1} → statement M
 han_for_spec =
     tie.close
     (tie.spec (λ c κs. search rules) (λ c κs. search rules)
-    (λ c. rw (c.before.before.if1.true, c.before.if2.true) c.han-of.ensures.0)
-    (λ c. rw (c.before.before.if1.true, c.before.if2.false) c.han-of2.ensures.0)
-    (λ c. rw c.if1.false))
+    (λ c. rw (c.before.before.if-listed.true, c.before.if-closed.true) c.han_of.ensures.0)
+    (λ c. rw (c.before.before.if-listed.true, c.before.if-closed.false) c.han_of-else-closed.ensures.0)
+    (λ c. rw c.if-listed.false))
