@@ -1,6 +1,7 @@
 // What a reading of a hand is worth, beside what is the same in every one of them; and the better of two readings: what a search keeps, and a
 // reading held against it.
 #![tactic(auto)]
+
 ghost use Rattle.std.specs.Prelude.{◌≡◌, false, cond, ◌≤◌, eqb};
 ghost use Rattle.yaku.specs.Yaku.{is_yakuman, has_yaku};
 ghost use Rattle.score_best.specs.search.HandCommon.{joined as joined_of, full_reading_in, worth_in, IsHandCommon, IsCommonIn};

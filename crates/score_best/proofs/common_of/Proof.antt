@@ -12,4 +12,4 @@ common_of_spec =
     let x = mc.before.before in
     let r = x.before.before.requires in
     (r.tests, (r.round, r.own, r.dora)))
-    (λ c. rw (← c.before.joined.ensures) c.common-of.ensures))
+    (λ c. rw (← c.before.joined.ensures) c.common_of.ensures))

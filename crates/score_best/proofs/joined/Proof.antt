@@ -12,4 +12,4 @@ joined_spec =
     (λ c. search rules) (λ c. search rules) (λ c κs. search rules) (λ c. search rules) (λ c. search rules) (λ c κs. search rules)
     (λ c.
     let pick2 = c.before.before in
-    rw (c.pick4.ensures, c.before.pick3.ensures, pick2.pick2.ensures, pick2.before.pick.ensures)))
+    rw (c.pick-4.ensures, c.before.pick-3.ensures, pick2.pick-2.ensures, pick2.before.pick.ensures)))

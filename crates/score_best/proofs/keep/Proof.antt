@@ -1,10 +1,9 @@
 -- `score_best::keep` meets its contract: by whether the reading has a yaku and beats what is kept.
 use borrow.Author.Rules.{rules}
-use mathlib.Core.Path.{◌≡◌, sym, ◌∙◌}
+use mathlib.Core.Path.{◌≡◌}
 use mathlib.Core.Bool.{Bool, true, false, ◌&&◌, ◌||◌, not}
 use Prim.Native.Nat.{ℕ}
 use lib.Dec.{eqb}
-use Rattle.reading.specs.declared.Reading.{Reading}
 use Rattle.points_value.specs.declared.Worth.{Worth}
 use Rattle.score_best.specs.declared.Best.{Best}
 use Rattle.score_best.specs.search.Best.{beats, counted, keep_of}
@@ -26,9 +25,9 @@ keep_spec =
     let known = c.before in let y = known.before.before in
     let marked = y.before.before in let n = marked.before.before in
     let worth = n.before in let a = worth.before.before.args in
-    rw (by a.b a.v y.beats.result true n.counted.result y.beats.ensures n.counted.ensures c.if1.true, n.counted.ensures))
+    rw (by a.b a.v y.beats.result true n.counted-tried.result y.beats.ensures n.counted-tried.ensures c.if-best-v.true, n.counted-tried.ensures))
     (λ c.
     let known = c.before in let y = known.before.before in
     let marked = y.before.before in let n = marked.before.before in
     let worth = n.before in let a = worth.before.before.args in
-    rw (by a.b a.v y.beats.result false n.counted.result y.beats.ensures n.counted.ensures c.if1.false, n.counted.ensures)))
+    rw (by a.b a.v y.beats.result false n.counted-tried.result y.beats.ensures n.counted-tried.ensures c.if-best-v.false, n.counted-tried.ensures)))

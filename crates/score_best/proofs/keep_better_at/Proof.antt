@@ -10,5 +10,5 @@ keep_better_at_spec =
     tie.close
     (tie.spec (λ c κs. (c.requires.0, c.requires.1)) (λ c κs. search rules)
     (λ c.
-    let w = c.before.worth-at in
+    let w = c.before.worth_at in
     c.keep.ensures ∙ kept_folded _ _ _ _ c.before.before.requires.2 w.ensures.0 w.ensures.1))

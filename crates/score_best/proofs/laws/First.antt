@@ -15,7 +15,7 @@ use Rattle.reading.proofs.laws.Lists.{each_member}
 use Rattle.reading.proofs.laws.Only.{lex_trans}
 use Rattle.points_value.specs.declared.Value.{Value}
 use Rattle.score_best.specs.declared.Best.{Best}
-use Rattle.score_best.specs.Best.{with_yaku, with_yakuman, figures, Over}
+use Rattle.score_best.specs.Best.{with_yaku, figures, Over}
 use Rattle.score_best.specs.search.Best.{beats, counted, none_of, taking, passing, keep_better_by, keep_nth, keep_better}
 use Rattle.score_best.proofs.laws.Top.{AtMost, equal}
 

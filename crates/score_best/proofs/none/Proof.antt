@@ -6,4 +6,4 @@ use Rattle.score_best.proofs.none.Tie as tie
 
 pub none_spec : {M : Type 1} → statement M
 unfolding none_of
-none_spec = tie.close (tie.spec (λ c κs. search rules) (λ c κs. search rules) (λ c. rw (c.of-shape.ensures, c.before.base-alone.ensures)))
+none_spec = tie.close (tie.spec (λ c κs. search rules) (λ c κs. search rules) (λ c. rw (c.of_shape-r.ensures, c.before.base_alone-items.ensures)))

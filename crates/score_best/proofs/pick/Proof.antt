@@ -4,4 +4,4 @@ use Rattle.score_best.proofs.pick.Statement.{statement}
 use Rattle.score_best.proofs.pick.Tie as tie
 
 pub pick_spec : {M : Type 1} → statement M
-pick_spec = tie.close (tie.spec (λ c. rw (eq-eqb _ _ c.if1.true)) (λ c. rw (ne_eqb _ _ c.if1.false)))
+pick_spec = tie.close (tie.spec (λ c. rw (eq-eqb _ _ c.if-g-eq68.true)) (λ c. rw (ne_eqb _ _ c.if-g-eq68.false)))

@@ -27,17 +27,17 @@ unfolding worth_in value_of
 worthy t r p v ep ev (em, ea) = rw (← ep) (ev, (em, ea))
 
 -- the start, from where the parts are copied
-abbrev start : tie.After-mw → tie.Start
+abbrev start : tie.After-mw-1 → tie.Start
 start c = let seats = c.before in seats.before.before
 
 pub worth_at_spec : {M : Type 1} → statement M
 worth_at_spec =
     tie.close
-    (tie.spec (λ c κs. let s = start c in (s.pre.0.groups, s.pre.1))
+    (tie.spec (λ c κs. let s = start c in (s.requires.0.groups, s.requires.1))
     (λ c κs.
     let s = start c.before in
-    kept s.args.t s.args.r s.args.k c.full-reading.result c.full-reading.ensures s.pre.0 s.pre.1)
+    kept s.args.t s.args.r s.args.k c.full_reading.result c.full_reading.ensures s.requires.0 s.requires.1)
     (λ c.
     let s = start c.before.before in
-    worthy s.args.t s.args.r c.before.full-reading.result c.value_of_lem.result
-    c.before.full-reading.ensures c.value_of_lem.ensures.0 c.value_of_lem.ensures.1))
+    worthy s.args.t s.args.r c.before.full_reading.result c.value_of.result
+    c.before.full_reading.ensures c.value_of.ensures.0 c.value_of.ensures.1))
