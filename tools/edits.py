@@ -1,7 +1,7 @@
 #!/usr/bin/env python3
 """Checks that every must-fail edit applies, without proving anything: a line for each that does not and exit status 1, else a count.
 
-An edit, crates/CRATE/must-fail/NAME.edit, or by-hand/NAME.edit where the gate does not try it, is lines `file: path`, `old: text` and `new: text`; a file holds for the pairs after it, and pairs are
+An edit, crates/CRATE/must-fail/NAME.edit, is lines `file: path`, `old: text` and `new: text`; a file holds for the pairs after it, and pairs are
 made one after the other. The file is one of the crate's src/, specs/ or proofs/, the old text stands in it exactly once, and the new one is another."""
 import glob
 import os
@@ -34,10 +34,9 @@ def fault_of(edit):
 
 
 def main():
-    edits = sorted(path for folder in ("must-fail", "by-hand") for path in glob.glob(os.path.join(tree.CRATES, "*", folder, "*.edit")))
-    by_hand = sum("/by-hand/" in edit for edit in edits)
+    edits = sorted(glob.glob(os.path.join(tree.CRATES, "*", "must-fail", "*.edit")))
     findings = [f"{os.path.relpath(edit, tree.ROOT)}: {fault}" for edit, fault in ((edit, fault_of(edit)) for edit in edits) if fault]
-    print("\n".join(findings) or f"{len(edits)} must-fail edits apply, {by_hand} of them tried by hand")
+    print("\n".join(findings) or f"{len(edits)} must-fail edits apply")
     sys.exit(bool(findings))
 
 

@@ -18,7 +18,7 @@ PARTS = ("specs", "laws", "search", "proofs", "src", "edits")
 def part_of(path):
     """The crate and part of a path below crates/, or None for a program's input and output."""
     crate, _, rest = path.partition("/")
-    for start, part in (("proofs/laws", "laws"), ("specs/search", "search"), ("specs", "specs"), ("proofs", "proofs"), ("src", "src"), ("must-fail", "edits"), ("by-hand", "edits")):
+    for start, part in (("proofs/laws", "laws"), ("specs/search", "search"), ("specs", "specs"), ("proofs", "proofs"), ("src", "src"), ("must-fail", "edits")):
         if rest.startswith(start):
             return crate, part
     return None

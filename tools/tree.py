@@ -192,8 +192,7 @@ class Tree:
                         self.files[path] = antt_file(crate, path, read(os.path.join(self.root, path)))
             for path in self.paths(crate, "src/*.rt"):
                 self.files[path] = rt_file(crate, path, read(os.path.join(self.root, path)))
-        self.in_gate = {path.split("/")[0] + "/" + os.path.basename(path)[:-5] for path in self.paths("*", "must-fail/*.edit")}
-        self.edits = self.in_gate | {path.split("/")[0] + "/" + os.path.basename(path)[:-5] for path in self.paths("*", "by-hand/*.edit")}
+        self.edits = {path.split("/")[0] + "/" + os.path.basename(path)[:-5] for path in self.paths("*", "must-fail/*.edit")}
 
     def paths(self, crate, pattern):
         """Paths below crates/."""
