@@ -1,5 +1,6 @@
 // What an unfinished hand waits for, and whether it is in furiten (02, S-1).
 #![tactic(auto)]
+
 ghost use Rattle.std.specs.Prelude.{◌≡◌, ◌&&◌, true, false, cond, ℕ, suc, ◌-◌, ◌<◌, ◌≤◌, ltb, length, get_or};
 ghost use Rattle.tiles.specs.Tally.{more};
 ghost use Rattle.waits.specs.Waits.{refused_with, IsWaits};

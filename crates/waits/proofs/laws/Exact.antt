@@ -49,7 +49,7 @@ module _ (s d : List ℕ) where
       first false e = second (omega (arith, ltb-false 0 (refusal_of s) e)) (some_in d (ltb 33)) refl
 
   -- ---- and the only one
-  only : {a b : Waits} → IsWaits s d a → IsWaits s d b → a ≡ b
+  pub only : {a b : Waits} → IsWaits s d a → IsWaits s d b → a ≡ b
   only (unreadable p) (unreadable q) = refl
   only (unreadable p) (fifteen z o) = absurd (omega arith)
   only (unreadable p) (answered z n w f l e g) = absurd (omega arith)

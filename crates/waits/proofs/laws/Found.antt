@@ -120,6 +120,7 @@ module _ (x : Held) (t held : List ℕ) (w : List Bool) (l : length t ≡ 34) (e
 -- ---- one of a list
 
 member_at : (l : List ℕ) (d : ℕ) → Member d l → (i : ℕ) × (i < length l) × (get_or l i 0 ≡ d)
+member_at [] d x' = elim x' [ ]
 member_at (x ∷ l) d (Member.head e) = (0, omega arith, sym e)
 member_at (x ∷ l) d (Member.tail m) = let r = member_at l d m in (suc r.0, omega (arith, r.1), r.2)
 
