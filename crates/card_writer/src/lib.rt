@@ -1,5 +1,6 @@
 // Writes the practice cards (02, S-9): every set of 2, 5 or 8 tiles of one suit that splits into a pair and groups.
 #![tactic(auto)]
+
 ghost use Rattle.std.specs.Prelude.{◌≡◌, ◌+◌, ◌-◌, ◌≤◌, length, take};
 ghost use Rattle.card_writer.specs.Call.{is_size, refused_cards, answer_of, card_buffer};
 ghost use Rattle.text.specs.Put.{Put};
