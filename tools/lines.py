@@ -24,7 +24,7 @@ BESIDE = ("speech_", "score_readings", "claim_writer", "unfinished_writer")  # w
 CALLS = ("hb_say", "hb_reading", "hb_write_claim", "hb_write_unfinished", "hb_unfinished", "claim_within", "unfinished_within", "record_within")  # their calls, and what is said of these
 # definitions of the one answer that a theorem of an ExactlyOne.antt names: its relation says what it is, and the search that gives it is not followed
 ONE_ANSWER = {("score", "score_of"), ("score_readings", "nth_of"), ("claim", "judged_of"), ("waits", "waits_of"), ("claim_writer", "written_of"),
-              ("claim_writer", "buffer_of"), ("cards", "cards_of"), ("log_entry", "next_of")}
+              ("claim_writer", "buffer_of"), ("cards", "cards_of"), ("log_entry", "next_of"), ("ready", "fewest_swaps")}
 COLUMNS = ("definitions", "statements", "contracts", "structs")
 
 

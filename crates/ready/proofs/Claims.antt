@@ -2,8 +2,9 @@
 use Rattle.std.specs.Prelude.{◌≡◌, ◌↔◌, List, ℕ}
 use Rattle.unfinished.specs.Unfinished.{held_of, refusal_of}
 use Rattle.ready.specs.Ready.{IsReady}
-use Rattle.ready.specs.Answer.{fewest_swaps, nearest_hand}
-use Rattle.ready.specs.laws.Claims as laws
+use Rattle.ready.specs.Answer.{fewest_swaps}
+use Rattle.ready.proofs.ExactlyOne.{nearest_hand}
+use Rattle.ready.proofs.laws.Claims as laws
 
 module _ (s : List ℕ) (e : refusal_of s ≡ 0) where
   -- "0 means ready", and a ready hand is at 0

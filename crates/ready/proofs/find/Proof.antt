@@ -6,8 +6,9 @@ use Prim.Native.Nat.{ℕ}
 use Rattle.unfinished.specs.Unfinished.{refusal_of}
 use Rattle.ready.specs.declared.Ready.{Ready}
 use Rattle.ready.specs.Ready.{IsAnswer}
-use Rattle.ready.specs.Answer.{fewest_swaps, one_number}
-use Rattle.ready.specs.laws.Answer.{answer_refused, same_melds_read, answer_found}
+use Rattle.ready.specs.Answer.{fewest_swaps}
+use Rattle.ready.proofs.ExactlyOne.{one_number}
+use Rattle.ready.proofs.laws.Answer.{answer_refused, same_melds_read, answer_found}
 use Rattle.ready.proofs.find.Statement.{statement}
 use Rattle.ready.proofs.find.Tie as tie
 

@@ -4,7 +4,7 @@ use mathlib.Core.Path.{◌≡◌, refl}
 use Prim.Native.Nat.{ℕ, ◌-◌, ◌≤◌, ◌<◌}
 use native.Mathlib.Omega.{arith}
 use lib.ListN.{length, get_or}
-use Rattle.ready.specs.laws.Tallies.{filled_more, melds_left, melds_done}
+use Rattle.ready.proofs.laws.Tallies.{filled_more, melds_left, melds_done}
 use Rattle.ready.proofs.melds_tally.Statement.{statement}
 use Rattle.ready.proofs.melds_tally.Tie as tie
 

@@ -1,7 +1,7 @@
 -- `ready::nearest_to` meets its contract: the nearest tally, written out, is the nearest hand.
 use borrow.Author.Rules.{rules}
 use mathlib.Core.Path.{refl}
-use Rattle.ready.specs.laws.Nearest.{tallies_fit, nearest_found}
+use Rattle.ready.proofs.laws.Nearest.{tallies_fit, nearest_found}
 use Rattle.ready.proofs.nearest_to.Statement.{statement}
 use Rattle.ready.proofs.nearest_to.Tie as tie
 

@@ -4,7 +4,7 @@ use Prim.Native.Nat.{◌+◌, ◌-◌, ◌≤◌, ◌<◌}
 use native.Mathlib.Omega.{arith}
 use lib.ListN.{get_or}
 use Rattle.ready.specs.search.Written.{Written}
-use Rattle.ready.specs.laws.Written.{written_none, written_more, written_next, written_room, written_done}
+use Rattle.ready.proofs.laws.Written.{written_none, written_more, written_next, written_room, written_done}
 use Rattle.ready.proofs.written.Statement.{statement}
 use Rattle.ready.proofs.written.Tie as tie
 

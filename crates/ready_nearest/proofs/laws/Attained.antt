@@ -3,7 +3,7 @@ use Rattle.std.specs.Prelude.{◌≡◌, Bool, List, ltb, leb, eqb, length, repl
 use Rattle.std.proofs.Math.Path.{refl, ap}
 use Rattle.std.proofs.Common.{◌∙◌, ltb-true, ltb-false, leb-true, leb-false, eqb-true}
 use Rattle.std.proofs.Math.Bool.{true, false, cond}
-use Prim.Native.Nat.{ℕ, zero, suc, ◌+◌, ◌-◌, ◌*◌, ◌≤◌, ◌<◌, min, max}
+use Prim.Native.Nat.{ℕ, zero, suc, ◌+◌, ◌-◌, ◌≤◌, ◌<◌, min, max}
 use native.Mathlib.Omega.{arith}
 use Rattle.std.proofs.lemmas.Bool.{eqb-false}
 use Rattle.std.proofs.Math.ListN.{get_or, set, length-set}
@@ -13,6 +13,7 @@ use Rattle.reading.specs.search.Readings.{less}
 use Rattle.ready_choices.specs.search.Tallies.{HandTally, MeldsTally, NearestTally}
 use Rattle.ready_choices.specs.search.Moves.{most, state, taken, next, fine, ended, kept, worth, best}
 use Rattle.ready_nearest.specs.search.Found.{Walked, Topmost}
+use Rattle.ready_nearest.specs.search.Top.{greatest, top_start, fewest}
 use Rattle.ready_choices.proofs.laws.Sums.{total_suc, total_zero, total_cong}
 use Rattle.ready_choices.proofs.laws.Reach.{Reach, begin, move, both, worth_fine, reach_cong}
 use Rattle.ready_choices.proofs.laws.Near.{groups, seven, thirteen}
@@ -107,31 +108,35 @@ module _ (t d : List ℕ) (start : ℕ) where
 
 -- of three values: the regular hand's, seven pairs', thirteen orphans'
 top_three : (t d : List ℕ) (m a b c : ℕ) → m ≡ 0 → best t d 34 0 (state 0 0 (4 - m) 1) ≡ a → best t d 34 0 77 ≡ b → best t d 34 0 79 ≡ c
-    → (p q r : Bool) → leb b a ≡ p → leb c a ≡ q → leb c b ≡ r → (s : ℕ) × Topmost t d m s
-top_three t d m a b c z u v w true true r x y k = (
-  state 0 0 (4 - m) 1,
-  top_of t d m (state 0 0 (4 - m) 1) (groups refl) (omega (arith, start_low m)) (omega arith) (omega (arith, leb-true b a x))
-      (omega (arith, leb-true c a y)),
-)
+    → (p q r : Bool) → leb b a ≡ p → leb c a ≡ q → leb c b ≡ r → Topmost t d m (cond p (cond q (state 0 0 (4 - m) 1) 79) (cond r 77 79))
+top_three t d m a b c z u v w true true r x y k =
+    top_of t d m (state 0 0 (4 - m) 1) (groups refl) (omega (arith, start_low m)) (omega arith) (omega (arith, leb-true b a x))
+    (omega (arith, leb-true c a y))
 top_three t d m a b c z u v w true false r x y k =
-    (79, top_of t d m 79 (thirteen z refl) (omega arith) (omega (arith, leb-false c a y)) (omega (arith, leb-true b a x, leb-false c a y)) (omega arith))
+    top_of t d m 79 (thirteen z refl) (omega arith) (omega (arith, leb-false c a y)) (omega (arith, leb-true b a x, leb-false c a y)) (omega arith)
 top_three t d m a b c z u v w false q true x y k =
-    (77, top_of t d m 77 (seven z refl) (omega arith) (omega (arith, leb-false b a x)) (omega arith) (omega (arith, leb-true c b k)))
+    top_of t d m 77 (seven z refl) (omega arith) (omega (arith, leb-false b a x)) (omega arith) (omega (arith, leb-true c b k))
 top_three t d m a b c z u v w false q false x y k =
-    (79, top_of t d m 79 (thirteen z refl) (omega arith) (omega (arith, leb-false b a x, leb-false c b k)) (omega (arith, leb-false c b k)) (omega arith))
+    top_of t d m 79 (thirteen z refl) (omega arith) (omega (arith, leb-false b a x, leb-false c b k)) (omega (arith, leb-false c b k)) (omega arith)
 
-top_some : (t d : List ℕ) (m : ℕ) → m ≤ 4 → (s : ℕ) × Topmost t d m s
-top_some t d m h = go (eqb m 0) refl
+top_is : (t d : List ℕ) (m : ℕ) → m ≤ 4 → Topmost t d m (top_start t d m)
+unfolding top_start
+top_is t d m h = go (eqb m 0) refl
   where
-    go : (x : Bool) → eqb m 0 ≡ x → (s : ℕ) × Topmost t d m s
+    go : (x : Bool) → eqb m 0 ≡ x → Topmost t d m (cond x (greatest (state 0 0 (4 - m) 1) (best t d 34 0 (state 0 0 (4 - m) 1)) (best t d 34 0 77) (best t d 34 0 79)) (state 0 0 (4 - m) 1))
     go true q = top_three t d m _ _ _ (eqb-true m 0 q) refl refl refl _ _ _ refl refl refl
-    go false q = (state 0 0 (4 - m) 1, top_melded t d m h (eqb-false m 0 q))
+    go false q = top_melded t d m h (eqb-false m 0 q)
 
 -- ---- a nearest ready tally
 
-pub nearest_exists : (t d : List ℕ) (m : ℕ) → HandTally t d m → length d ≡ 34 → MeldsTally d m → (n : ℕ) × (u : List ℕ) × NearestTally t d m n u
-nearest_exists t d m h l g =
-    let (s, p) = top_some t d m g.few in
+pub nearest_fewest : (t d : List ℕ) (m : ℕ) → HandTally t d m → length d ≡ 34 → MeldsTally d m → (u : List ℕ) × NearestTally t d m (fewest t d m) u
+unfolding fewest
+nearest_fewest t d m h l g =
+    let s = top_start t d m in
+    let p = top_is t d m g.few in
     let (w, q) = walked t d s (some_complete t d m h l s p g) in
     let (k, i, a) = lesser (λ k. get_or t k 0) (λ k. get_or w k 0) 34 (tile_more t d m h l s p g w q) in
-    (14 - 3 * m - best t d 34 0 s, less w k 1, shorter_nearest t d m h l s p g w q (less w k 1) (record { kind = k; low = i; lack = a; less_one = refl }))
+    (less w k 1, shorter_nearest t d m h l s p g w q (less w k 1) (record { kind = k; low = i; lack = a; less_one = refl }))
+
+pub nearest_exists : (t d : List ℕ) (m : ℕ) → HandTally t d m → length d ≡ 34 → MeldsTally d m → (n : ℕ) × (u : List ℕ) × NearestTally t d m n u
+nearest_exists t d m h l g = let (u, q) = nearest_fewest t d m h l g in (fewest t d m, u, q)

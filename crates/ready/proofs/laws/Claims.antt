@@ -1,6 +1,6 @@
 -- What is true of every nearest hand, and that there is one.
 use Rattle.std.specs.Prelude.{◌≡◌, refl, ◌↔◌, List, ℕ, zero, suc, ◌+◌, ◌-◌, ◌*◌, ◌≤◌, ◌<◌, get_or, replicate}
-use Rattle.std.proofs.Common.{sym, subst, ⊎_elim, eq-or-lt_of_le, le_of_suc-le-suc, arith}
+use Rattle.std.proofs.Common.{sym, subst, ⊎_elim, eq-or-lt_of_le, le_of_suc-le-suc, lt-ltb, le-ltb, arith}
 use Rattle.tiles.specs.Below.{sum_below}
 use Rattle.tiles.specs.Tally.{tally_of}
 use Rattle.tiles.proofs.laws.Tally.{length_tally, get_d_tally}
@@ -9,25 +9,28 @@ use Rattle.hand.specs.Held.{in_melds, in_others}
 use Rattle.unfinished.specs.Unfinished.{held_of, refusal_of}
 use Rattle.ready_choices.specs.search.Tallies.{HandTally, WaitTally}
 use Rattle.ready_choices.proofs.laws.Sums.{total_suc, total_cong, total_none, total_le_of}
-use Rattle.ready_nearest.proofs.laws.Attained.{nearest_exists}
+use Rattle.ready_nearest.specs.search.Top.{fewest}
+use Rattle.ready_nearest.proofs.laws.Attained.{nearest_fewest}
 use Rattle.ready.specs.declared.Ready.{Ready}
 use Rattle.ready.specs.Ready.{SameMelds, IsReady, IsNearest, swaps, IsAnswer, unreadable, nearest}
+use Rattle.ready.specs.Answer.{fewest_swaps}
 use Rattle.ready.specs.search.Written.{same_melds_with}
-use Rattle.ready.specs.laws.Written.{written_exists}
-use Rattle.ready.specs.laws.Tallies.{tally_cong, same_melds, wait_tally, tally_wait, melds_tally, hand_tally_lem}
-use Rattle.ready.specs.laws.Nearest.{nearest_written}
-use Rattle.ready.specs.laws.Answer.{same_melds_self}
+use Rattle.ready.proofs.laws.Written.{written_exists}
+use Rattle.ready.proofs.laws.Tallies.{tally_cong, same_melds, wait_tally, tally_wait, melds_tally, hand_tally_lem}
+use Rattle.ready.proofs.laws.Nearest.{nearest_written}
+use Rattle.ready.proofs.laws.Answer.{same_melds_self}
 
 -- ---- there is one
 
-nearest_hand : (s : List ℕ) → refusal_of s ≡ 0 → (n : ℕ) × (y : Held) × IsNearest (held_of s) n y
+nearest_hand : (s : List ℕ) → refusal_of s ≡ 0
+    → (y : Held) × IsNearest (held_of s) (fewest (tally_of (in_others (held_of s))) (tally_of (in_melds (held_of s))) (held_of s).m) y
 nearest_hand s e =
     let x = held_of s in
     let (few, b) = same_melds_self s e in
-    let (n, u, q) = nearest_exists (tally_of (in_others x)) (tally_of (in_melds x)) x.m (hand_tally_lem x few b.sound) (length_tally (in_melds x))
+    let (u, q) = nearest_fewest (tally_of (in_others x)) (tally_of (in_melds x)) x.m (hand_tally_lem x few b.sound) (length_tally (in_melds x))
     (melds_tally x few) in
     let (i, r, w) = written_exists u (omega (arith, q.ready.hand.tiles)) in
-    (n, same_melds_with x r, nearest_written x few b u r n i q w)
+    (same_melds_with x r, nearest_written x few b u r _ i q w)
 
 -- ---- no swap
 
@@ -96,7 +99,8 @@ exactly_one s = let l : 0 ≤ refusal_of s = omega arith in ⊎_elim found refus
 
     found : 0 ≡ refusal_of s → Exactly
     found e =
-        let (n, y, q) = nearest_hand s (sym e) in
+        let (y, q) = nearest_hand s (sym e) in
+        let n = fewest (tally_of (in_others (held_of s))) (tally_of (in_melds (held_of s))) (held_of s).m in
         let a : Ready = record { refusal = 0; swaps = n; hand = y.concealed } in
         let p : IsAnswer s a = nearest (sym e) n y q in
         (a, p, λ b. only s a b p)
@@ -110,6 +114,20 @@ exactly_one s = let l : 0 ≤ refusal_of s = omega arith in ⊎_elim found refus
 pub its_refusal : (s : List ℕ) (a : Ready) → IsAnswer s a → a.refusal ≡ refusal_of s
 its_refusal s a (unreadable p) = refl
 its_refusal s a (nearest e n y q) = sym e
+
+pub fewest_hand : (s : List ℕ) → refusal_of s ≡ 0 → (y : Held) × IsNearest (held_of s) (fewest_swaps s) y
+unfolding fewest_swaps
+fewest_hand s e = rw (le-ltb 0 (refusal_of s) (omega arith)) (nearest_hand s e)
+
+pub refused_none : (s : List ℕ) → 0 < refusal_of s → fewest_swaps s ≡ 0
+unfolding fewest_swaps
+refused_none s l = rw (lt-ltb 0 (refusal_of s) l)
+
+pub its_number : (s : List ℕ) (a : Ready) → IsAnswer s a → a.swaps ≡ fewest_swaps s
+its_number s a (unreadable p) = sym (refused_none s p)
+its_number s a (nearest e n y p) =
+    let (z, q) = fewest_hand s e in
+    omega (arith, p.away, q.away, p.fewest z q.hand q.ready, q.fewest y p.hand p.ready)
 
 pub its_hand : (s : List ℕ) (a : Ready) → IsAnswer s a → refusal_of s ≡ 0 → (y : Held) × IsNearest (held_of s) a.swaps y
 its_hand s a (unreadable p) z = absurd (omega arith)

@@ -15,7 +15,7 @@ use Rattle.unfinished.proofs.laws.Sound.{clean_of, of_clean}
 use Rattle.ready_choices.specs.search.Tallies.{HandTally, ReadyTally, MeldsTally, NearestTally}
 use Rattle.ready.specs.Ready.{SameMelds, IsReady, IsNearest}
 use Rattle.ready.specs.search.Written.{same_melds_with, in_first, Written}
-use Rattle.ready.specs.laws.Tallies.{tally_cong, same_melds, tally_wait, melds_tally, hand_tally_lem, ready_tally, swaps_tally}
+use Rattle.ready.proofs.laws.Tallies.{tally_cong, same_melds, tally_wait, melds_tally, hand_tally_lem, ready_tally, swaps_tally}
 
 -- ---- a hand beside the melds of x
 
