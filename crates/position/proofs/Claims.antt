@@ -9,7 +9,7 @@ use Rattle.yaku_basics.specs.Tests.{winds}
 use Rattle.score.specs.Named.{groups_of, IsReadingOf, IsReported, scored_as}
 use Rattle.position.specs.declared.Position.{Position}
 use Rattle.position.specs.Booking.{Booking, result, riichi, win, multi_ron}
-use Rattle.position.specs.Ledger.{fresh, score_at, floor, out_of_form, not_open, hand_for, refusal_for}
+use Rattle.position.specs.Ledger.{score_at, floor, out_of_form, not_open, hand_for, refusal_for}
 use Rattle.position.specs.Ledger.{holds_four_winds, after, ledger}
 use Rattle.position.specs.Wins.{HasYaku, paid_in}
 use Rattle.position.proofs.laws.Kept as kept

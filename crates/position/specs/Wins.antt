@@ -6,7 +6,7 @@ use Rattle.reading.specs.All.{Each}
 use Rattle.yaku_basics.specs.Tests.{winds}
 use Rattle.score.specs.Named.{groups_of, IsReadingOf, ReadsWithYaku, IsReported, gain_in, scored_as}
 use Rattle.position.specs.declared.Position.{Position}
-use Rattle.position.specs.Booking.{Booking, result, win, multi_ron}
+use Rattle.position.specs.Booking.{result, win, multi_ron}
 use Rattle.hand_rons.specs.Records.{records_of, not_on_one_tile, first_winner}
 use Rattle.position.specs.Ledger.{score_at, not_open, hand_for, riichi_mismatch, payments, win_gives, multi_ron_gives, after}
 

@@ -1,7 +1,7 @@
 -- A game after an entry, by its refusal; and what an entry meets where the game is out of form.
 use Rattle.std.specs.Prelude.{◌≡◌, Bool, ◌&&◌, ◌||◌, not, ◌⊎◌, ℕ, zero, suc, ◌<◌, ◌≤◌}
 use Rattle.std.proofs.Math.Path.{refl, ap}
-use Rattle.std.proofs.Common.{sym, ◌∙◌, inl, inr, arith, lt-ltb}
+use Rattle.std.proofs.Common.{◌∙◌, inl, inr, arith, lt-ltb}
 use Rattle.std.proofs.Math.Bool.{true, false, cond}
 use Rattle.position.specs.Booking.{Result, Booking, result}
 use Rattle.position.specs.Ledger.{is_set, mark, is_over, not_open, out_of_form, refusal_for, effect_of}

@@ -10,7 +10,7 @@ use Rattle.position.proofs.laws.Kept.{fresh_kept, ledger_kept}
 use Rattle.position.proofs.laws.Lists.{fresh_score, scores_given}
 use Rattle.game.specs.declared.Game.{Game}
 use Rattle.game.specs.Game.{Entry, fresh_game, standing}
-use Rattle.game.specs.Runs.{Runs, Every}
+use Rattle.game.specs.Runs.{Runs}
 use Rattle.game.specs.Demand3.{Demand3}
 use Rattle.game.proofs.laws.Lists.{fresh_both, runs_game, runs_named, every_of}
 use Rattle.game.proofs.laws.Standing.{game_standing}

@@ -1,12 +1,12 @@
 -- What a multiple ron gives each seat: its records alone, and sticks and counters to the first winner, the counters from the discarder (02, S-6 and S-8).
-use Rattle.std.specs.Prelude.{◌≡◌, Bool, ◌&&◌, ◌+ℤ◌, length, get_or}
+use Rattle.std.specs.Prelude.{◌≡◌, Bool, ◌&&◌, ◌+ℤ◌, get_or}
 use Rattle.std.proofs.Math.Path.{refl, sym, ap}
 use Rattle.std.proofs.Common.{◌∙◌}
 use Rattle.std.proofs.Math.Bool.{true, false, cond}
 use mathlib.Core.List.{List, [], ◌∷◌}
 use Prim.Native.Nat.{ℕ, ◌+◌, ◌*◌, ◌/◌, ◌≤◌, ◌<◌}
 use native.Mathlib.Omega.{arith}
-use borrow.Author.Tests.{eqb-true, eq-eqb, ne_eqb}
+use borrow.Author.Tests.{eqb-true}
 use Rattle.std.proofs.Math.Dec.{eqb}
 use Rattle.std.proofs.Math.IntN.{ℤ, pos, neg_ℤ, nat_abs}
 use Rattle.tiles.specs.Below.{sum}
@@ -14,7 +14,7 @@ use Rattle.hand.specs.declared.Fields.{Fields}
 use Rattle.hand.specs.Hand.{is_ron}
 use Rattle.hand_record.proofs.laws.Bounds.{other_seat, read_bounds}
 use Rattle.hand_rons.specs.Records.{records_of, conflicts, not_on_one_tile, is_winner, discarder_of, first_winner, turns_after}
-use Rattle.hand_rons.proofs.laws.OneTile.{Read, AllRead, records_length_lem, winner_of, taken, rons_first, first_once}
+use Rattle.hand_rons.proofs.laws.OneTile.{Read, AllRead, winner_of, taken, rons_first, first_once}
 use Rattle.hand_rons.proofs.laws.First.{next_discarder}
 use Rattle.score.proofs.laws.Z.{add_law, neg_law, eq_parts}
 use Rattle.position.specs.declared.Position.{Position}

@@ -1,5 +1,5 @@
 -- The sticks and the declared seats after an accepted booking.
-use Rattle.std.specs.Prelude.{◌≡◌, true, ◌||◌, cond, List, [], ◌∷◌, ℕ, ◌+◌, ◌-◌, ◌≤◌, ◌<◌, ltb}
+use Rattle.std.specs.Prelude.{◌≡◌, true, ◌||◌, cond, List, ◌∷◌, ℕ, ◌+◌, ◌-◌, ◌≤◌, ◌<◌, ltb}
 use Rattle.std.proofs.Math.Path.{refl, ap}
 use Rattle.std.proofs.Common.{sym, ◌∙◌, arith, lt-ltb, eq-eqb}
 use Rattle.std.proofs.Math.Bool.{Bool, false}

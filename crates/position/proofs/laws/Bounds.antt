@@ -1,8 +1,8 @@
 -- The numbers that bound a game, and what h hands cost at most.
 use Rattle.std.specs.Prelude.{◌≡◌, refl, ℕ, zero, suc, ◌+◌, ◌-◌, ◌*◌, ◌≤◌}
 use Rattle.std.proofs.Common.{ap, arith}
-use Rattle.score.proofs.laws.Z.{up, dn}
-use Rattle.position.specs.Ledger.{starting_score, last_hand, floor}
+use Rattle.score.proofs.laws.Z.{up}
+use Rattle.position.specs.Ledger.{starting_score, last_hand}
 pub use Rattle.position.specs.search.Amounts.{amount, most_change, most_sticks, most_gift}
 pub use Rattle.position.specs.search.Form.{depth}
 

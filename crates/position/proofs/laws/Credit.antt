@@ -1,10 +1,10 @@
 -- An accepted riichi leaves the seat 0 or more.
-use Rattle.std.specs.Prelude.{◌≡◌, refl, false, ℕ, ◌+◌, ℤ, pos, ◌+ℤ◌}
-use Rattle.std.proofs.Common.{◌∙◌, arith}
+use Rattle.std.specs.Prelude.{◌≡◌, refl, false, ℕ, ℤ, pos, ◌+ℤ◌}
+use Rattle.std.proofs.Common.{arith}
 use borrow.Author.Tests.{eq-eqb}
 use Rattle.std.proofs.Math.IntN.{neg_ℤ}
 use Rattle.std.specs.Int.Signed.{lt_z}
-use Rattle.score.proofs.laws.Z.{up, dn, add_law, lt_z_false, le_lt_z}
+use Rattle.score.proofs.laws.Z.{add_law, lt_z_false, le_lt_z}
 use Rattle.position.specs.declared.Position.{Position}
 use Rattle.position.specs.Booking.{riichi}
 use Rattle.position.specs.Ledger.{score_at, refusal_for, riichi_gives, effect_of, after}

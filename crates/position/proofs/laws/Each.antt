@@ -1,7 +1,6 @@
 -- Each booking that is accepted: the position was open, and its effect is fair. Each result finishes a hand, and nothing else does.
 use Rattle.std.specs.Prelude.{◌≡◌, Bool, cond, ℕ}
 use Rattle.std.proofs.Math.Path.{refl}
-use Rattle.std.proofs.Common.{sym, ◌∙◌}
 use Rattle.std.proofs.Math.Bool.{true, false}
 use Rattle.std.proofs.lemmas.Bool.{false≢true}
 use Rattle.std.proofs.Math.Dec.{eqb}

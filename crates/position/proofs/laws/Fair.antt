@@ -8,19 +8,18 @@ use native.Mathlib.Omega.{arith}
 use Rattle.std.proofs.Math.Dec.{eqb}
 use Rattle.std.proofs.Math.IntN.{neg_ℤ}
 use Rattle.tiles.specs.Below.{any, count}
-use Rattle.tiles.proofs.laws.Below.{or_both}
 use Rattle.hand.specs.Hand.{is_ron}
 use Rattle.hand_record.proofs.laws.Bounds.{read_bounds}
 use Rattle.score.proofs.laws.Z.{up, dn, add_law, neg_law, parts_eq}
 use Rattle.score.proofs.laws.Changes.{score_within, score_child}
 use Rattle.position.specs.declared.Position.{Position}
-use Rattle.position.specs.Booking.{Booking, result, riichi, win, draw, chombo, pao}
+use Rattle.position.specs.Booking.{result, riichi, win, draw, pao}
 use Rattle.position.specs.Ledger.{last_hand, mark, is_declared, declarations, not_open, is_ready, hand_for, scored_for, ready_seats, share_of, refusal_for}
-use Rattle.position.specs.Ledger.{wrong_pao, riichi_gives, paid_by_others, owes, liable_in, whole_of, is_dealers_win, payments, holds_four_winds}
+use Rattle.position.specs.Ledger.{riichi_gives, paid_by_others, owes, liable_in, whole_of, is_dealers_win, payments, holds_four_winds}
 use Rattle.position.specs.Ledger.{win_gives, draw_gives, fine_of, chombo_gives, chombo_of, draw_of, is_at_fault, effect_of}
-use Rattle.position.proofs.laws.Bounds.{costs, worst}
+use Rattle.position.proofs.laws.Bounds.{worst}
 use Rattle.position.proofs.laws.Form.{open_of}
-use Rattle.position.proofs.laws.Accepted.{riichi_accepted, chombo_accepted, draw_accepted, win_accepted, pao_accepted}
+use Rattle.position.proofs.laws.Accepted.{riichi_accepted, draw_accepted, win_accepted, pao_accepted}
 use Rattle.position.proofs.laws.PaidByOthers.{sticks_to, paid_by_others_even, paid_by_others_dn}
 use Rattle.position.proofs.laws.Owed.{owes_le, score_paid}
 use Rattle.position.proofs.laws.Pao.{multi_ron_right, right_pao}

@@ -1,5 +1,5 @@
 -- The fines of any seats at fault: what they pay the others get; of one seat they are document 01's.
-use Rattle.std.specs.Prelude.{◌≡◌, refl, Bool, true, false, ℤ, ◌+ℤ◌}
+use Rattle.std.specs.Prelude.{◌≡◌, refl, Bool, true, false, ◌+ℤ◌}
 use Rattle.std.proofs.Math.Bool.{cond}
 use Prim.Native.Nat.{ℕ, ◌+◌, ◌-◌, ◌*◌, ◌≤◌, ◌<◌}
 use Rattle.std.proofs.Common.{arith}

@@ -1,5 +1,5 @@
 -- Several records: that what all of them give is fair, since only one of the winners deals and one takes the sticks.
-use Rattle.std.specs.Prelude.{◌≡◌, true, false, not, ◌||◌, ℤ, ◌+ℤ◌, length}
+use Rattle.std.specs.Prelude.{◌≡◌, true, false, not, ◌||◌, length}
 use Rattle.std.proofs.Math.Path.{refl}
 use Rattle.std.proofs.Common.{◌∙◌}
 use Rattle.std.proofs.Math.Bool.{Bool, cond}
@@ -16,7 +16,7 @@ use Rattle.hand_rons.proofs.laws.First.{none_before}
 use Rattle.score.proofs.laws.Z.{up, dn, add_law}
 use Rattle.position.specs.declared.Position.{Position}
 use Rattle.position.specs.Booking.{result, multi_ron}
-use Rattle.position.specs.Ledger.{not_open, refusal_for, refusals_of, is_dealers_win, win_gives, multi_ron_gives, effect_of, record_refusals}
+use Rattle.position.specs.Ledger.{not_open, refusal_for, refusals_of, is_dealers_win, win_gives, multi_ron_gives, effect_of}
 use Rattle.position.specs.search.First.{first_refused}
 use Rattle.position.proofs.laws.Form.{open_of}
 use Rattle.position.proofs.laws.Accepted.{cond_zero}

@@ -1,7 +1,7 @@
 -- A multiple ron of one record is the win of it.
-use Rattle.std.specs.Prelude.{◌≡◌, refl, Bool, true, false, ◌||◌, cond, List, [], ◌∷◌, ℕ, ltb, eqb, ℤ, pos, ◌+ℤ◌}
+use Rattle.std.specs.Prelude.{◌≡◌, refl, Bool, true, false, ◌||◌, cond, List, [], ◌∷◌, ℕ, ltb, eqb}
 use Rattle.std.proofs.Math.Path.{sym}
-use Rattle.std.proofs.Common.{ap, ◌∙◌, ltb-false, eqb-true, eq-eqb, arith}
+use Rattle.std.proofs.Common.{◌∙◌, ltb-false, arith}
 use Rattle.std.proofs.lemmas.Bool.{false≢true}
 use Rattle.std.proofs.Math.IntN.{+ℤ_idr}
 use Rattle.hand.specs.Hand.{is_ron}
@@ -13,7 +13,7 @@ use Rattle.hand_rons.proofs.laws.OneTile.{first_wins}
 use Rattle.position.specs.declared.Position.{Position}
 use Rattle.position.specs.Booking.{result, win, multi_ron}
 use Rattle.position.specs.Ledger.{refusal_for, refusals_of, win_gives, multi_ron_gives, effect_of, applied, after, record_refusals}
-use Rattle.position.specs.search.First.{win_refusal, first_refused}
+use Rattle.position.specs.search.First.{win_refusal}
 
 either : (b : Bool) → b || false ≡ b
 either true = refl

@@ -1,6 +1,6 @@
 -- Who owes what at a win: all that the others owe is the gain and 300 a counter; no seat owes more than the whole and that. The four changes of a score are
 -- what the others pay.
-use Rattle.std.specs.Prelude.{◌≡◌, Bool, List, ltb, ℤ, pos, neg_ℤ, nat_abs, ◌+ℤ◌, ◌-ℤ◌, get_or, replicate}
+use Rattle.std.specs.Prelude.{◌≡◌, Bool, List, ltb, ℤ, pos, neg_ℤ, nat_abs, ◌-ℤ◌, get_or, replicate}
 use Rattle.std.proofs.Math.Path.{refl, sym, ap}
 use Rattle.std.proofs.Common.{◌∙◌, eq-eqb, ne_eqb, eqb-true, ltb-true, ltb-false}
 use Rattle.std.proofs.Math.Bool.{true, false, cond}

@@ -9,7 +9,7 @@ use Rattle.std.proofs.Math.Dec.{ltb}
 use Rattle.hand_rons.specs.Records.{records_of, first_unreadable, not_on_one_tile}
 use Rattle.position.specs.declared.Position.{Position}
 use Rattle.position.specs.Booking.{Booking, result, riichi, win, draw, chombo, pao, multi_ron}
-use Rattle.position.specs.Ledger.{is_declared, is_over, out_of_form, not_open, lacks_stick, wrong_pao, first_of, refusals_of, refusal_for, record_refusals}
+use Rattle.position.specs.Ledger.{is_declared, is_over, out_of_form, not_open, lacks_stick, wrong_pao, first_of, refusals_of, refusal_for}
 use Rattle.position.specs.search.First.{win_refusal, first_refused}
 use Rattle.position.specs.Ledger.{effect_of, applied, after, Moves}
 

@@ -6,7 +6,7 @@ use Rattle.std.specs.Int.{w32}
 use Rattle.std.proofs.Math.Facts.{to_z_pos}
 use Rattle.tiles.specs.Below.{tabulate}
 use Rattle.score.proofs.laws.Z.{Within, neg_law, within_add, parts_mag}
-use Rattle.position.proofs.laws.Bounds.{amount, most_change, most_gift}
+use Rattle.position.proofs.laws.Bounds.{amount, most_gift}
 pub use Rattle.position.specs.search.Amounts.{Small, Changes, Gifts, paid}
 
 -- a number as it stands in 32 bits

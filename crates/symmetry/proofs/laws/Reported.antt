@@ -7,7 +7,6 @@ use Rattle.reading.specs.declared.Reading.{Reading}
 use Rattle.reading.specs.Order.{Lex}
 use Rattle.yaku_tiles.specs.OfTiles.{only, is_green}
 use Rattle.yaku.specs.Yaku.{has_yaku}
-use Rattle.points.specs.Points.{changes}
 use Rattle.score_best.specs.Best.{with_yaku, figures, Over}
 use Rattle.score.specs.declared.Scored.{Scored}
 use Rattle.score.specs.Named.{worth, IsReadingOf, ReadsWithYaku, IsReported, scored_as, refused_with, Named, reported, six, seven}

@@ -17,7 +17,7 @@ use Rattle.hand_record.specs.Record.{hand_of, read_of, IsSound, IsHand}
 use Rattle.hand_record.proofs.laws.Clean.{Clean, Accepted, of_clean}
 use Rattle.hand_record.proofs.laws.Bounds.{bounds_of}
 use Rattle.reading.specs.declared.Reading.{Reading}
-use Rattle.points.specs.Points.{gain, changes}
+use Rattle.points.specs.Points.{gain}
 use Rattle.points.specs.declared.Seats.{Seats}
 use Rattle.yaku.specs.declared.Won.{Won}
 use Rattle.yaku.specs.declared.FullReading.{FullReading}

@@ -36,10 +36,12 @@ module _ (u : Renaming) (h k : Hand) (s : Renames u h k) where
       (q ∷ qs, more m i l)
 
   reads : {rs qs : List Reading} → Images u h k rs qs → (q : Reading) → Member q qs → IsReadingOf k q
+  reads done q e = elim e [ ]
   reads (more m i l) q (Member.head e) = subst (λ (x : Reading). IsReadingOf k x) (sym e) i
   reads (more m i l) q (Member.tail n) = reads l q n
 
   has : {rs qs : List Reading} → Images u h k rs qs → (r q : Reading) → Member r rs → Image u h k r q → Member q qs
+  has done r q e j = elim e [ ]
   has (more {q = c} m i l) r q (Member.head e) j =
       Member.head (image_same u h k (rw s.m s.few) r q c j (subst (λ (x : Reading). Image u h k x c) (sym e) m))
   has (more m i l) r q (Member.tail n) j = Member.tail (has l r q n j)

@@ -13,7 +13,7 @@ use Rattle.yaku.specs.declared.Won.{Won}
 use Rattle.yaku.specs.declared.FullReading.{FullReading}
 use Rattle.yaku_tiles.specs.OfTiles.{only, honour_present, is_green}
 use Rattle.yaku.specs.Yaku.{value_han_of, pinfu, tests_of, is_yakuman, listed, yaku_of, yakuman}
-use Rattle.points.specs.Points.{basic, gain}
+use Rattle.points.specs.Points.{gain}
 use Rattle.points.specs.declared.Seats.{Seats}
 use Rattle.points_value.specs.declared.Value.{Value}
 use Rattle.points_value.specs.Han.{yaku_han, han_of}
