@@ -1,5 +1,6 @@
 // How far an unfinished hand is from ready (02, S-14): its tallies, the nearest ready tally, and that written out as tiles. It takes all input.
 #![tactic(auto)]
+
 ghost use Rattle.std.specs.Prelude.{◌≡◌, ◌≤◌, get_or};
 ghost use Rattle.tiles.specs.Below.{sum_below};
 ghost use Rattle.tiles.specs.Tally.{tally_of};

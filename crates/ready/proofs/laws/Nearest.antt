@@ -5,7 +5,7 @@ use Rattle.std.proofs.Common.{subst, ◌∙◌, arith}
 use Rattle.std.proofs.Math.Bool.{true, false, not}
 use borrow.Author.Tests.{le-ltb, eq-eqb, ltb-false}
 use Rattle.std.proofs.Math.Dec.{ltb, eqb}
-use Rattle.tiles.specs.Below.{all, all_below, any_below, count_below}
+use Rattle.tiles.specs.Below.{all, all_below, any_below}
 use Rattle.tiles.specs.Tally.{tally_of}
 use Rattle.tiles.proofs.laws.Below.{or_both, some_of, every_of}
 use Rattle.tiles.proofs.laws.Tally.{tally_ext, get_d_tally}
