@@ -1,6 +1,7 @@
 // The best reading of a tally: every reading is searched, valued and held against the best so far, up to the first yakuman, which nothing beats; or
 // the reading with a number, and how many there are.
 #![tactic(auto)]
+
 ghost use Rattle.std.specs.Prelude.{◌≡◌, false, [], ◌+◌, ◌≤◌, length, get_or};
 ghost use Rattle.reading.specs.search.Readings.{placed, shaped};
 ghost use Rattle.reading.specs.search.Folded.{folded, ranged};

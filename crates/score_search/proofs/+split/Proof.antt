@@ -1,5 +1,4 @@
 -- The proof of the cycle of calls {split}. A call has one group less to take; the codes from c on give what is left to store.
-use borrow.Author.Tests.{not-true, not-false}
 use mathlib.Core.Path.{◌≡◌, refl, sym, ap, ◌∙◌}
 use mathlib.Core.Logic.{⊎_elim}
 use mathlib.Core.List.{[], ◌∷◌}
@@ -31,10 +30,10 @@ split_at t = and 1 split-kinds.ps (is 1 split-kinds.ps μ_split t) split.Pre
 abbrev split_below : ℕ → In 1 split-kinds.ps
 split_below t = and 1 split-kinds.ps (falls 1 split-kinds.ps ◌<◌ μ_split t) split.Pre
 
-abbrev invariant_loop : split-lts.invariant_loop
+abbrev invariant_loop : split-lts.invariant-loop-c
 invariant_loop code left prefix size n out₀ t found₀ c₀ out found c = Left out₀ n (behind size prefix left code t) out found (behind size prefix left c t)
 
-abbrev decreases_loop : split-lts.decreases_loop
+abbrev decreases_loop : split-lts.decreases-loop-c
 decreases_loop code left prefix size n out₀ t found₀ c₀ out found c = 68 - c
 
 abbrev claims : ℕ → split-lts.Claims
@@ -54,38 +53,38 @@ claims t = (
 )
 
 -- at a leaf with no tile left there is one splitting, and room for it
-module _ (t : ℕ) (c : split-lts.Then2 (claims t) (split_at t) split.Post invariant_loop decreases_loop) where
+module _ (t : ℕ) (c : split-lts.Then-is_empty (claims t) (split_at t) split.Post invariant_loop decreases_loop) where
   abbrev entry : split-lts.Start (claims t) (split_at t) split.Post invariant_loop decreases_loop
   entry = let then1 = c.before.before in then1.before
 
-  leaf : let a = entry.args in behind a.size a.prefix a.left a.code a.t1 ≡ a.prefix ∷ []
-  leaf = behind_leaf _ _ _ _ _ c.before.before.if1.true (sym c.before.is-empty.ensures ∙ c.if2.true)
+  leaf : let a = entry.args in behind a.size a.prefix a.left a.code a.t ≡ a.prefix ∷ []
+  leaf = behind_leaf _ _ _ _ _ c.before.before.if-left-eq0.true (sym c.before.is_empty.ensures ∙ c.if-is_empty.true)
 
   leaf_room : entry.args.n < 3
-  leaf_room = omega (arith, entry.pre.1.2, ap length leaf)
+  leaf_room = omega (arith, entry.requires.1.2, ap length leaf)
 
 -- past the first test, from the head of the loop
-module _ (t : ℕ) (c : split-lts.At-loop (claims t) (split_at t) split.Post invariant_loop decreases_loop) where
-  abbrev else1 : split-lts.Else1 (claims t) (split_at t) split.Post invariant_loop decreases_loop
+module _ (t : ℕ) (c : split-lts.At-loop-c (claims t) (split_at t) split.Post invariant_loop decreases_loop) where
+  abbrev else1 : split-lts.Else-left-eq0 (claims t) (split_at t) split.Post invariant_loop decreases_loop
   else1 = let next-code = c.before in next-code.before.before
 
 -- what is stored once the code c is done with
-module _ (t : ℕ) (c : split-lts.Joined3 (claims t) (split_at t) split.Post invariant_loop decreases_loop) where
-  abbrev in_loop : split-lts.At-loop (claims t) (split_at t) split.Post invariant_loop decreases_loop
+module _ (t : ℕ) (c : split-lts.Joined-fits (claims t) (split_at t) split.Post invariant_loop decreases_loop) where
+  abbrev in_loop : split-lts.At-loop-c (claims t) (split_at t) split.Post invariant_loop decreases_loop
   in_loop = let fits2 = c.before in fits2.before.before
 
-  stored : let a = (else1 t in_loop).before.args in Stored in_loop.loop.out in_loop.loop.found
-      (taken a.size a.prefix a.left in_loop.loop.c a.t1) c.if3.out c.if3.found
+  stored : let a = (else1 t in_loop).before.args in Stored in_loop.loop-c.out in_loop.loop-c.found
+      (taken a.size a.prefix a.left in_loop.loop-c.c a.t) c.if-fits.out c.if-fits.found
   stored =
       ⊎_elim
       (λ w.
-      stored_at w.4 w.5
-      (stored_same (taken_with _ _ _ _ _ _ (sym c.before.fits2.ensures ∙ w.0.taken) w.1.ensures) w.3.ensures))
-      (λ w. stored_at w.1 w.2 (stored_same (sym (taken_none _ _ _ _ _ (sym c.before.fits2.ensures ∙ w.0.left))) (stored_none _ _)))
-      c.if3.branch
+      stored_at w.out-is w.found-is
+      (stored_same (taken_with _ _ _ _ _ _ (sym c.before.fits.ensures ∙ w.if-fits.true) w.without.ensures) w.split-found.ensures))
+      (λ w. stored_at w.out-is w.found-is (stored_same (sym (taken_none _ _ _ _ _ (sym c.before.fits.ensures ∙ w.if-fits.false))) (stored_none _ _)))
+      c.if-fits.branch-raw
 
-pub +split-spec : {M : Type 1} → statement M
-+split-spec = close μ_split λ t. split-lts.spec
+pub +split_spec : {M : Type 1} → statement M
++split_spec = close μ_split λ t. split-lts.spec
     (claims t)
     (split_at t)
     split.Post
@@ -96,44 +95,44 @@ pub +split-spec : {M : Type 1} → statement M
     (λ c. leaf_room t c)
     (λ c. omega (arith, leaf_room t c))
     (λ c. stored_same (sym (leaf t c)) (record { place = refl; items = refl }))
-    (λ c. stored_same (sym (behind_over _ _ _ _ _ c.before.before.if1.true (sym c.before.is-empty.ensures ∙ c.if2.false))) (stored_none _ _))
+    (λ c. stored_same (sym (behind_over _ _ _ _ _ c.before.before.if-left-eq0.true (sym c.before.is_empty.ensures ∙ c.if-is_empty.false))) (stored_none _ _))
     (λ c κs. tt)
     (λ c.
     let s = c.before.before in
-    left_same (behind_skip _ _ _ _ s.if1.false s.before.requires.1.0 _ _ c.next-code.ensures) (left_all _ _ _))
+    left_same (behind_skip _ _ _ _ s.if-left-eq0.false s.before.requires.1.0 _ _ c.next_code-c.ensures) (left_all _ _ _))
     (λ c κs. tt)
     (λ c. omega arith)
     (λ c. omega arith)
-    (λ c κs. sym c.before.fits2.ensures ∙ c.if3.true)
+    (λ c κs. sym c.before.fits.ensures ∙ c.if-fits.true)
     (λ c. omega arith)
     (λ c κs.
     let then3 = c.before.before in let fits2 = then3.before in let l = fits2.before.before in
     let s = else1 t l in
     let a = s.before.args in
-    let p = s.before.pre.1 in
-    let e = taken_with a.size a.prefix a.left l.loop.c a.t1 _ (sym fits2.fits2.ensures ∙ then3.if3.true)
+    let p = s.before.requires.1 in
+    let e = taken_with a.size a.prefix a.left l.loop-c.c a.t _ (sym fits2.fits.ensures ∙ then3.if-fits.true)
     c.before.without.ensures in
-    let r = behind_step a.size a.prefix a.left l.loop.c a.t1 s.if1.left p.0 (omega arith) in
-    (omega arith, (omega arith, p.1, left_room _ e r l.loop.invariant p.2)))
+    let r = behind_step a.size a.prefix a.left l.loop-c.c a.t s.if-left-eq0.false p.0 (omega arith) in
+    (omega arith, (omega arith, p.1, left_room _ e r l.loop-c.invariant p.2)))
     (λ c κs. omega arith)
     (λ c.
     let j = c.before.before in
     let l = in_loop t j in
     let s = else1 t l in
     left_done refl
-    (left_put (behind_stop _ _ _ _ _ s.if1.left s.before.pre.1.0 (omega (arith, j.before.before.loop-test.true))
-    (sym c.before.passes.ensures ∙ not-true _ c.if4.true))
-    l.loop.inv (stored t j)))
+    (left_put (behind_stop _ _ _ _ _ s.if-left-eq0.false s.before.requires.1.0 (omega (arith, j.before.before.loop-c-test.true))
+    (sym c.before.passes.ensures ∙ c.if-not-passes.true))
+    l.loop-c.invariant (stored t j)))
     (λ c. omega arith)
     (λ c κs. tt)
-    (λ c. omega (arith, c.next-code2.ensures.0))
+    (λ c. omega (arith, c.next_code-c-in-loop-c.ensures.0))
     (λ c.
     let q = c.before.before in
     let j = q.before.before in
     let l = in_loop t j in
     let s = else1 t l in
-    left_same (behind_skip _ _ _ _ s.if1.left s.before.pre.1.0 _ _ c.next-code2.ensures)
-    (left_put (behind_next _ _ _ _ _ s.if1.left s.before.pre.1.0 (omega (arith, j.before.before.loop-test.true))
-    (sym q.before.passes.ensures ∙ not-false _ q.if4.false))
-    l.loop.inv (stored t j)))
-    (λ c. left_done (behind_end _ _ _ _ _ (else1 t c.before).if1.left c.loop-test.false) c.before.loop.invariant)
+    left_same (behind_skip _ _ _ _ s.if-left-eq0.false s.before.requires.1.0 _ _ c.next_code-c-in-loop-c.ensures)
+    (left_put (behind_next _ _ _ _ _ s.if-left-eq0.false s.before.requires.1.0 (omega (arith, j.before.before.loop-c-test.true))
+    (sym q.before.passes.ensures ∙ q.if-not-passes.false))
+    l.loop-c.invariant (stored t j)))
+    (λ c. left_done (behind_end _ _ _ _ _ (else1 t c.before).if-left-eq0.false c.loop-c-test.false) c.before.loop-c.invariant)

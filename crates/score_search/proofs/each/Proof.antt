@@ -13,13 +13,13 @@ use Rattle.score_best.proofs.laws.Tried.{done_still}
 use Rattle.score_search.proofs.each.Statement.{statement}
 use Rattle.score_search.proofs.each.Tie as tie
 
-abbrev invariant_loop : tie.invariant-loop
+abbrev invariant_loop : tie.invariant-loop-i
 invariant_loop h pair n size win out b₀ i₀ b i =
     (i ≤ n) × (b.done ≡ false)
     × (ranged (keep_better (worth_in h)) (λ j. placed size win pair (get_or out j [])) n i b
     ≡ ranged (keep_better (worth_in h)) (λ j. placed size win pair (get_or out j [])) n 0 b₀)
 
-abbrev decreases_loop : tie.decreases-loop
+abbrev decreases_loop : tie.decreases-loop-i
 decreases_loop h pair n size win out b₀ i₀ b i = n - i
 
 pub each_spec : {M : Type 1} → statement M
@@ -29,20 +29,20 @@ each_spec =
     (λ c. (omega arith, c.requires.3, refl))
     (λ c. omega arith)
     (λ c. omega arith)
-    (λ c κs. let l = c.before.before in (l.before.requires.0, l.before.requires.2, l.loop.invariant.1))
+    (λ c κs. let l = c.before.before in (l.before.requires.0, l.before.requires.2, l.loop-i.invariant.1))
     (λ c.
     let places = c.before in
     let turn = places.before.before in
-    ranged_still (keep_better _) _ _ _ _ (done_still _ _ c.if1.true)
-    ∙ ranged_turn (keep_better _) _ _ _ _ _ turn.loop-test.true places.places.ensures
-    ∙ turn.before.loop.invariant.2)
+    ranged_still (keep_better _) _ _ _ _ (done_still _ _ c.if-b.true)
+    ∙ ranged_turn (keep_better _) _ _ _ _ _ turn.loop-i-test.true places.places-b.ensures
+    ∙ turn.before.loop-i.invariant.2)
     (λ c. omega arith)
     (λ c. omega arith)
     (λ c.
     let places = c.before in
     let turn = places.before.before in (
       omega arith,
-      c.if1.false,
-      ranged_turn (keep_better _) _ _ _ _ _ turn.loop-test.true places.places.ensures ∙ turn.before.loop.invariant.2,
+      c.if-b.false,
+      ranged_turn (keep_better _) _ _ _ _ _ turn.loop-i-test.true places.places-b.ensures ∙ turn.before.loop-i.invariant.2,
     ))
-    (λ c. ranged_done (keep_better _) _ _ _ _ c.loop-test.false ∙ c.before.loop.invariant.2))
+    (λ c. ranged_done (keep_better _) _ _ _ _ c.loop-i-test.false ∙ c.before.loop-i.invariant.2))

@@ -14,12 +14,12 @@ use Rattle.score_best.proofs.laws.Tried.{done_still}
 use Rattle.score_search.proofs.places.Statement.{statement}
 use Rattle.score_search.proofs.places.Tie as tie
 
-abbrev invariant_loop : tie.invariant-loop
+abbrev invariant_loop : tie.invariant-loop-p
 invariant_loop h pair groups size win k b₀ p₀ b p =
     (p ≤ size + 1) × (b.done ≡ false) × (ranged (keep_better (worth_in h)) (placed_at win pair groups) (size + 1) p b
     ≡ folded (keep_better (worth_in h)) b₀ (placed size win pair groups))
 
-abbrev decreases_loop : tie.decreases-loop
+abbrev decreases_loop : tie.decreases-loop-p
 decreases_loop h pair groups size win k b₀ p₀ b p = size + 1 - p
 
 pub places_spec : {M : Type 1} → statement M
@@ -33,24 +33,24 @@ places_spec =
     (λ c κs.
     let holds = c.before in let loop = holds.before.before in
     let common-of = loop.before in
-    (common-of.common-of.ensures, omega (arith, common-of.before.requires.1), loop.loop.invariant.1))
+    (common-of.common_of-k.ensures, omega (arith, common-of.before.requires.1), loop.loop-p.invariant.1))
     (λ c.
     let then1 = c.before.before in let holds = then1.before in let loop = holds.before.before in
-    ranged_still (keep_better _) _ _ _ _ (done_still _ _ c.if2.true)
+    ranged_still (keep_better _) _ _ _ _ (done_still _ _ c.if-b.true)
     ∙ ranged_turn (keep_better _) _ _ _ _ _ (omega arith)
-    (folded_with (keep_better _) _ _ _ _ (sym holds.holds.ensures ∙ then1.if1.true) c.before.keep-better-at.ensures)
-    ∙ loop.loop.invariant.2)
+    (folded_with (keep_better _) _ _ _ _ (sym holds.holds.ensures ∙ then1.if-holds.true) c.before.keep_better_at-b.ensures)
+    ∙ loop.loop-p.invariant.2)
     (λ c. omega arith)
     (λ c. omega arith)
     (λ c.
     let holds = c.before in let loop = holds.before.before in (
       omega arith,
-      ⊎_elim (λ w. rw w.3 w.2.left) (λ w. rw w.1 loop.loop.invariant.1) c.if1.branch,
+      ⊎_elim (λ w. rw w.b-is w.if-b.false) (λ w. rw w.b-is loop.loop-p.invariant.1) c.if-holds.branch-raw,
       ranged_turn (keep_better _) _ _ _ _ _ (omega arith)
           (⊎_elim
-          (λ w. w.3 ∙ folded_with (keep_better _) _ _ _ _ (sym holds.holds.ensures ∙ w.0.taken) w.1.ensures)
-          (λ w. w.1 ∙ folded_none (keep_better _) _ _ _ (sym holds.holds.ensures ∙ w.0.left))
-          c.if1.branch)
-          ∙ loop.loop.invariant.2,
+          (λ w. w.b-is ∙ folded_with (keep_better _) _ _ _ _ (sym holds.holds.ensures ∙ w.if-holds.true) w.keep_better_at-b.ensures)
+          (λ w. w.b-is ∙ folded_none (keep_better _) _ _ _ (sym holds.holds.ensures ∙ w.if-holds.false))
+          c.if-holds.branch-raw)
+          ∙ loop.loop-p.invariant.2,
     ))
-    (λ c. ranged_done (keep_better _) _ _ _ _ (omega arith) ∙ c.before.loop.invariant.2))
+    (λ c. ranged_done (keep_better _) _ _ _ _ (omega arith) ∙ c.before.loop-p.invariant.2))

@@ -22,40 +22,40 @@ use Rattle.score_best.proofs.laws.Tried.{done_still}
 use Rattle.score_search.proofs.search_for.Statement.{statement}
 use Rattle.score_search.proofs.search_for.Tie as tie
 
-abbrev invariant_loop : tie.invariant-loop
+abbrev invariant_loop : tie.invariant-loop-k
 invariant_loop h m win wanted t p b₀ k₀ b k =
     (p.last < 34) × (p.first ≤ k) × (k % 3 ≡ p.first % 3) × (b.done ≡ false)
     × (ranged (keep_better (worth_in h)) (paired t m win) 34 k b ≡ ranged (keep_better (worth_in h)) (paired t m win) 34 0 b₀)
 
-abbrev decreases_loop : tie.decreases-loop
+abbrev decreases_loop : tie.decreases-loop-k
 decreases_loop h m win wanted t p b₀ k₀ b k = 34 - k
 
 -- the tally has 34 kinds
-long : (c : tie.Start invariant_loop decreases_loop) → length c.args.t2 ≡ 34
+long : (c : tie.Start invariant_loop decreases_loop) → length c.args.t ≡ 34
 long c = search rules
 
 -- the kinds from i to j are none that can be the pair
-module _ (c : tie.After-none invariant_loop decreases_loop) where
+module _ (c : tie.After-none-b invariant_loop decreases_loop) where
   abbrev start : tie.Start invariant_loop decreases_loop
   start = let pairs-in = c.before in pairs-in.before.before
 
-  skipped : (i j : ℕ) (b : Best) → i ≤ j → ((k : ℕ) → i ≤ k → k < j → Among c.before.pairs-in.result.first c.before.pairs-in.result.last k → ⊥)
-      → let a = start.args in ranged (keep_better (worth_in a.h)) (paired a.t2 a.m a.win) 34 j b
-      ≡ ranged (keep_better (worth_in a.h)) (paired a.t2 a.m a.win) 34 i b
+  skipped : (i j : ℕ) (b : Best) → i ≤ j → ((k : ℕ) → i ≤ k → k < j → Among c.before.pairs_in-p.result.first c.before.pairs_in-p.result.last k → ⊥)
+      → let a = start.args in ranged (keep_better (worth_in a.h)) (paired a.t a.m a.win) 34 j b
+      ≡ ranged (keep_better (worth_in a.h)) (paired a.t a.m a.win) 34 i b
   skipped i j b l out =
-      ranged_skip (keep_better _) _ 34 i j b l (λ k u v. paired_out (keep_better _) _ _ _ k _ _ b (long start) c.before.pairs-in.ensures.1 (out k u v))
+      ranged_skip (keep_better _) _ 34 i j b l (λ k u v. paired_out (keep_better _) _ _ _ k _ _ b (long start) c.before.pairs_in-p.ensures.1 (out k u v))
 
 -- there is room for the splittings beside a pair
-module _ (c : tie.After-out invariant_loop decreases_loop) where
-  abbrev loop : tie.At-loop invariant_loop decreases_loop
+module _ (c : tie.After-out-1 invariant_loop decreases_loop) where
+  abbrev loop : tie.At-loop-k invariant_loop decreases_loop
   loop = let then2 = c.before.before in let then1 = then2.before in then1.before.before
 
-  few : let m = (start loop.before).args.m in 0 + length (behind (4 - m) (68 ∷ 68 ∷ 68 ∷ 68 ∷ []) (4 - m) 0 c.before.without-pair.result) ≤ 3
+  few : let m = (start loop.before).args.m in 0 + length (behind (4 - m) (68 ∷ 68 ∷ 68 ∷ 68 ∷ []) (4 - m) 0 c.before.without_pair.result) ≤ 3
   few =
       let s = start loop.before in
       let m = s.args.m in
-      let u = c.before.without-pair in
-      let l : length u.result ≡ 34 = rw u.ensures (less_long s.args.t2 _ 2 (long s)) in
+      let u = c.before.without_pair in
+      let l : length u.result ≡ 34 = rw u.ensures (less_long s.args.t _ 2 (long s)) in
       omega (arith, behind_three (4 - m) (68 ∷ 68 ∷ 68 ∷ 68 ∷ []) (4 - m) 0 u.result (omega arith) l)
 
 pub search_for_spec : {M : Type 1} → statement M
@@ -66,36 +66,36 @@ search_for_spec =
     (λ c κs. long c.before)
     (λ c κs. search rules)
     (λ c. (
-      c.before.pairs-in.ensures.0,
+      c.before.pairs_in-p.ensures.0,
       omega arith,
       omega arith,
-      none_going _ c.none.result c.none.ensures,
+      none_going _ c.none-b.result c.none-b.ensures,
       skipped c 0 _ _ (omega arith) (λ k u v a. omega arith),
     ))
     (λ c. search rules)
     (λ c. search rules)
     (λ c. search rules)
-    (λ c κs. c.if2.taken)
+    (λ c κs. c.if-t-k-ge2.true)
     (λ c. omega arith) (λ c. omega arith) (λ c. omega arith) (λ c. omega arith)
     (λ c κs. (omega arith, omega arith, few c))
     (λ c. omega arith)
     (λ c κs.
     let l = loop c.before in
-    ((start l.before).pre.0, omega (arith, c.split.ensures.place, few c.before), omega arith, l.loop.inv.3))
+    ((start l.before).requires.0, omega (arith, c.split-n.ensures.place, few c.before), omega arith, l.loop-k.invariant.3))
     (λ c.
     let split = c.before.before in
     let out = split.before in
     let then2 = out.before.before in
     let l = loop out in
     let s = start l.before in
-    let still = done_still _ _ c.if3.true in
-    rw (← l.before.none.ensures)
+    let still = done_still _ _ c.if-b.true in
+    rw (← l.before.none-b.ensures)
     (readings_with (keep_better _) _ _ _ _ _ _
     (ranged_still (keep_better _) _ _ _ _ still
-    ∙ ranged_turn (keep_better _) _ _ _ _ _ (omega (arith, then2.before.if1.true, l.loop.inv.0))
-    (paired_with (keep_better _) _ _ _ _ _ _ _ _ _ _ (long s) s.pre.1 then2.if2.true out.before.without-pair.ensures refl
-    split.split.ensures c.before.each.ensures)
-    ∙ l.loop.inv.4)
+    ∙ ranged_turn (keep_better _) _ _ _ _ _ (omega (arith, then2.before.loop-k-test.true, l.loop-k.invariant.0))
+    (paired_with (keep_better _) _ _ _ _ _ _ _ _ _ _ (long s) s.requires.1 then2.if-t-k-ge2.true out.before.without_pair.ensures refl
+    split.split-n.ensures c.before.each-b.ensures)
+    ∙ l.loop-k.invariant.4)
     (folded_still (keep_better _) _ still _)))
     (λ c. omega arith)
     (λ c. omega arith)
@@ -103,25 +103,25 @@ search_for_spec =
     let then1 = c.before in
     let l = then1.before.before in
     let s = start l.before in (
-      l.loop.invariant.0,
-      omega (arith, l.loop.invariant.1),
-      omega (arith, l.loop.invariant.2),
-      ⊎_elim (λ w. rw w.6 w.5.left) (λ w. rw w.1 l.loop.invariant.3) c.if2.branch,
-      skipped l.before (l.loop.k + 1) (l.loop.k + 3) _ (omega arith) (λ k u v a. omega (arith, l.loop.invariant.2))
+      l.loop-k.invariant.0,
+      omega (arith, l.loop-k.invariant.1),
+      omega (arith, l.loop-k.invariant.2),
+      ⊎_elim (λ w. rw w.b-is w.if-b.false) (λ w. rw w.b-is l.loop-k.invariant.3) c.if-t-k-ge2.branch-raw,
+      skipped l.before (l.loop-k.k + 1) (l.loop-k.k + 3) _ (omega arith) (λ k u v a. omega (arith, l.loop-k.invariant.2))
           ∙ ranged_turn (keep_better _) _ _ _ _ _ (omega arith)
           (⊎_elim
-          (λ w. w.6 ∙ paired_with (keep_better _) _ _ _ _ _ _ _ _ _ _ (long s) s.pre.1 w.0.taken w.1.ensures refl w.3.ensures
-          w.4.ensures)
-          (λ w. w.1 ∙ paired_none (keep_better _) _ _ _ _ _ w.0.left)
-          c.if2.branch)
-          ∙ l.loop.invariant.4,
+          (λ w. w.b-is ∙ paired_with (keep_better _) _ _ _ _ _ _ _ _ _ _ (long s) s.requires.1 w.if-t-k-ge2.true w.without_pair.ensures refl w.split-n.ensures
+          w.each-b.ensures)
+          (λ w. w.b-is ∙ paired_none (keep_better _) _ _ _ _ _ w.if-t-k-ge2.false)
+          c.if-t-k-ge2.branch-raw)
+          ∙ l.loop-k.invariant.4,
     ))
-    (λ c κs. let l = c.before.before in ((start l.before).pre.0, l.loop.invariant.3))
+    (λ c κs. let l = c.before.before in ((start l.before).requires.0, l.loop-k.invariant.3))
     (λ c.
     let left1 = c.before in
     let l = left1.before.before in
-    rw (← l.before.none.ensures)
+    rw (← l.before.none-b.ensures)
     (readings_with (keep_better _) _ _ _ _ _ _
-    (ranged_done (keep_better _) _ 34 (l.loop.k + 34) _ (omega arith)
-    ∙ skipped l.before l.loop.k (l.loop.k + 34) _ (omega arith) (λ k u v a. omega (arith, left1.if1.false))
-    ∙ l.loop.invariant.4) c.shapes.ensures)))
+    (ranged_done (keep_better _) _ 34 (l.loop-k.k + 34) _ (omega arith)
+    ∙ skipped l.before l.loop-k.k (l.loop-k.k + 34) _ (omega arith) (λ k u v a. omega (arith, left1.loop-k-test.false))
+    ∙ l.loop-k.invariant.4) c.shapes.ensures)))
