@@ -1,5 +1,5 @@
 -- The readings of a hand in document 01's order (02, S-4): the one list of them all.
-use Rattle.std.specs.Prelude.{List, ◌≡◌, ℕ, length}
+use Rattle.std.specs.Prelude.{List, ◌≡◌, length}
 use Rattle.tiles.proofs.laws.Tally.{length_tally}
 use Rattle.hand.specs.declared.Hand.{Hand}
 use Rattle.hand.specs.Hand.{in_concealed, concealed_tally}

@@ -1,6 +1,7 @@
 // Score: a record, the dealer and the round wind give the best reading's h, fu with its items, yaku and four changes, and how many readings were
 // tried, or a refusal (01, Score; 02, S-3 and S-4).
 #![tactic(auto)]
+
 ghost use Rattle.std.specs.Prelude.{◌≡◌, false, cond, ◌-◌, ◌<◌, ◌≤◌, ltb, get_or};
 ghost use Rattle.hand.specs.Hand.{concealed_tally};
 ghost use Rattle.hand.specs.Refusals.{wrong_discarder};

@@ -55,10 +55,10 @@ hand_common_of_spec =
     let won = tests.before.before in
     let start = won.before in
     let a = start.args in
-    let w = won.won_of_lem in
+    let w = won.won_of-won in
     let v = winds a.h a.dealer a.wind w.result w.ensures start.requires.3 in (
       made a.h a.dealer a.wind w.result w.ensures
-          tests.tile-tests.result codes.meld-codes.result ways.meld-ways.result c.dora.result
-          tests.tile-tests.ensures codes.meld-codes.ensures ways.meld-ways.ensures c.dora.ensures.0,
-      record { tests = tests.tile-tests.ensures; round = v.0; own = v.1; dora = c.dora.ensures.1 },
+          tests.tile_tests-tests.result codes.meld_codes-codes.result ways.meld_ways-ways.result c.dora.result
+          tests.tile_tests-tests.ensures codes.meld_codes-codes.ensures ways.meld_ways-ways.ensures c.dora.ensures.0,
+      record { tests = tests.tile_tests-tests.ensures; round = v.0; own = v.1; dora = c.dora.ensures.1 },
     )))

@@ -1,5 +1,5 @@
 -- What the search kept of a hand's readings, over all that are readings.
-use Rattle.std.specs.Prelude.{ℕ, ◌<◌, ◌≡◌, Bool}
+use Rattle.std.specs.Prelude.{ℕ, ◌≡◌, Bool}
 use Rattle.std.proofs.Math.Path.{refl, ap}
 use Rattle.std.proofs.Common.{◌∙◌}
 use Rattle.std.proofs.Math.Bool.{true, false}
@@ -18,7 +18,7 @@ use Rattle.score_best.specs.Best.{with_yakuman, up_to}
 use Rattle.score_best.specs.search.Best.{none_of, keep_better_by, best_of}
 use Rattle.score_best.proofs.laws.First.{Kept, MayEnd, kept_all, kept_same}
 use Rattle.score_best.proofs.laws.Tried.{tried_all}
-use Rattle.score.specs.Readings.{all_kinds, readings_of}
+use Rattle.score.specs.Readings.{all_kinds}
 use Rattle.score.proofs.laws.Readings.{only_readings}
 use Rattle.score.specs.Named.{worth, seats_of, IsReadingOf, refused_with, accepted_as, tried_in}
 use Rattle.score.specs.search.HandScore.{hand_score_by, kept_of, hand_score_of}

@@ -8,7 +8,7 @@ use Rattle.hand_record.specs.declared.Answer.TheVariants.{Sound, Refused}
 use Rattle.hand_record.specs.Record.{refusal_in, hand_of, read_of}
 use Rattle.hand_record.proofs.laws.Bounds.{refused_number}
 use Rattle.score.specs.declared.Scored.{Scored}
-use Rattle.score.specs.Named.{refused_with, Named}
+use Rattle.score.specs.Named.{refused_with}
 use Rattle.score.specs.IsScore.{IsScore, eight, unreadable, read}
 use Rattle.score.specs.search.HandScore.{found_by, found_of}
 use Rattle.score.proofs.laws.Paid.{read_paid}
@@ -28,7 +28,7 @@ module _ (s : List ℕ) (dealer wind : ℕ) where
   by_seats false true p q = eight (inr (ltb-true 1 wind q))
   by_seats false false p q = by_answer (ltb-false 3 dealer p) (ltb-false 1 wind q) (read_of s).answer refl
 
-  found_is : IsScore s dealer wind (found_of s dealer wind)
+  pub found_is : IsScore s dealer wind (found_of s dealer wind)
   unfolding found_of
   found_is = by_seats (ltb 3 dealer) (ltb 1 wind) refl refl
 
@@ -45,7 +45,7 @@ module _ (s : List ℕ) (dealer wind : ℕ) where
       let z : n ≡ 0 = ap refusal_in (sym p ∙ q) in
       absurd (omega (arith, refused_number s n p))
 
-  only : {x y : Scored} → IsScore s dealer wind x → IsScore s dealer wind y → x ≡ y
+  pub only : {x y : Scored} → IsScore s dealer wind x → IsScore s dealer wind y → x ≡ y
   only (eight o) (eight p) = refl
   only (eight o) (unreadable d w n e) = over o d w
   only (eight o) (read d w f e m) = over o d w

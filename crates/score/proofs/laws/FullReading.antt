@@ -13,7 +13,7 @@ use Rattle.tiles.proofs.laws.Tabulate.{get_d_tabulate}
 use Rattle.hand.specs.declared.Hand.{Hand}
 use Rattle.hand.specs.Hand.{is_ron, concealed_tally}
 use Rattle.reading.specs.declared.Reading.{Reading}
-use Rattle.reading.specs.Reading.{Ascends, of_shape, IsReading, regular, pairs, orphans}
+use Rattle.reading.specs.Reading.{Ascends, regular, pairs, orphans}
 use Rattle.reading.specs.search.Readings.{readings}
 use Rattle.reading.proofs.SearchClaims.{readings_sound}
 use Rattle.reading.proofs.laws.Groups.{group_in}

@@ -1,5 +1,5 @@
 -- The items of fu in a score.
-use Rattle.std.specs.Prelude.{ℕ, ◌<◌, ◌≡◌, refl, false, List, get_or}
+use Rattle.std.specs.Prelude.{ℕ, ◌<◌, ◌≡◌, false, List, get_or}
 use Rattle.tiles.specs.Kinds.{dora_of}
 use Rattle.tiles.proofs.laws.Tabulate.{get_d_tabulate}
 use Rattle.hand.specs.declared.Hand.{Hand}

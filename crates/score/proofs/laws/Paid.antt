@@ -1,10 +1,8 @@
 -- Where a ron is from another seat a yakuman is paid, so that none beats it and the first in the order is reported.
 use Rattle.std.specs.Prelude.{ℕ, ◌+◌, ◌*◌, ◌≤◌, ◌<◌, ◌≡◌, refl, Bool, true, false, cond, List, ◌⊎◌, eqb}
-use Rattle.std.proofs.Common.{sym, arith}
+use Rattle.std.proofs.Common.{arith}
 use Rattle.std.proofs.Math.Logic.{inl, inr, ⊎_elim}
-use Rattle.std.proofs.lemmas.Bool.{eqb-false}
 use Rattle.tiles.specs.Kinds.{dora_of}
-use Rattle.hand.specs.declared.Fields.{Fields}
 use Rattle.hand.specs.declared.Hand.{Hand}
 use Rattle.hand.specs.Hand.{is_ron}
 use Rattle.hand.specs.Refusals.{wrong_discarder}

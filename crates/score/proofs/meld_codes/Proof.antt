@@ -11,4 +11,4 @@ meld_codes_spec =
     (tie.spec (λ c κs. search rules) (λ c κs. search rules) (λ c κs. search rules) (λ c κs. search rules)
     (λ c.
     let code-at2 = c.before.before in
-    rw (c.code-at4.ensures, c.before.code-at3.ensures, code-at2.code-at2.ensures, code-at2.before.code_at.ensures)))
+    rw (c.code_at-4.ensures, c.before.code_at-3.ensures, code-at2.code_at-2.ensures, code-at2.before.code_at.ensures)))

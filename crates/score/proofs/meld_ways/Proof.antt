@@ -11,4 +11,4 @@ meld_ways_spec =
     (tie.spec (λ c κs. search rules) (λ c κs. search rules) (λ c κs. search rules) (λ c κs. search rules)
     (λ c.
     let way-at2 = c.before.before in
-    rw (c.way-at4.ensures, c.before.way-at3.ensures, way-at2.way-at2.ensures, way-at2.before.way_at.ensures)))
+    rw (c.way_at-4.ensures, c.before.way_at-3.ensures, way-at2.way_at-2.ensures, way-at2.before.way_at.ensures)))

@@ -15,41 +15,41 @@ four : (c : tie.Start) → length c.args.h.held.melds ≡ 4
 four c = search rules
 
 -- the tally and the start, from what the search kept
-abbrev tallied : tie.After-search-for → tie.After-concealed-tally
+abbrev tallied : tie.After-search_for-b → tie.After-concealed_tally-c
 tallied c = c.before.before
 
-abbrev from_searched : tie.After-search-for → tie.Start
+abbrev from_searched : tie.After-search_for-b → tie.Start
 from_searched c = (tallied c).before
 
 -- what the search kept
-kept : (c : tie.After-search-for) → let a = (from_searched c).args in c.search-for.result ≡ kept_of a.h a.dealer a.wind
+kept : (c : tie.After-search_for-b) → let a = (from_searched c).args in c.search_for-b.result ≡ kept_of a.h a.dealer a.wind
 kept c =
     let common = c.before in
     let tally = tallied c in
     let start = tally.before in
     let a = start.args in
-    kept_in a.h start.pre.0 (four start) a.dealer a.wind
-    common.hand-common-of.result tally.concealed_tally_lem.result c.search-for.result
-    common.hand-common-of.ensures.0 tally.concealed_tally_lem.ensures c.search-for.ensures
+    kept_in a.h start.requires.0 (four start) a.dealer a.wind
+    common.hand_common_of-t.result tally.concealed_tally-c.result c.search_for-b.result
+    common.hand_common_of-t.ensures.0 tally.concealed_tally-c.ensures c.search_for-b.ensures
 
 -- a yakuman is paid
 paid : (c : tie.Start) → Paid c.args.h c.args.dealer
 paid c = paid_of_lem c.args.h c.args.dealer c.requires.1 c.requires.2 c.requires.4 c.requires.5
 
 -- the search, from where it is known to have tried a reading
-abbrev searched : tie.Then1 → tie.After-search-for
+abbrev searched : tie.Then-b-gt0 → tie.After-search_for-b
 searched c = c.before.before
 
 pub score_hand_spec : {M : Type 1} → statement M
 score_hand_spec =
     tie.close
     (tie.spec (λ c κs. search rules) (λ c κs. search rules)
-    (λ c κs. (c.hand-common-of.ensures.1, c.before.before.requires.0))
+    (λ c κs. (c.hand_common_of-t.ensures.1, c.before.before.requires.0))
     (λ c κs.
     let two = c.before.before in
     let b = searched two.before in
     let a = (from_searched b).args in
-    basic_kept a.h a.dealer a.wind b.search-for.result (kept b))
+    basic_kept a.h a.dealer a.wind b.search_for-b.result (kept b))
     (λ c.
     let seats = c.before.before in
     let two = seats.before in
@@ -58,8 +58,8 @@ score_hand_spec =
     let start = from_searched b in
     let a = start.args in
     hand_score_named a.h a.dealer a.wind (paid start) _
-    (c.accepted.ensures ∙ hand_score_accepted a.h a.dealer a.wind b.search-for.result (kept b) common.hand-common-of.result
-    common.hand-common-of.ensures.0 two.before.if1.true two.if2.true))
+    (c.accepted.ensures ∙ hand_score_accepted a.h a.dealer a.wind b.search_for-b.result (kept b) common.hand_common_of-t.result
+    common.hand_common_of-t.ensures.0 two.before.if-b-gt0.true two.if-b.true))
     (λ c κs. search rules)
     (λ c.
     let one = c.before.before in
@@ -67,7 +67,7 @@ score_hand_spec =
     let start = from_searched b in
     let a = start.args in
     hand_score_named a.h a.dealer a.wind (paid start) _
-    (c.refused.ensures ∙ hand_score_seven a.h a.dealer a.wind b.search-for.result (kept b) one.if1.true c.before.if2.false))
+    (c.refused.ensures ∙ hand_score_seven a.h a.dealer a.wind b.search_for-b.result (kept b) one.if-b-gt0.true c.before.if-b.false))
     (λ c κs. search rules)
     (λ c.
     let none = c.before in
@@ -75,4 +75,4 @@ score_hand_spec =
     let start = from_searched b in
     let a = start.args in
     hand_score_named a.h a.dealer a.wind (paid start) _
-    (c.refused2.ensures ∙ hand_score_six a.h a.dealer a.wind b.search-for.result (kept b) none.if1.false)))
+    (c.refused-2.ensures ∙ hand_score_six a.h a.dealer a.wind b.search_for-b.result (kept b) none.if-b-gt0.false)))

@@ -8,5 +8,5 @@ pub way_at_spec : {M : Type 1} → statement M
 way_at_spec =
     tie.close
     (tie.spec (λ c. search rules) (λ c. search rules) (λ c. search rules) (λ c κs. search rules)
-    (λ c. rw (lt-ltb _ _ c.if1.true))
-    (λ c. rw (le-ltb _ _ c.before.if1.false) c.meld-way.ensures))
+    (λ c. rw (lt-ltb _ _ c.if-i-free.true))
+    (λ c. rw (le-ltb _ _ c.before.if-i-free.false) c.meld_way.ensures))

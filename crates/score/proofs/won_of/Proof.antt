@@ -12,4 +12,4 @@ won_of_spec =
     (λ c.
     let closed = c.before in
     let own = closed.before.before in
-    rw (closed.is-closed.ensures, own.before.with-melds.ensures)))
+    rw (closed.is_closed.ensures, own.before.with_melds-t.ensures)))
