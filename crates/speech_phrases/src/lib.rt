@@ -1,5 +1,6 @@
 // The parts of what the handset says, written one after the other into a buffer with room for the work (SPEECH, Messages).
 #![tactic(auto)]
+
 ghost use Rattle.std.specs.Prelude.{◌≡◌, [], ◌∷◌, ◌+◌, ◌≤◌, length};
 ghost use Rattle.text.specs.Put.{Put};
 ghost use Rattle.speech_told.specs.Phrases.{player as player_of, yaku_clips, limit_clips, worth_clips, amount_clips, pays_clips, payments_clips, counted_clips};

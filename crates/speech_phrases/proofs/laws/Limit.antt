@@ -1,5 +1,5 @@
 -- Where a limit is paid, by the fu that it takes at each h.
-use Rattle.std.specs.Prelude.{◌≡◌, refl, Bool, true, false, ◌||◌, cond, [], ◌∷◌, ℕ, ◌*◌, ◌≤◌, ◌<◌, ltb, leb}
+use Rattle.std.specs.Prelude.{◌≡◌, refl, true, false, cond, [], ◌∷◌, ℕ, ◌*◌, ◌≤◌, ◌<◌, ltb}
 use Rattle.std.proofs.Common.{arith}
 use borrow.Author.Tests.{lt-ltb, le-ltb, ltb-true, le-leb, lt-leb}
 use Rattle.points.specs.Points.{plain}
