@@ -1,5 +1,6 @@
 // Whether a position is open (01, The game, refusal 9; 02, S-5 and S-8): marked over, at its last hand, or out of form. Any value of the struct may be given.
 #![tactic(auto)]
+
 ghost use Rattle.std.specs.Prelude.{◌≡◌, false, ◌≤◌, pos, get_or};
 ghost use Rattle.std.specs.Int.Signed.{lt_z};
 ghost use Rattle.tiles.specs.Below.{any, count, tabulate};

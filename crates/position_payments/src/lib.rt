@@ -1,5 +1,6 @@
 // What a riichi, a draw, a chombo and a win give each of the four seats, or take (01, Ledger; 02, S-5, S-7 and S-8). No sum wraps.
 #![tactic(auto)]
+
 ghost use Rattle.std.specs.Prelude.{◌≡◌, true, false, ◌||◌, cond, ◌+◌, ◌-◌, ◌*◌, ◌/◌, ◌≤◌, eqb, pos, neg_ℤ, ◌+ℤ◌, get_or};
 ghost use Rattle.tiles.specs.Below.{count, tabulate};
 ghost use Rattle.score.specs.search.Parts.{Within};

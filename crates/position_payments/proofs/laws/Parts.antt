@@ -1,7 +1,7 @@
 -- The two parts of a win's payments: what each gives a seat, so that no sum is made; who pays the counters alone; and that they are what the table says.
-use Rattle.std.specs.Prelude.{◌≡◌, Bool, ◌||◌, ℤ, pos, neg_ℤ, ◌+ℤ◌}
+use Rattle.std.specs.Prelude.{◌≡◌, Bool, ◌||◌, pos, neg_ℤ, ◌+ℤ◌}
 use Rattle.std.proofs.Math.Path.{refl}
-use Rattle.std.proofs.Common.{sym, ap, ◌∙◌, ltb-true, lt-ltb}
+use Rattle.std.proofs.Common.{ap, ◌∙◌, ltb-true, lt-ltb}
 use Rattle.std.proofs.Math.Bool.{true, false, cond}
 use Prim.Native.Nat.{ℕ, zero, suc, ◌+◌, ◌-◌, ◌*◌, ◌/◌, ◌≤◌, ◌<◌}
 use native.Mathlib.Omega.{arith}
