@@ -1,6 +1,7 @@
 // How an accepted booking moves a position (01, The game; 02, S-5, S-7 and S-8): a hand is finished, by a chombo too, a seat puts its stick, or a feeder
 // is named. The position is open, so that no sum wraps.
 #![tactic(auto)]
+
 ghost use Rattle.std.specs.Prelude.{◌≡◌, false, ◌||◌, ◌+◌, ◌≤◌, eqb, get_or, set};
 ghost use Rattle.tiles.specs.Below.{tabulate};
 ghost use Rattle.position.specs.Booking as Booking;

@@ -8,7 +8,7 @@ use Rattle.tiles.specs.Below.{any, count, tabulate}
 use Rattle.tiles.proofs.laws.Tabulate.{get_d_tabulate}
 use Rattle.position.specs.declared.Position.{Position}
 use Rattle.position.specs.Booking.{result, riichi, draw, pao}
-use Rattle.position.specs.Ledger.{last_hand, mark, is_declared, feeder_index, is_ready, share_of, finishing, riichi_gives, draw_gives, fine_of, chombo_gives, chombo_of}
+use Rattle.position.specs.Ledger.{last_hand, mark, is_declared, feeder_index, is_ready, share_of, riichi_gives, draw_gives, fine_of, chombo_gives, chombo_of}
 use Rattle.position.specs.Ledger.{is_at_fault, effect_of, applied}
 use Rattle.position.proofs.laws.Form.{Open}
 use Rattle.position.proofs.laws.Sums.{paid}
