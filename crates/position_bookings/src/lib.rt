@@ -1,5 +1,6 @@
 // Riichi, pao, draw and chombo in a position, by value. Any value of the struct may be given; no sum wraps.
 #![tactic(auto)]
+
 ghost use Rattle.std.specs.Prelude.{◌≡◌, false, ◌&&◌, not, ◌≤◌, eqb, pos, get_or};
 ghost use Rattle.std.specs.Int.Signed.{lt_z};
 ghost use Rattle.tiles.specs.Below.{any, tabulate};
