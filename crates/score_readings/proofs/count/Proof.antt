@@ -12,21 +12,21 @@ pub count_spec : {M : Type 1} → statement M
 count_spec =
     tie.close
     (tie.spec
-    (λ c. count_eight _ _ _ c.if1.true)
+    (λ c. count_eight _ _ _ c.if-dealer-wind.true)
     (λ c κs. search rules) (λ c. search rules) (λ c. search rules) (λ c κs. search rules)
     (λ c.
     let told = c.before in let r = told.before.before in
     let else1 = r.before in let a = else1.before.before.args in
-    count_refused a.s.now a.dealer a.wind r.read.result else1.if1.false r.read.ensures
-    _ c.refusal.result told.enum_told.given.1 c.refusal.ensures)
+    count_refused a.s.now a.dealer a.wind r.read-r.result else1.if-dealer-wind.false r.read-r.ensures
+    _ c.refusal.result told.in_default.is c.refusal.ensures)
     (λ c κs.
-    let sound = c.before.before in let r = sound.before.before in
+    let sound = c.before in let r = sound.before in
     let else1 = r.before in let a = else1.before.before.args in
-    let q = or_both (ltb 3 a.dealer) (ltb 1 a.wind) else1.if1.false in
-    let b = hand_bounds a.s.now r.read.result r.read.ensures _ sound.a.given.1 in
+    let q = or_both (ltb 3 a.dealer) (ltb 1 a.wind) else1.if-dealer-wind.false in
+    let b = hand_bounds a.s.now r.read-r.result r.read-r.ensures _ sound.in-Sound.is in
     (b.few, b.winner, ltb-false 3 a.dealer q.0, ltb-false 1 a.wind q.1))
     (λ c.
-    let held = c.before in let sound = held.before.before in let r = sound.before.before in
+    let held = c.before in let sound = held.before in let r = sound.before in
     let else1 = r.before in let a = else1.before.before.args in
-    count_sound a.s.now a.dealer a.wind r.read.result else1.if1.false r.read.ensures
-    _ c.count-hand.result sound.a.given.1 c.count-hand.ensures))
+    count_sound a.s.now a.dealer a.wind r.read-r.result else1.if-dealer-wind.false r.read-r.ensures
+    _ c.count_hand.result sound.in-Sound.is c.count_hand.ensures))

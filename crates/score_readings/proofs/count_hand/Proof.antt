@@ -16,12 +16,12 @@ pub count_hand_spec : {M : Type 1} → statement M
 count_hand_spec =
     tie.close
     (tie.spec (λ c κs. search rules) (λ c κs. search rules)
-    (λ c κs. (c.hand-common-of.ensures.1, c.before.before.requires.0))
+    (λ c κs. (c.hand_common_of-t.ensures.1, c.before.before.requires.0))
     (λ c.
     let t = c.before in
     let y = t.before in
     let start = y.before in
     let a = start.args in
-    counts_all a.h a.dealer a.wind 1 (omega arith) c.search-for.result
-    (search_in a.h start.requires.0 (four start) a.dealer a.wind t.hand-common-of.result y.concealed_tally_lem.result c.search-for.result
-    t.hand-common-of.ensures.0 y.concealed_tally_lem.ensures 1 c.search-for.ensures)))
+    counts_all a.h a.dealer a.wind 1 (omega arith) c.search_for-b.result
+    (search_in a.h start.requires.0 (four start) a.dealer a.wind t.hand_common_of-t.result y.concealed_tally-c.result c.search_for-b.result
+    t.hand_common_of-t.ensures.0 y.concealed_tally-c.ensures 1 c.search_for-b.ensures)))

@@ -8,5 +8,5 @@ use Rattle.score_readings.proofs.dora_in.Tie as tie
 pub dora_in_spec : {M : Type 1} → statement M
 dora_in_spec =
     tie.close
-    (tie.spec (λ c. rw c.if1.true) (λ c. search rules) (λ c. search rules) (λ c κs. search rules)
-    (λ c. let tally = c.before.before in rw tally.before.if1.false (ap han c.han-of.ensures.0)))
+    (tie.spec (λ c. rw c.if-yakuman.true) (λ c. search rules) (λ c. search rules) (λ c κs. search rules)
+    (λ c. let tally = c.before.before in rw tally.before.if-yakuman.false (ap han c.han_of.ensures.0)))

@@ -64,7 +64,7 @@ module _ (s : List ℕ) (dealer wind n : ℕ) where
   by_seats false true p q = eight (inr (ltb-true 1 wind q))
   by_seats false false p q = by_answer (ltb-false 3 dealer p) (ltb-false 1 wind q) (read_of s).answer refl
 
-  found_is : IsNth s dealer wind n (found_of s dealer wind n)
+  pub found_is : IsNth s dealer wind n (found_of s dealer wind n)
   unfolding found_of
   found_is = by_seats (ltb 3 dealer) (ltb 1 wind) refl refl
 
@@ -84,7 +84,7 @@ module _ (s : List ℕ) (dealer wind n : ℕ) where
   outside : {A : Type 0} → (n ≡ 0) ⊎ (length (readings_of h) < n) → 1 ≤ n → n ≤ length (readings_of h) → A
   outside o a l = absurd (⊎_elim (λ x. omega arith) (λ x. omega arith) o)
 
-  only : {x y : NthReading} → IsNth s dealer wind n x → IsNth s dealer wind n y → x ≡ y
+  pub only : {x y : NthReading} → IsNth s dealer wind n x → IsNth s dealer wind n y → x ≡ y
   only (eight o) (eight p) = refl
   only (eight o) (unreadable d w k e) = over o d w
   only (eight o) (no_such d w f e z) = over o d w

@@ -16,23 +16,23 @@ nth_spec =
     (tie.spec (λ c κs. search rules)
     (λ c.
     let then1 = c.before in let a = then1.before.before.args in
-    both a.s.now a.dealer a.wind a.n _ (c.refused.ensures ∙ found_eight _ _ _ _ then1.if1.true))
+    both a.s.now a.dealer a.wind a.n _ (c.refused.ensures ∙ found_eight _ _ _ _ then1.if-dealer-wind.true))
     (λ c κs. search rules) (λ c. search rules) (λ c. search rules) (λ c κs. search rules) (λ c κs. search rules)
     (λ c.
-    let told = c.before.before in let r = told.before.before in
+    let told = c.before.before in let r = told.before in
     let else1 = r.before in let a = else1.before.before.args in
     both a.s.now a.dealer a.wind a.n _
-    (found_refused a.s.now a.dealer a.wind r.read.result else1.if1.false r.read.ensures a.n
-    _ c.before.refusal.result c.refused2.result told.enum_told.given.1 c.before.refusal.ensures c.refused2.ensures))
+    (found_refused a.s.now a.dealer a.wind r.read-r.result else1.if-dealer-wind.false r.read-r.ensures a.n
+    _ c.before.refusal.result c.refused-in_default.result told.in_default.is c.before.refusal.ensures c.refused-in_default.ensures))
     (λ c κs.
-    let sound = c.before.before in let r = sound.before.before in
+    let sound = c.before in let r = sound.before in
     let else1 = r.before in let a = else1.before.before.args in
-    let q = or_both (ltb 3 a.dealer) (ltb 1 a.wind) else1.if1.false in
-    let b = hand_bounds a.s.now r.read.result r.read.ensures _ sound.a.given.1 in
+    let q = or_both (ltb 3 a.dealer) (ltb 1 a.wind) else1.if-dealer-wind.false in
+    let b = hand_bounds a.s.now r.read-r.result r.read-r.ensures _ sound.in-Sound.is in
     (b.few, b.winner, ltb-false 3 a.dealer q.0, ltb-false 1 a.wind q.1, b.discarder, b.other))
     (λ c.
-    let held = c.before in let sound = held.before.before in let r = sound.before.before in
+    let held = c.before in let sound = held.before in let r = sound.before in
     let else1 = r.before in let a = else1.before.before.args in
     both a.s.now a.dealer a.wind a.n _
-    (found_sound a.s.now a.dealer a.wind r.read.result else1.if1.false r.read.ensures a.n
-    _ c.nth-hand.result sound.a.given.1 c.nth-hand.ensures)))
+    (found_sound a.s.now a.dealer a.wind r.read-r.result else1.if-dealer-wind.false r.read-r.ensures a.n
+    _ c.nth_hand.result sound.in-Sound.is c.nth_hand.ensures)))

@@ -10,5 +10,5 @@ unfolding paid_of
 paid_of_spec =
     tie.close
     (tie.spec (λ c κs. search rules) (λ c κs. search rules)
-    (λ c. rw (sym c.before.before.has-yaku.ensures ∙ c.before.if1.true, c.changes.ensures))
-    (λ c. rw (sym c.before.has-yaku.ensures ∙ c.if1.false)))
+    (λ c. rw (sym c.before.before.has_yaku.ensures ∙ c.before.if-has_yaku.true, c.changes-changes.ensures))
+    (λ c. rw (sym c.before.has_yaku.ensures ∙ c.if-has_yaku.false)))

@@ -64,10 +64,10 @@ module _ (t : HandCommon) (b : Best) where
       (han (cond (is_yakuman b.value.yaku) 0 (get_or t.won.tally t.dora 0))) z x) ep
 
 -- the start, from where the items are copied, and from after han_each
-abbrev from_items : tie.After-items → tie.Start
+abbrev from_items : tie.After-items-1 → tie.Start
 from_items c = let s = c.before.before in let v = s.before.before in v.before.before
 
-abbrev start : tie.After-han-each → tie.Start
+abbrev start : tie.After-han_each-han → tie.Start
 start c = let common = c.before.before in from_items common.before
 
 pub shown_spec : {M : Type 1} → statement M
@@ -88,6 +88,6 @@ shown_spec =
     let each = yakuman.before in
     let common = each.before.before in
     let a = (start each).args in
-    put_together a.t a.b a.reported each.han-each.result common.common-of.result.tests.values.0 yakuman.is_yakuman_lem.result
-    dora.dora-in.result p.paid_of_lem.result (values_are a.t a.b common.common-of.result common.common-of.ensures) each.han-each.ensures
-    yakuman.is_yakuman_lem.ensures dora.dora-in.ensures p.paid_of_lem.ensures))
+    put_together a.t a.b a.reported each.han_each-han.result common.common_of-k.result.tests.values.0 yakuman.is_yakuman_lem.result
+    dora.dora_in-dora.result p.paid_of_lem.result (values_are a.t a.b common.common_of-k.result common.common_of-k.ensures) each.han_each-han.ensures
+    yakuman.is_yakuman_lem.ensures dora.dora_in-dora.ensures p.paid_of_lem.ensures))
