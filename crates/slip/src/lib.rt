@@ -34,9 +34,9 @@ fn put_line(line: &mut [u8], label: &[u8], value: &[u8])
     ensures { line.new ≡ slip_line label.now value.now }
 {
     blank(line);
-    bytes::copy(label, line);
+    text::copy(label, line);
     let at = 24 - value.len();
-    bytes::copy(value, &mut line[at..24]);
+    text::copy(value, &mut line[at..24]);
 }
 
 // Writes a line with a number, a minus before a negative one.

@@ -112,7 +112,7 @@ module _ (s claim : List ℕ) (dealer wind : ℕ) where
       verdicts.only_one hand dealer wind q k
       (subst (λ (z : Reading). IsVerdict hand dealer wind z k v) e.0 (subst (λ (z : ℕ). IsVerdict hand dealer wind r z v) e.1 a)) b
 
-  only : {x y : Judged} → Judges x → Judges y → x ≡ y
+  pub only : {x y : Judged} → Judges x → Judges y → x ≡ y
   only (eight o) (eight p) = refl
   only (eight o) (unreadable d w n e) = over o d w
   only (eight o) (faulty d w y n) = over o d w

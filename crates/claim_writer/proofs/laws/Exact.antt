@@ -40,7 +40,7 @@ module _ (c : Claim) (buf : List ℕ) where
 
   -- ---- and the only one
 
-  only : {v w : Written} {k l : List ℕ} → Writes c buf v k → Writes c buf w l → (v ≡ w) × (k ≡ l)
+  pub only : {v w : Written} {k l : List ℕ} → Writes c buf v k → Writes c buf w l → (v ≡ w) × (k ≡ l)
   only (unnamed n) (unnamed o) = (refl, refl)
   only (unnamed n) (short s i h) = absurd (n s i)
   only (unnamed n) (written s i h) = absurd (n s i)

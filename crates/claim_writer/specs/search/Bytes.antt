@@ -3,8 +3,7 @@ use Rattle.std.specs.Prelude.{Bool, true, ◌&&◌, ◌||◌, not, cond, List, [
 use Rattle.tiles.specs.Groups.{is_group}
 use Rattle.bits.specs.Bits.{unpack, pack, eights, fill}
 use Rattle.hand_record.specs.declared.Written.{Written}
-use Rattle.claim.specs.search.Claimed.{length_of}
-use Rattle.claim.proofs.laws.Claimed.{widths}
+use Rattle.claim.specs.search.Claimed.{length_of, widths}
 use Rattle.claim_writer.specs.declared.Claim.{Claim}
 use Rattle.claim_writer.specs.Writes.{refused_with}
 

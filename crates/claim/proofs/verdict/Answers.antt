@@ -1,11 +1,5 @@
--- `claim::verdict` meets its contract: where it is a reading, by what it pays.
-use borrow.Author.Rules.{rules}
-use Prim.Native.Nat.{ℕ, ◌≤◌}
-use mathlib.Core.Path.{◌≡◌, refl, ap, sym, ◌∙◌}
-use mathlib.Core.Bool.{Bool, true, false, not}
-use mathlib.Core.List.{List}
-use borrow.Author.Tests.{not-true, not-false}
-use lib.ListN.{length}
+-- Where it is a reading, by what it pays.
+use Rattle.std.proofs.Common.{◌≡◌, ◌≤◌, ℕ, Bool, true, false, List, length, refl, rules, ap, sym, ◌∙◌}
 use Rattle.hand.specs.declared.Hand.{Hand}
 use Rattle.hand.specs.Hand.{concealed_tally}
 use Rattle.reading.specs.declared.Reading.{Reading}
@@ -22,10 +16,7 @@ use Rattle.score.specs.search.HandCommon.{hand_common_of}
 use Rattle.score.proofs.laws.FullReading.{worth_in_lem, kept_in}
 use Rattle.claim.specs.search.Verdict.{IsFormed, reads, weighed_as, verdict_of}
 use Rattle.claim.proofs.laws.Reads.{decides, formed_bounds}
-use Rattle.claim.proofs.verdict.Statement.{statement}
-use Rattle.claim.proofs.verdict.Tie as tie
-
--- ---- by what the calls gave
+use Rattle.claim.proofs.verdict.Goals as goal
 
 -- the first reading that is judged is kept where it has a yaku
 weighed_first : (worth : Reading → Value) (r : Reading) (gain most : ℕ) (y : Bool) → has_yaku (worth r).yaku ≡ y
@@ -40,17 +31,17 @@ module _ (h : Hand) (dealer wind : ℕ) (r : Reading) (gain : ℕ) (f : IsFormed
   reading_is : reads (concealed_tally h) h.held.m h.fields.winning r ≡ x
   reading_is = sym (ex ∙ ap (λ (l : List ℕ). reads l h.held.m h.fields.winning r) ec)
 
-  none : not x ≡ true → 1 ≡ verdict_of h dealer wind r gain
+  none : x ≡ false → 1 ≡ verdict_of h dealer wind r gain
   unfolding verdict_of
-  none e = rw (reading_is ∙ not-true x e)
+  none e = rw (reading_is ∙ e)
 
-  weighs : not x ≡ false → h.held.m ≤ 4 → length h.held.melds ≡ 4
+  weighs : x ≡ true → h.held.m ≤ 4 → length h.held.melds ≡ 4
       → (t : HandCommon) (n v b : Best) (w : ℕ) → t ≡ hand_common_of h dealer wind → n ≡ none_of 0 → v ≡ keep_better (worth_in t) n r
       → b ≡ search_for (worth_in t) 0 c h.held.m h.fields.winning
       → w ≡ weighed_as v.valued v.value.gain.0 gain b.value.gain.0 → w ≡ verdict_of h dealer wind r gain
   unfolding verdict_of
   weighs x-is few long t n v b w et en ev eb ew =
-      let read : reads (concealed_tally h) h.held.m h.fields.winning r ≡ true = reading_is ∙ not-false x x-is in
+      let read : reads (concealed_tally h) h.held.m h.fields.winning r ≡ true = reading_is ∙ x-is in
       let i = (decides (concealed_tally h) h.held.m h.fields.winning (all_kinds h) r f).0 read in
       let worth-is : worth_in t r ≡ worth h dealer wind r = ap (λ (z : HandCommon). worth_in z r) et ∙ worth_in_lem h few long dealer wind r i in
       ew
@@ -60,40 +51,25 @@ module _ (h : Hand) (dealer wind : ℕ) (r : Reading) (gain : ℕ) (f : IsFormed
 
 -- ---- the calls
 
--- melds has four places
-long_melds : (c : tie.Start) → length c.args.h.held.melds ≡ 4
-long_melds c = search rules
+pub is_reading-requires : goal.is_reading-requires
+is_reading-requires c =
+    let b = formed_bounds c.args.h.held.m c.args.r c.requires.4 in
+    (c.requires.0, b.0, b.1)
 
-pub verdict_spec : {M : Type 1} → statement M
-verdict_spec =
-    tie.close
-    (tie.spec (λ c κs. search rules)
-    (λ c κs. let s = c.before in let b = formed_bounds s.args.h.held.m s.args.r s.requires.4 in (s.requires.0, b.0, b.1))
-    (λ c.
-    let i = c.before in
-    let t = i.before in
-    let a = t.before.args in
-    none a.h a.dealer a.wind a.r a.gain.0 t.before.requires.4 t.concealed_tally_lem.result i.is-reading.result t.concealed_tally_lem.ensures
-    i.is-reading.ensures c.if1.true)
-    (λ c κs. search rules) (λ c κs. search rules)
-    (λ c κs.
-    let k = c.before in
-    let is-reading = k.before.before in
-    let s = is-reading.before.before in
-    (k.hand-common-of.ensures.1, (formed_bounds s.args.h.held.m s.args.r s.requires.4).0, none_going 0 c.none.result c.none.ensures))
-    (λ c κs. search rules) (λ c κs. search rules)
-    (λ c.
-    let b = c.before in
-    let v = b.before in
-    let n = v.before in
-    let k = n.before in
-    let e = k.before in
-    let i = e.before in
-    let t = i.before in
-    let s = t.before in
-    let a = s.args in
-    weighs a.h a.dealer a.wind a.r a.gain.0 s.requires.4 t.concealed_tally_lem.result i.is-reading.result t.concealed_tally_lem.ensures
-    i.is-reading.ensures
-    e.if1.false s.requires.0 (long_melds s) k.hand-common-of.result n.none.result v.keep-better.result b.search-for.result
-    c.weighed.result
-    k.hand-common-of.ensures.0 n.none.ensures v.keep-better.ensures b.search-for.ensures c.weighed.ensures))
+pub returns-then-not-is_reading : goal.returns-then-not-is_reading
+returns-then-not-is_reading c =
+    let a = c.args in
+    none a.h a.dealer a.wind a.r a.gain.0 c.requires.4 c.concealed_tally-c.result c.is_reading.result c.concealed_tally-c.ensures c.is_reading.ensures
+    c.if-not-is_reading.true
+
+pub keep_better-v-requires : goal.keep_better-v-requires
+keep_better-v-requires c =
+    (c.hand_common_of-t.ensures.1, (formed_bounds c.args.h.held.m c.args.r c.requires.4).0, none_going 0 c.none.result c.none.ensures)
+
+pub returns : goal.returns
+returns c =
+    let a = c.args in
+    let long : length a.h.held.melds ≡ 4 = search rules in
+    weighs a.h a.dealer a.wind a.r a.gain.0 c.requires.4 c.concealed_tally-c.result c.is_reading.result c.concealed_tally-c.ensures c.is_reading.ensures
+    c.if-not-is_reading.false c.requires.0 long c.hand_common_of-t.result c.none.result c.keep_better-v.result c.search_for-b.result c.weighed.result
+    c.hand_common_of-t.ensures.0 c.none.ensures c.keep_better-v.ensures c.search_for-b.ensures c.weighed.ensures
