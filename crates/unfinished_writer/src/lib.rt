@@ -1,5 +1,6 @@
 // The writers of an unfinished hand (02, S-1): from the tiles held, and from a record without its winning tile. They take all input.
 #![tactic(auto)]
+
 ghost use Rattle.std.specs.Prelude.{◌≡◌, ◌≤◌};
 ghost use Rattle.bits.specs.Bits.{pack as pack_bits, fill};
 ghost use Rattle.unfinished.specs.Unfinished.{widths};

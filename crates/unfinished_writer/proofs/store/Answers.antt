@@ -1,7 +1,7 @@
 -- A buffer that is too short is left, and else the bytes are stored.
 use Rattle.std.proofs.Common.{◌≡◌, ℕ, length, rules, ◌∙◌, arith}
 use Rattle.std.proofs.Math.ListN.{length-replicate}
-use Rattle.bits.specs.Bits.{pack, eights}
+use Rattle.bits.specs.Bits.{pack}
 use Rattle.bits.proofs.laws.Pack.{take_replicate, below_replicate, sum_replicate, length_fill, below_fill, below_pack}
 use Rattle.unfinished.specs.Unfinished.{length_of, widths}
 use Rattle.unfinished_writer.specs.Write.{values_of}
