@@ -1,6 +1,7 @@
 // Every reading of a record's tiles, not only the one that Score reports: how many there are, and the n-th of them, from 1, in document 01's order,
 // with what it is worth.
 #![tactic(auto)]
+
 ghost use Rattle.std.specs.Prelude.{◌≡◌, false, cond, ◌<◌, ◌≤◌, length, get_or};
 ghost use Rattle.hand.specs.Refusals.{wrong_discarder};
 ghost use Rattle.points_value.specs.Han.{han as han_is};

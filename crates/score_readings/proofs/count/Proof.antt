@@ -15,7 +15,7 @@ count_spec =
     (λ c. count_eight _ _ _ c.if-dealer-wind.true)
     (λ c κs. search rules) (λ c. search rules) (λ c. search rules) (λ c κs. search rules)
     (λ c.
-    let told = c.before in let r = told.before.before in
+    let told = c.before in let r = told.before in
     let else1 = r.before in let a = else1.before.before.args in
     count_refused a.s.now a.dealer a.wind r.read-r.result else1.if-dealer-wind.false r.read-r.ensures
     _ c.refusal.result told.in_default.is c.refusal.ensures)

@@ -88,6 +88,6 @@ shown_spec =
     let each = yakuman.before in
     let common = each.before.before in
     let a = (start each).args in
-    put_together a.t a.b a.reported each.han_each-han.result common.common_of-k.result.tests.values.0 yakuman.is_yakuman_lem.result
-    dora.dora_in-dora.result p.paid_of_lem.result (values_are a.t a.b common.common_of-k.result common.common_of-k.ensures) each.han_each-han.ensures
-    yakuman.is_yakuman_lem.ensures dora.dora_in-dora.ensures p.paid_of_lem.ensures))
+    put_together a.t a.b a.reported each.han_each-han.result common.common_of-k.result.tests.values.0 yakuman.is_yakuman.result
+    dora.dora_in-dora.result p.paid_of-p.result (values_are a.t a.b common.common_of-k.result common.common_of-k.ensures) each.han_each-han.ensures
+    yakuman.is_yakuman.ensures dora.dora_in-dora.ensures p.paid_of-p.ensures))
