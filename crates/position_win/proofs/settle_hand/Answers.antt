@@ -14,13 +14,13 @@ use Rattle.position_win.proofs.laws.Settling.{liable_of, settled_read}
 use Rattle.position_win.proofs.settle_hand.Goals as goal
 
 -- of a position, a hand, what Score gives of it, and a record that reads as the hand
-module _ (p : Position) (open : Open p) (h : Hand) (v : Scored) (scored : v ≡ hand_score_of h p.dealer p.wind)
+module _ (p : Position) (o : Open p) (h : Hand) (v : Scored) (scored : v ≡ hand_score_of h p.dealer p.wind)
     (s : List ℕ) (z : refusal_in (read_of s).answer ≡ 0) (e : h ≡ hand_for s) where
   -- what is settled is what Score gives of the record
   scores : v ≡ scored_for p s
   scores =
       scored ∙ ap (λ (x : Hand). hand_score_of x p.dealer p.wind) e
-      ∙ sym (score_read s p.dealer p.wind open.form.dealer open.form.wind z)
+      ∙ sym (score_read s p.dealer p.wind o.form.dealer o.form.wind z)
 
   -- who is liable is whom the ledger finds
   liable : (n : ℕ) → liable_by n ≡ liable_in p h.fields.winner (get_or v.yaku 28 false) (get_or v.yaku 29 false && holds_four_winds h)

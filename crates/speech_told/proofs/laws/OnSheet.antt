@@ -1,5 +1,5 @@
 -- Every clip of a part of a message is on the sheet of its language.
-use Rattle.std.specs.Prelude.{◌≡◌, Bool, ◌||◌, cond, ℕ, zero, suc, ◌+◌, ◌-◌, ◌<◌, leb, eqb, ℤ, pos, nat_abs}
+use Rattle.std.specs.Prelude.{◌≡◌, Bool, ◌||◌, cond, ℕ, zero, suc, ◌+◌, ◌<◌, leb, eqb, ℤ, pos, nat_abs}
 use Rattle.std.proofs.Math.Path.{refl}
 use Rattle.std.proofs.Math.Bool.{true, false}
 use mathlib.Core.List.Memᴰ
