@@ -1,5 +1,6 @@
 // The booking of a win, by value. Any value of the struct may be given; no sum wraps.
 #![tactic(auto)]
+
 ghost use Rattle.std.specs.Prelude.{◌≡◌, false, ◌&&◌, not, cond, List, ℕ, ◌+◌, ◌≤◌, ltb, get_or};
 ghost use Rattle.hand.specs.Refusals.{wrong_discarder};
 ghost use Rattle.hand_record.specs.Record.{refusal_in, read_of};

@@ -1,5 +1,5 @@
 -- What the win of a record that scores v comes to, and that this is the ledger's.
-use Rattle.std.specs.Prelude.{◌≡◌, refl, Bool, true, false, not, ◌&&◌, ◌||◌, List, [], ◌∷◌, ltb, eqb, pos, nat_abs, ◌+ℤ◌, get_or}
+use Rattle.std.specs.Prelude.{◌≡◌, refl, Bool, true, false, not, ◌&&◌, ◌||◌, List, eqb, pos, nat_abs, ◌+ℤ◌, get_or}
 use Rattle.std.proofs.Common.{sym, ◌∙◌, arith, lt-ltb, le-ltb}
 use Rattle.std.proofs.Math.Path.{ap}
 use Rattle.std.proofs.Math.Bool.{cond}
@@ -14,7 +14,7 @@ use Rattle.score.specs.declared.Scored.{Scored}
 use Rattle.score.proofs.laws.HandScore.{score_unreadable}
 use Rattle.position.specs.declared.Position.{Position}
 use Rattle.position.specs.Booking.{result, win}
-use Rattle.position.specs.Ledger.{is_set, is_declared, not_open, hand_for, scored_for, paid_by_others, Liable, owes, liable_by, liable_in, whole_of, is_dealers_win}
+use Rattle.position.specs.Ledger.{is_set, hand_for, scored_for, paid_by_others, Liable, owes, liable_by, liable_in, whole_of, is_dealers_win}
 use Rattle.position.specs.Ledger.{payments, holds_four_winds, win_gives, effect_of, applied}
 use Rattle.position.proofs.laws.PaidByOthers.{sticks_to}
 use Rattle.position.specs.search.First.{win_refusal}

@@ -1,4 +1,4 @@
-use Rattle.std.proofs.Common.{◌≡◌, Bool, false, ◌&&◌, List, ℕ, get_or, sym, ap, ◌∙◌, subst, arith}
+use Rattle.std.proofs.Common.{◌≡◌, false, ◌&&◌, List, ℕ, get_or, sym, ap, ◌∙◌, subst, arith}
 use Rattle.hand.specs.declared.Hand.{Hand}
 use Rattle.hand_record.specs.Record.{refusal_in, read_of}
 use Rattle.score.specs.declared.Scored.{Scored}
@@ -49,7 +49,7 @@ settle_scored-requires c =
       b.winner,
       b.discarder,
       b.other,
-      λ i. let w = changes_within a.h a.p.dealer a.p.wind i in rw c.score_hand-v.ensures.1 (omega arith, omega arith),
+      λ i. let w = changes_within a.h a.p.dealer a.p.wind i in rw c.score_hand-v.ensures.value (omega arith, omega arith),
       f.0,
       f.1,
       p.2,
@@ -60,10 +60,10 @@ pub returns : goal.returns
 returns c =
     let a = c.args in
     let o = c.requires.0 in
-    let v = c.score_hand-v.result in (
-      c.settle_scored.ensures.2,
-      λ s z e.
-          settled_read a.p s a.n a.k a.h v c.pao_of-liable.result c.settle_scored.result e
-          (scores a.p o a.h v c.score_hand-v.ensures.1 s z e) (liable a.p o a.h v c.score_hand-v.ensures.1 s z e c.pao_of-liable.result c.pao_of-liable.ensures)
-          c.settle_scored.ensures,
-    )
+    let v = c.score_hand-v.result in
+    record {
+      gifts = c.settle_scored.ensures.2;
+      by_index = λ s z e.
+          settled_read a.p s a.n a.k a.h v c.pao_of-liable.result c.settle_scored.result e (scores a.p o a.h v c.score_hand-v.ensures.value s z e)
+          (liable a.p o a.h v c.score_hand-v.ensures.value s z e c.pao_of-liable.result c.pao_of-liable.ensures) c.settle_scored.ensures;
+    }
