@@ -1,5 +1,6 @@
 // Judge: a claim of another scorer, a reading and the winner's gain, held against the record of a hand (02, S-13).
 #![tactic(auto)]
+
 ghost use Rattle.std.specs.Prelude.{◌≡◌, ◌++◌, ◌+◌, ◌*◌, ◌-◌, ◌<◌, ◌≤◌, length, take, replicate};
 ghost use Rattle.bits.specs.Bits.{bits_of};
 ghost use Rattle.claim.specs.IsJudged.{refused_with, IsJudged};

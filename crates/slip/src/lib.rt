@@ -1,6 +1,7 @@
 // A slip to paste in the club book (02, S-2): six lines of a scored hand, a label and a number or a word each, into the parts of a lent page.
 // `slip` takes all input.
 #![tactic(auto)]
+
 ghost use Rattle.std.specs.Prelude.{◌≡◌, true, cond, [], ◌∷◌, ◌++◌, ◌+◌, ◌≤◌, ◌<◌, length, get_or, drop};
 ghost use Rattle.yaku.specs.Yaku.{is_yakuman};
 ghost use Rattle.score.specs.Score.{score_of};

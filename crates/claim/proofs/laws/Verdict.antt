@@ -1,5 +1,5 @@
 -- The code's verdict is the one that S-13 names, and it names one.
-use Rattle.std.specs.Prelude.{ℕ, ◌<◌, ◌≡◌, Bool, true, false, not, cond, ◌↔◌, ltb, eqb}
+use Rattle.std.specs.Prelude.{ℕ, ◌≡◌, Bool, true, false, not, cond, ◌↔◌, ltb, eqb}
 use Rattle.std.proofs.Math.Path.{refl}
 use Rattle.std.proofs.Common.{sym, ap, ◌∙◌, arith, ltb-true, ltb-false, eqb-true}
 use Rattle.std.proofs.lemmas.Bool.{false≢true, eqb-false}
@@ -14,7 +14,7 @@ use Rattle.score.specs.search.HandScore.{kept_of}
 use Rattle.score.proofs.laws.Best.{over_kept}
 use Rattle.score.proofs.laws.Named.{most}
 use Rattle.score.proofs.laws.Paid.{Paid, may_end}
-use Rattle.claim.specs.Verdict.{PaysMost, IsVerdict, accepted, one, two, three, four}
+use Rattle.claim.specs.Verdict.{IsVerdict, accepted, one, two, three, four}
 use Rattle.claim.specs.search.Verdict.{IsFormed, reads, weighed_as, verdict_of}
 use Rattle.claim.proofs.laws.Reads.{decides}
 

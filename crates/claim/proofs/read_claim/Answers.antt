@@ -1,9 +1,8 @@
 -- No claim has under 3 bytes, and the others are read by the shape and the length.
-use Rattle.std.proofs.Common.{◌≡◌, ℕ, List, length, not, eqb, ◌||◌, false, ap, sym, ◌∙◌, eqb-true, arith}
+use Rattle.std.proofs.Common.{◌≡◌, ℕ, not, eqb, ◌||◌, false, ◌∙◌, eqb-true, arith}
 use Rattle.std.proofs.lemmas.Bool.{eqb-false, not-false}
 use Rattle.tiles.proofs.laws.Below.{or_both}
 use Rattle.bits.specs.Bits.{bits_of}
-use Rattle.claim.specs.search.Claimed.{claimed_in}
 use Rattle.claim.proofs.laws.Claimed.{far_length, length_0, three_bytes}
 use Rattle.claim.proofs.read_claim.Goals as goal
 

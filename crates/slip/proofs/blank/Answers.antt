@@ -1,4 +1,4 @@
-use Rattle.std.proofs.Common.{◌≡◌, length, length-set, ◌∙◌, arith}
+use Rattle.std.proofs.Common.{◌≡◌, length-set, ◌∙◌, arith}
 use Rattle.std.proofs.lemmas.List.Edits.{fill_more}
 use Rattle.slip.proofs.laws.Line.{line_feed_last}
 use Rattle.slip.proofs.blank.Goals as goal

@@ -1,5 +1,5 @@
 -- fu is no negative number.
-use Rattle.std.proofs.Common.{◌<◌, ◌^◌, rules, arith, w32}
+use Rattle.std.proofs.Common.{◌<◌, ◌^◌, rules, w32}
 use Rattle.std.proofs.lemmas.Int.{to_z_pos}
 use Rattle.text.specs.Text.{signed_of}
 use Rattle.slip.specs.Line.{labels}

@@ -1,6 +1,5 @@
 -- Label and value are put into an empty line.
-use Rattle.std.proofs.Common.{◌≡◌, ◌≤◌, ◌+◌, ◌++◌, ◌∷◌, [], ◌-◌, ℕ, List, length, take, drop, refl, ap, ◌∙◌, min, arith, length-drop, length-take-le}
-use Rattle.slip.specs.Line.{spaces}
+use Rattle.std.proofs.Common.{◌≡◌, ◌≤◌, ◌++◌, ◌-◌, ℕ, List, length, take, drop, refl, ap, ◌∙◌, min, arith, length-drop, length-take-le}
 use Rattle.slip.proofs.laws.Line.{line_written}
 use Rattle.slip.proofs.put_line.Goals as goal
 

@@ -1,4 +1,4 @@
-use Rattle.std.proofs.Common.{◌≡◌, ◌≤◌, ◌+◌, ◌-◌, ◌*◌, ◌++◌, length, drop, take, length-drop, length-take-le, refl, sym, ap, ◌∙◌, rules, arith}
+use Rattle.std.proofs.Common.{◌≡◌, ◌≤◌, ◌+◌, ◌-◌, ◌*◌, length, drop, take, length-drop, length-take-le, refl, sym, ap, ◌∙◌, rules, arith}
 use Rattle.slip.specs.Slip.{line_at}
 use Rattle.slip.proofs.laws.Lines.{first_lines, lines_long, next_line, six_lines}
 use Rattle.slip.proofs.put_lines.Goals as goal
