@@ -1,6 +1,7 @@
 // What the handset says of a scored record and of a refusal (SPEECH, Messages and Calls): a list of clips at the start of a lent buffer. The public
 // calls take all input.
 #![tactic(auto)]
+
 ghost use Rattle.std.specs.Prelude.{◌≡◌, cond, ◌∷◌, ◌≤◌, ltb, pos, nat_abs, length, get_or};
 ghost use Rattle.text.specs.Put.{Put};
 ghost use Rattle.speech_told.specs.Phrases.{yaku_clips};
@@ -44,7 +45,7 @@ pub fn give(buf: &mut [u8], clips: &[u8]) -> Said
     if buf.len() < clips.len() {
         return refused(13);
     }
-    let n = bytes::copy(clips, buf);
+    let n = text::copy(clips, buf);
     Said {
         refusal: 0,
         len: n as u16,
