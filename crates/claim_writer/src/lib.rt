@@ -1,5 +1,6 @@
 // Write claim: a reading and the winner's gain as the bytes of a claim (02, S-13), which Judge reads. It takes all input.
 #![tactic(auto)]
+
 ghost use Rattle.std.specs.Prelude.{◌≡◌, [], ◌∷◌, ◌≤◌, ◌<◌};
 ghost use Rattle.bits.specs.Bits.{pack, fill};
 ghost use Rattle.claim.specs.search.Claimed.{widths};

@@ -20,7 +20,6 @@ use Rattle.score.specs.Readings.{readings_of}
 use Rattle.score_readings.specs.declared.NthReading.{NthReading}
 use Rattle.score_readings.specs.Shown.{nth_in, paid_of, shown_as}
 use Rattle.score_readings.specs.IsNth.{IsNth, no_such, shown}
-use Rattle.score_readings.specs.IsNth as IsNth
 use Rattle.score_readings.specs.NthOf.{nth_of}
 use Rattle.score_readings.proofs.laws.One.{is_nth}
 use Rattle.score_readings.proofs.laws.Found.{nth_reads}

@@ -1,6 +1,6 @@
 -- Claims byte by byte, computed: those of the hand `five` of claim/specs/laws/Examples, and what is refused.
-use Rattle.std.specs.Prelude.{Bool, List, [], ◌∷◌, ◌≡◌, refl, ℕ, replicate}
-use Rattle.std.proofs.Common.{sym, ap, ◌∙◌}
+use Rattle.std.specs.Prelude.{List, [], ◌∷◌, ◌≡◌, refl, ℕ, replicate}
+use Rattle.std.proofs.Common.{sym, ◌∙◌}
 use Rattle.tiles.specs.Groups.{is_group}
 use Rattle.hand_record.specs.declared.Written.{Written}
 use Rattle.claim_writer.specs.declared.Claim.{Claim}

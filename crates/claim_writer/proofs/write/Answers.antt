@@ -1,5 +1,5 @@
 -- What is refused stores nothing, and else the claim is stored.
-use Rattle.std.proofs.Common.{◌≡◌, ◌≤◌, ℕ, Bool, true, sym, ◌∙◌, length, arith, length-take-le}
+use Rattle.std.proofs.Common.{◌≡◌, ◌≤◌, ℕ, Bool, true, sym, ◌∙◌, arith, length-take-le}
 use Rattle.std.proofs.Math.ListN.{length-replicate}
 use Rattle.bits.specs.Bits.{eights}
 use Rattle.bits.proofs.laws.Pack.{take_replicate, below_replicate, sum_replicate}
