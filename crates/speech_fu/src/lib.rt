@@ -1,5 +1,6 @@
 // What the handset says of the fu of a record (SPEECH, Messages and Calls). `say_fu` takes all input.
 #![tactic(auto)]
+
 ghost use Rattle.std.specs.Prelude.{◌++◌, ◌+◌, ◌≤◌, length};
 ghost use Rattle.text.specs.Put.{Put};
 ghost use Rattle.speech_told.specs.Phrases.{counted_clips};
