@@ -1,5 +1,6 @@
 // The log (01, Log; 02, S-6, S-8 and S-10): the kinds of its entries, and Next entry. The public calls take all input.
 #![tactic(auto)]
+
 ghost use Rattle.std.specs.Prelude.{◌≡◌, List, ◌∷◌, ℕ, ◌+◌, ◌/◌, ◌%◌, ◌≤◌, ◌<◌};
 ghost use Rattle.game.specs.Game.{Entry};
 ghost use Rattle.log_entry.specs.Entry.{IsEntry, letter_of};
