@@ -1,5 +1,6 @@
 // Multiple ron (02, S-6), by value: one to three rons on one tile, booked together. Any value of the position and any bytes may be given; no sum wraps.
 #![tactic(auto)]
+
 ghost use Rattle.std.specs.Prelude.{◌≡◌, cond, List, map, ℕ, ◌≤◌, take};
 ghost use Rattle.hand_rons.specs.Records.{hand_for};
 ghost use Rattle.hand_rons.specs.search.Read.{AllRead};

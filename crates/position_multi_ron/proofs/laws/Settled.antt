@@ -13,9 +13,9 @@ use Rattle.std.proofs.Math.Seq.{drop-length}
 use Rattle.tiles.specs.Below.{tabulate}
 use Rattle.tiles.proofs.laws.Below.{or_both}
 use Rattle.hand.specs.declared.Hand.{Hand}
-use Rattle.hand_record.proofs.laws.Bounds.{Bounds, read_bounds}
+use Rattle.hand_record.proofs.laws.Bounds.{read_bounds}
 use Rattle.score.proofs.laws.Z.{Within}
-use Rattle.hand_rons.specs.Records.{hand_for, records_of, first_unreadable, is_winner, discarder_of, first_after, first_winner}
+use Rattle.hand_rons.specs.Records.{hand_for, records_of, is_winner, discarder_of, first_after, first_winner}
 use Rattle.hand_rons.proofs.laws.OneTile.{Read, AllRead}
 use Rattle.hand_rons.proofs.laws.Hands.{blank, that_number, hand_at_lem}
 use Rattle.position.specs.declared.Position.{Position}
