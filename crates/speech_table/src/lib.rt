@@ -1,5 +1,6 @@
 // What the handset says of a game's scores, of waits and of readiness (SPEECH, Messages and Calls). The public calls take all input.
 #![tactic(auto)]
+
 ghost use Rattle.std.specs.Prelude.{◌≡◌, false, ◌≤◌, length, get_or};
 ghost use Rattle.tiles.specs.Below.{any_below};
 ghost use Rattle.text.specs.Put.{Put};

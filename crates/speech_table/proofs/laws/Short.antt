@@ -1,6 +1,6 @@
 -- How long the messages are, and that their clips are on the sheet.
 use Rattle.std.proofs.Math.Path.{refl}
-use Rattle.std.specs.Prelude.{Bool, cond, ℕ, ◌+◌, ◌≤◌, ◌<◌, eqb, pos, nat_abs}
+use Rattle.std.specs.Prelude.{Bool, cond, ℕ, ◌≤◌, ◌<◌, eqb, pos, nat_abs}
 use Rattle.std.proofs.Math.Bool.{true, false}
 use mathlib.Core.List.{List, [], ◌∷◌, ◌++◌}
 use native.Mathlib.Omega.{arith}
