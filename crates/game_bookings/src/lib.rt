@@ -1,6 +1,7 @@
 // What is booked in a game (01, The game; 02, S-10), by value: the six bookings, and a correction by each result. Any value of the game and any bytes may
 // be given.
 #![tactic(auto)]
+
 ghost use Rattle.std.specs.Prelude.{◌≡◌, cond, ltb};
 ghost use Rattle.position.specs.Booking as Booking;
 ghost use Rattle.game.specs.Game.{booking, correction, fresh_game, game_out_of_form};

@@ -9,7 +9,7 @@ use Rattle.position.specs.Booking.{Result, Booking, result}
 use Rattle.position.specs.Ledger.{is_set, mark, out_of_form, refusal_for, effect_of, after, Moves}
 use Rattle.position.proofs.laws.Each.{accepted_form}
 use Rattle.game.specs.declared.Game.{Game}
-use Rattle.game.specs.Game.{booking, correction, game_out_of_form, game_refusal, with_entry, game_after}
+use Rattle.game.specs.Game.{booking, correction, game_refusal, with_entry, game_after}
 use Rattle.game.specs.Runs.{Books}
 use Rattle.game.proofs.laws.After.{correction_listed, as_in_earlier, as_now}
 pub use Rattle.game_bookings.specs.search.Books.{correction_refusal, checked_in}
