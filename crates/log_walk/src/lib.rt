@@ -1,5 +1,6 @@
 // A log booked in a game, entry by entry, and where a walk over it stands (01, Log; 02, S-6, S-8 and S-10). The public calls take all input.
 #![tactic(auto)]
+
 ghost use Rattle.std.specs.Prelude.{◌≡◌, ◌≤◌, ◌<◌, length, get_or, drop};
 ghost use Rattle.position.specs.Booking as Booking;
 ghost use Rattle.game.specs.Game.{booking, correction};
@@ -97,7 +98,12 @@ fn book_part(g: Game, part: &[u8]) -> Booked
     let kind = log_entry::kind(header);
     if kind == log_entry::CORRECTION {
         let inner = part[1];
-        return book_correction(g, log_entry::kind(inner), log_entry::argument(inner), &part[2..end]);
+        return book_correction(
+            g,
+            log_entry::kind(inner),
+            log_entry::argument(inner),
+            &part[2..end],
+        );
     }
     book_booking(g, kind, log_entry::argument(header), &part[1..end])
 }
