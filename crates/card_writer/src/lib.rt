@@ -51,7 +51,8 @@ fn draw(
     let mut e = at;
     let mut a = low;
     while a < end {
-        if t[a as usize] < 4 {
+        let room = t[a as usize] < 4;
+        if room {
             let mut next = prefix;
             next[size - left] = a;
             e = draw(buf, e, next, tiles::add(t, a, 1), a, end, left - 1, size, n);
@@ -76,7 +77,8 @@ fn count(left: usize, n: u8, low: u8, end: u8, t: [u8; 34]) -> u16
     let mut a = low;
     while a < end {
         let held = t[a as usize];
-        if held < 4 {
+        let room = held < 4;
+        if room {
             c += count(left - 1, n, a, end, tiles::add(t, a, 1));
         }
         a += 1;

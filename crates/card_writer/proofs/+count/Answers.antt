@@ -1,7 +1,7 @@
 -- A tally that splits is one card; else each kind from `low` on is one tile more.
 use Rattle.std.proofs.Common.{sym, ◌∙◌, arith}
 use Rattle.card_writer.proofs.laws.Count.{counted_one, counted_none, counted_end, counted_few, left_with, left_skip}
-use Rattle.card_writer.proofs.+count.Goals.{then-held-lt4, else-held-lt4}
+use Rattle.card_writer.proofs.+count.Goals.{then-room, else-room}
 use Rattle.card_writer.proofs.+count.Goals as goal
 
 pub returns-then-splits : goal.returns-then-splits
@@ -13,15 +13,15 @@ returns-then-left-eq0 t c = sym (counted_none c.args.n c.args.left c.args.end c.
 pub overflow_add-c : goal.overflow_add-c
 overflow_add-c t c =
     let whole = counted_few c.args.n c.args.left c.args.end c.args.low c.args.t c.requires.0 c.requires.2 in
-    let turn = left_with c.args.n c.args.left c.args.end c.loop-a.a c.args.t c.if-left-eq0.false c.loop-a-test.true c.loop-a.c _ c.loop-a.invariant.1 c.add.result c.count-c.result c.if-held-lt4.true c.add.ensures c.count-c.ensures in
+    let turn = left_with c.args.n c.args.left c.args.end c.loop-a.a c.args.t c.if-left-eq0.false c.loop-a-test.true c.loop-a.c _ c.loop-a.invariant.1 c.add.result c.count-c.result c.if-room.true c.add.ensures c.count-c.ensures in
     omega (arith, turn, whole)
 
 pub loop-a-preserved : goal.loop-a-preserved
 loop-a-preserved t c = (
   omega (arith, c.loop-a.invariant.0),
-  elim c.if-held-lt4.branch [
-    | then-held-lt4 w ↦ rw w.c-is (left_with c.args.n c.args.left c.args.end c.loop-a.a c.args.t c.if-left-eq0.false c.loop-a-test.true c.loop-a.c _ c.loop-a.invariant.1 w.add.result w.count-c.result w.if-held-lt4.true w.add.ensures w.count-c.ensures)
-    | else-held-lt4 w ↦ left_skip c.args.n c.args.left c.args.end c.loop-a.a c.args.t c.if-left-eq0.false c.loop-a-test.true c.loop-a.c _ c.loop-a.invariant.1 _ w.if-held-lt4.false w.c-is
+  elim c.if-room.branch [
+    | then-room w ↦ rw w.c-is (left_with c.args.n c.args.left c.args.end c.loop-a.a c.args.t c.if-left-eq0.false c.loop-a-test.true c.loop-a.c _ c.loop-a.invariant.1 w.add.result w.count-c.result w.if-room.true w.add.ensures w.count-c.ensures)
+    | else-room w ↦ left_skip c.args.n c.args.left c.args.end c.loop-a.a c.args.t c.if-left-eq0.false c.loop-a-test.true c.loop-a.c _ c.loop-a.invariant.1 _ w.if-room.false w.c-is
   ],
 )
 

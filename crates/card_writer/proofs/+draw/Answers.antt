@@ -2,7 +2,7 @@
 use Rattle.std.proofs.Common.{◌≡◌, ◌+◌, ◌-◌, length, take, set, sym, ◌∙◌, arith, rules}
 use Rattle.card_writer.specs.search.Written.{written}
 use Rattle.card_writer.proofs.laws.Put.{left_same, left_put, left_room, put_done, leaf_room, put_leaf, put_over, written_end, written_skip, turn_with}
-use Rattle.card_writer.proofs.+draw.Goals.{then-t-a-lt4, else-t-a-lt4}
+use Rattle.card_writer.proofs.+draw.Goals.{then-room, else-room}
 use Rattle.card_writer.proofs.+draw.Goals as goal
 
 pub put_card-requires : goal.put_card-requires
@@ -20,7 +20,7 @@ pub draw-e-requires : goal.draw-e-requires
 draw-e-requires t c =
     let l : length c.args.prefix ≡ 8 = search rules in
     let a = c.loop-a.a in
-    let turn = turn_with c.args.prefix c.args.t c.add.result c.args.size c.args.left c.args.n c.args.end c.loop-a.a c.if-left-eq0.false c.requires.0 (omega (arith, c.requires.1)) c.loop-a-test.true c.if-t-a-lt4.true c.add.ensures in
+    let turn = turn_with c.args.prefix c.args.t c.add.result c.args.size c.args.left c.args.n c.args.end c.loop-a.a c.if-left-eq0.false c.requires.0 (omega (arith, c.requires.1)) c.loop-a-test.true c.if-room.true c.add.ensures in
     let r = left_room (written (take (c.args.size - (c.args.left - 1)) (set c.args.prefix (c.args.size - c.args.left) a)) c.args.n (c.args.left - 1) c.args.end a c.add.result)
     (written (take (c.args.size - c.args.left) c.args.prefix) c.args.n c.args.left c.args.end (a + 1) c.args.t) turn c.loop-a.invariant c.requires.3
     in
@@ -29,9 +29,9 @@ draw-e-requires t c =
 pub loop-a-preserved : goal.loop-a-preserved
 loop-a-preserved t c =
     let l : length c.args.prefix ≡ 8 = search rules in
-    elim c.if-t-a-lt4.branch [
-      | then-t-a-lt4 w ↦ rw (w.buf-is, w.e-is) (left_put (turn_with c.args.prefix c.args.t w.add.result c.args.size c.args.left c.args.n c.args.end c.loop-a.a c.if-left-eq0.false c.requires.0 (omega (arith, c.requires.1)) c.loop-a-test.true w.if-t-a-lt4.true w.add.ensures) c.loop-a.invariant w.draw-e.ensures)
-      | else-t-a-lt4 w ↦ rw (w.buf-is, w.e-is) (left_same (written_skip _ _ _ _ _ _ c.if-left-eq0.false c.loop-a-test.true w.if-t-a-lt4.false) c.loop-a.invariant)
+    elim c.if-room.branch [
+      | then-room w ↦ rw (w.buf-is, w.e-is) (left_put (turn_with c.args.prefix c.args.t w.add.result c.args.size c.args.left c.args.n c.args.end c.loop-a.a c.if-left-eq0.false c.requires.0 (omega (arith, c.requires.1)) c.loop-a-test.true w.if-room.true w.add.ensures) c.loop-a.invariant w.draw-e.ensures)
+      | else-room w ↦ rw (w.buf-is, w.e-is) (left_same (written_skip _ _ _ _ _ _ c.if-left-eq0.false c.loop-a-test.true w.if-room.false) c.loop-a.invariant)
     ]
 
 pub returns : goal.returns

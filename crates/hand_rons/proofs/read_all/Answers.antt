@@ -8,7 +8,7 @@ loop-left-preserved c =
     let w = c.loop-left in
     let place : w.i < 3 = omega (arith, w.invariant.number, c.loop-left-test.true, c.requires) in
     filled_more a.number a.s.now w.hands w.left w.i w.at w.invariant c.read_first-r.result c.read_first-r.ensures
-    (omega (arith, c.if-r-gt0.false)) c.loop-left-test.true place
+    (omega arith) c.loop-left-test.true place
 
 pub returns-clause-refusal_value : goal.returns-clause-refusal_value
 returns-clause-refusal_value c =
