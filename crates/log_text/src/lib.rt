@@ -1,5 +1,6 @@
 // The text of a log: its entries booked, and their lines written into a buffer, by whole lines. It takes all input.
 #![tactic(auto)]
+
 ghost use Rattle.std.specs.Prelude.{◌≡◌, [], ◌++◌, ◌+◌, ◌≤◌, ◌<◌, length, take, drop};
 ghost use Rattle.text.specs.Text.{length_in, buffer_with};
 ghost use Rattle.log_walk.specs.Walk.{entry_line, text_left, lines_of};
