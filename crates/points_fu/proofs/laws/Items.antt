@@ -6,7 +6,7 @@ use Rattle.std.proofs.lemmas.Bool.{eqb-false}
 use Rattle.tiles.specs.Below.{sum}
 use Rattle.tiles.specs.Kinds.{is_yaochu}
 use Rattle.tiles.specs.Groups.{is_triplet}
-use Rattle.tiles.proofs.laws.Below.{and_true, cond_le}
+use Rattle.tiles.proofs.laws.Below.{cond_le}
 use Rattle.yaku_basics.proofs.laws.Ways.{four, ways_open, group_placed}
 use Rattle.yaku_basics.specs.search.Ways.{ways_at}
 use Rattle.yaku_basics.specs.Tests.{is_value}
@@ -15,17 +15,7 @@ use Rattle.yaku.specs.declared.Won.{Won}
 use Rattle.yaku.specs.declared.FullReading.{FullReading}
 use Rattle.points_fu.specs.Fu.{fu, triplet_fu, group_fu, base_alone, added, rounded, regular_items, items_of, fu_of}
 use Rattle.points_fu.specs.search.Items.{items_by, earned}
-
-at_least : (b : Bool) (n t : ℕ) → n ≤ t → (b ≡ true → t ≡ 20) → n ≤ cond b 30 t
-at_least true n t h e = omega (arith, e refl)
-at_least false n t h e = h
-
--- rounding takes nothing away
-pub rounded_up : (closed : Bool) (n : ℕ) → n ≤ rounded closed n
-unfolding rounded
-rounded_up closed n =
-    let t = (n + 9) / 10 * 10 in
-    at_least (not closed && eqb t 20) n t (omega arith) (λ e. eqb-true t 20 (and_true (not closed) (eqb t 20) e).1)
+use Rattle.points_fu.proofs.laws.Up.{rounded_up}
 
 -- from 20 on it adds what is left to the next ten, and an open 20 ten
 by_tens : (closed : Bool) (n : ℕ) → 20 ≤ n → rounded closed n ≡ cond (not closed && eqb n 20) 30 (n + (10 - n % 10) % 10)

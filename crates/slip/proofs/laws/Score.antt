@@ -16,7 +16,7 @@ use Rattle.points_fu.specs.search.Items.{earned}
 use Rattle.points_value.specs.Value.{value_of}
 use Rattle.points_value.proofs.Claims.{yakuman_pays_as_one}
 use Rattle.points_value.proofs.laws.Claims.{fu_of_sum}
-use Rattle.points_fu.proofs.laws.Items.{rounded_up}
+use Rattle.points_fu.proofs.laws.Up.{rounded_up}
 use Rattle.score.specs.declared.Scored.{Scored}
 use Rattle.score.specs.Named.{won_of, seats_of, full_reading_of, worth, Named, reported, six, seven}
 use Rattle.score.specs.IsScore.{IsScore, eight, unreadable, read}
