@@ -1,12 +1,4 @@
--- `handset::hb_log_next` meets its contract.
-use borrow.Author.Rules.{rules}
-use mathlib.Core.Path.{◌≡◌, sym, ap, ◌∙◌}
-use mathlib.Core.Bool.{false}
-use mathlib.Core.List.{List}
-use Prim.Native.Nat.{ℕ, ◌/◌, ◌%◌, ◌<◌}
-use native.Mathlib.Omega.{arith}
-use lib.Dec.{eqb}
-use lib.ListN.{length, get_or}
+use Rattle.std.proofs.Common.{◌≡◌, ◌<◌, ◌/◌, ◌%◌, false, eqb, List, ℕ, length, get_or, sym, ap, ◌∙◌, arith}
 use Rattle.log_entry.specs.Entry.{letter_of}
 use Rattle.log_entry.specs.Log.{part_at, refusal_at}
 use Rattle.log_entry.specs.search.Found.{entry_of}
@@ -15,8 +7,7 @@ use Rattle.log_entry.proofs.laws.Letters.{IsLetter, letter_told}
 use Rattle.log_entry.proofs.laws.Next.{next_end, next_bad, next_part, refusal_end, refusal_bad, length_part, part_is_entry}
 use Rattle.handset.specs.declared.NextEntry.{NextEntry}
 use Rattle.handset.specs.Interface.{next_entry_by, next_entry_of}
-use Rattle.handset.proofs.hb_log_next.Statement.{statement}
-use Rattle.handset.proofs.hb_log_next.Tie as tie
+use Rattle.handset.proofs.hb_log_next.Goals as goal
 
 -- no entry, by the refusal
 abbrev no_entry : ℕ → NextEntry
@@ -40,27 +31,9 @@ some log at part kind argument letter e h k a l =
     let y : letter ≡ letter_of (entry_of (part_at log at)) = letter_told (part_at log at) (entry_of (part_at log at)) (part_is_entry log at p) p letter n in
     rw (k, a, y, e) (sym (ap next_entry_by (next_part log at p)))
 
-returns_2 : tie.Need-returns-2
-returns_2 c =
-    let kind = c.before.before in
-    let else1 = kind.before.before in
-    let next_entry = else1.before in
-    let a = next_entry.before.before.args in
-    some a.s.now a.at _ _ _ _ next_entry.next_entry.ensures else1.if1.false kind.kind.ensures c.before.argument.ensures
-    c.letter.ensures.0
+pub returns-then-length-eq0 : goal.returns-then-length-eq0
+returns-then-length-eq0 c = none c.args.s.now c.args.at _ _ c.next_entry-part.ensures c.refusal_at-refusal.ensures c.if-length-eq0.true
 
-pub hb_log_next_spec : {M : Type 1} → statement M
-hb_log_next_spec =
-    tie.close
-    (tie.spec
-    (λ c κs. search rules)
-    (λ c κs. search rules)
-    (λ c.
-    let next_entry = c.before.before in
-    let a = next_entry.before.before.args in
-    none a.s.now a.at _ _ next_entry.next_entry.ensures c.refusal-at.ensures c.before.if1.true)
-    (λ c. search rules)
-    (λ c κs. search rules)
-    (λ c κs. search rules)
-    (λ c κs. search rules)
-    returns_2)
+pub returns : goal.returns
+returns c =
+    some c.args.s.now c.args.at _ _ _ _ c.next_entry-part.ensures c.if-length-eq0.false c.kind-kind.ensures c.argument.ensures c.letter.ensures.by_index
