@@ -1,9 +1,5 @@
 -- What holds before every buffer that is printed: what is printed and what is left make up the text.
-use mathlib.Core.Path.{◌≡◌, ap}
-use mathlib.Core.List.{List, []}
-use Prim.Native.Nat.{ℕ, ◌+◌, ◌*◌, ◌≤◌, ◌<◌}
-use native.Mathlib.Omega.{arith}
-use lib.ListN.{length}
+use Rattle.std.proofs.Common.{◌≡◌, ap, List, [], ℕ, ◌+◌, ◌*◌, ◌≤◌, ◌<◌, length, arith}
 use Rattle.log_walk.specs.declared.Walk.{Walk}
 use Rattle.log_walk.specs.declared.Printed.{Printed}
 use Rattle.log_walk.specs.Walk.{started, printed_text, text_left, lines_of}
