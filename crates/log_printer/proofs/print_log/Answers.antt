@@ -1,5 +1,5 @@
 -- What is printed and what is left make up the text.
-use Rattle.std.proofs.Common.{◌≡◌, ◌≤◌, refl, sym, length, replicate, length-take-le, rules, arith}
+use Rattle.std.proofs.Common.{◌≡◌, refl, sym, length, replicate, length-take-le, rules, arith}
 use Rattle.log_printer.proofs.Kept.{starts, ends, fits, turns}
 use Rattle.log_printer.proofs.print_log.Goals as goal
 

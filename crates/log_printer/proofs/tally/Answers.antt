@@ -1,5 +1,5 @@
 -- Of a log that is longer only the first 65,536 bytes are taken.
-use Rattle.std.proofs.Common.{◌≡◌, sym, length, take, length-take-le, arith}
+use Rattle.std.proofs.Common.{sym, length-take-le, arith}
 use Rattle.log_walk.proofs.laws.Through.{text_cut}
 use Rattle.log_printer.proofs.tally.Goals as goal
 
