@@ -1,7 +1,7 @@
 #!/usr/bin/env python3
 """Checks that quotation marks stand around the papers' own words: quotes.py PAPER... A line for each fault and exit status 1, else a count.
 
-Every stretch in double quotes in a comment of crates/*/specs/*.antt and crates/*/proofs/Claims.antt is in one of the papers, word for word: white space, the case of its first
+Every stretch in double quotes in a comment of crates/*/specs/*.antt and crates/*/proofs/Claims.antt and ExactlyOne.antt is in one of the papers, word for word: white space, the case of its first
 letter and marks at its end apart. Two or three dots stand for words that are left out."""
 import glob
 import os
@@ -36,7 +36,7 @@ def main():
     if not papers:
         sys.exit(__doc__)
     count, faults = 0, []
-    for path in sorted(glob.glob(f"{ROOT}/crates/*/specs/*.antt") + glob.glob(f"{ROOT}/crates/*/proofs/Claims.antt")):
+    for path in sorted(glob.glob(f"{ROOT}/crates/*/specs/*.antt") + glob.glob(f"{ROOT}/crates/*/proofs/Claims.antt") + glob.glob(f"{ROOT}/crates/*/proofs/ExactlyOne.antt")):
         for line, comment in comments(path):
             for quote in re.findall(r'"((?:[^"]|"end")+)"', comment):
                 count += 1
