@@ -6,8 +6,11 @@ value as MIR copies it; a slice is a pointer and 64 bits of length; an enum is a
 an enum, whose tag says which was written, so the order of bytes in a number changes no answer."""
 import json
 
+from in_c import IN_C
 from mir import Libraries, Unknown, form
 
+# what a declared type says of itself beside its name and shape: it has no parameters, owns nothing and is no cell
+PLAIN = {"lifetimes": 0, "bounds": [], "type_params": 0, "const_params": [], "type_bounds": [], "owns": False, "is_cell": False, "is_tuple": False}
 BYTE, WORD, BOOL, UNIT, PTR = ("int", 8), ("int", 64), ("bool",), ("unit",), ("ptr",)
 
 
@@ -18,10 +21,10 @@ def type_of(node):
         return "int", content
     if name in ("Bool", "Unit", "Ptr"):
         return (name.lower(),)
-    if name == "Named":
-        return "named", content["name"]
-    if name == "Array" and "Lit" in content[1]:
-        return "array", type_of(content[0]), content[1]["Lit"]
+    if name == "Named" and content[0]["lifetimes"] == content[1] == []:
+        return "named", content[0]["name"]
+    if name == "Array":
+        return "array", type_of(content[0]), length_of(content[1])
     if name == "Ref" and content[1] in ("Imm", "Mut"):
         return "ref", content[1] == "Mut", type_of(content[2])
     if name == "Struct" and content[0] == "&[]":
@@ -31,23 +34,33 @@ def type_of(node):
     raise Unknown(f"type {json.dumps(node)[:100]}")
 
 
+def length_of(node):
+    """The length of an array."""
+    name, content = form(node)
+    if name != "Lit":
+        raise Unknown(f"length {json.dumps(node)[:100]}")
+    return content
+
+
 def c_name(path):
     """C's name of a function or type of the source: hand_record::read is hand_record_read."""
-    return path.replace("::", "_")
+    return IN_C[path].name if path in IN_C else path.replace("::", "_")
 
 
 class Types:
     """C's names of types, and their definitions in order. Of each function, `lent` has the parameters that are lent and whether it can write."""
 
     def __init__(self, libraries):
-        self.libraries, self.shapes, self.defined, self.text, self.lent = libraries, {}, {}, [], {}
+        self.libraries, self.shapes, self.defined, self.text = libraries, {}, {}, []
+        self.lent = {name: (set(), True) for name in IN_C}
 
     def add_shapes(self, nodes):
         """Takes in the declared types of a function: a list of fields, or of an enum a tuple of such lists."""
         for node in nodes:
             kind, content = form(node["shape"])
-            if kind not in ("Fields", "Variants"):
-                raise Unknown(f"shape {kind} of {node['name']}")
+            other = {part: said for part, said in node.items() if part not in ("name", "shape")}
+            if kind not in ("Fields", "Variants") or other != PLAIN:
+                raise Unknown(f"shape {kind} of {node['name']}, {other}")
             shape = [type_of(t) for t in content] if kind == "Fields" else tuple([type_of(t) for t in fields] for fields in content)
             if self.shapes.setdefault(node["name"], shape) != shape:
                 raise Unknown(f"two shapes of {node['name']}")
@@ -57,7 +70,7 @@ class Types:
 
     def members(self, name):
         """The names of a type's fields or variants."""
-        return Libraries.names(self.libraries.fields, name, len(self.shapes[name]))
+        return Libraries.names(name, self.libraries.members(name), len(self.shapes[name]))
 
     def c(self, t):
         """C's name of a type; the first time its definition too, after those of what it is made of."""

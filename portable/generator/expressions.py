@@ -11,7 +11,7 @@ and MIR is not, any result is right.
   compiler's checks know the array; the offset is the index times the element's size, which has no padding (Types.is_packed)."""
 import operator
 
-from c_types import BOOL, BYTE, PTR, UNIT, WORD, type_of
+from c_types import BOOL, BYTE, PTR, UNIT, WORD, length_of, type_of
 from mir import Unknown, form
 from rules import Locals, Pointer, Value
 
@@ -37,7 +37,7 @@ class Expressions(Locals):
                 self.may_write(value, writes and not value.mutable)
                 value, shared = Value(self.element(value), value.element), True
             elif name == "Deref" and kind[0] == "ref" and type_of(content) == kind[2]:
-                value, shared = Value("*" + value.inside(), kind[2]), True
+                value, shared = Value(self.behind(value), kind[2]), True
             elif name == "Field" and kind[0] == "slice":
                 value = self.member(value, ("at", "len")[content], (("ref", kind[1], BYTE), WORD)[content])
             elif name == "Variant" and self.types.is_enum(kind):
@@ -51,6 +51,11 @@ class Expressions(Locals):
                 raise Unknown(f"step {name} {content} at a value of type {kind}")
             value.shared = shared
         return value
+
+    @staticmethod
+    def behind(value):
+        """What a reference points to."""
+        return value.text[1:] if value.text[0] == "&" else "*" + value.inside()
 
     @staticmethod
     def member(value, name, kind):
@@ -69,12 +74,17 @@ class Expressions(Locals):
         return f"{pointer.start}[{index}]"
 
     def address(self, node, kind):
-        """A place's address: of an array; or of a place behind a pointer, which is that pointer."""
+        """A place's address: of an array; or of a place behind a pointer, which is that pointer, or that of the first element there."""
         local, steps = node["local"], node["steps"]
         if steps and form(steps[-1])[0] == "Deref":
             value = self.place({"local": local, "steps": steps[:-1]})
             if isinstance(value, Pointer):
                 value = Value("&" + self.element(value), ("ref", value.mutable, value.element), table=value.table)
+            behind = type_of(form(steps[-1])[1])
+            if value.type[0] == "ref" and value.type[2][:2] == ("array", behind):
+                value = Value(self.start(value).start, ("ref", value.type[1], behind), table=value.table)
+            if value.type[0] != "ref" or value.type[2] != behind:
+                raise Unknown(f"the address of a {behind} behind a {value.type}")
         elif not steps and self.kinds[local][0] == "array":
             text = self.read(local).text
             value = Value(text[1:] if text[0] == "*" else "&" + text, ("ref", local not in self.tables, self.kinds[local]), table=local)
@@ -87,7 +97,7 @@ class Expressions(Locals):
         """A reference as a raw pointer: to the first element of the array behind it, or to bytes."""
         if isinstance(value, Pointer) or value.type[2][0] != "array":
             return value if isinstance(value, Pointer) else Pointer(value.text, *value.type[1:], table=value.table)
-        array = Value(value.text[1:] if value.text[0] == "&" else "*" + value.text, value.type[2])
+        array = Value(self.behind(value), value.type[2])
         return Pointer(self.member(array, "at", UNIT).text, value.type[1], value.type[2][1], table=value.table)
 
     # ---- operands and values
@@ -126,7 +136,7 @@ class Expressions(Locals):
             value = self.operand(content[0])
             if value.alone:
                 self.keep(*self.calls)
-            return "{{0}}" if value.number == 0 or value.text == "false" else "{{" + ", ".join([value.text] * content[1]) + "}}"
+            return "{{0}}" if value.number == 0 or value.text == "false" else "{{" + ", ".join([value.text] * length_of(content[1])) + "}}"
         values = [self.operand(part) for part in content]
         if self.types.is_enum(kind):
             variant = self.types.members(kind[1])[values[0].number]

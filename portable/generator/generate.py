@@ -5,13 +5,14 @@ RLIBS are folders of built libraries (NAME.rlib), KIT what `rt version` says. Fr
 calls reach, one C function, CRATE_FUNCTION, for one function of the MIR, and at the end the calls as HEADER declares them. The same input gives
 the same file. A form of MIR that is not known here is named, and nothing is written: exit status 1. --checked: checked.py.
 
-To read the generator: mir.py (reading), c_types.py (types), rules.py (four rules that go beyond writing MIR down), expressions.py, statements.py,
-header_calls.py (the exported calls), and here the file."""
+To read the generator: mir.py (reading), in_c.py (functions that stand there in C), c_types.py (types), rules.py (four rules that go beyond writing
+MIR down), expressions.py, statements.py, header_calls.py (the exported calls), and here the file."""
 import sys
 
 from c_types import Types
 from checked import Checked, checks
 from header_calls import HeaderCalls
+from in_c import written
 from mir import Libraries, Unknown, crate_of
 from statements import Function, wrapped
 
@@ -21,6 +22,7 @@ FIRST = """\
  *   of the mir.json of these libraries, one after the other:
 {names}
  * Kit: {kit}
+ * In C by hand: {in_c}
  * Calls:
 {calls}
  */
@@ -52,10 +54,8 @@ def listed(names):
 
 def c_file(libraries, library, header, kit, kind=Function):
     """The file's text."""
-    types, order, seen, functions, early, helpers, above = Types(libraries), [], set(), [], [], set(), set()
-    exported = libraries.exported.get(library)
-    if not exported:
-        raise Unknown(f"{library}: no such library with exported functions")
+    types, order, seen, functions, early, helpers, above, in_c = Types(libraries), [], set(), [], [], set(), set(), set()
+    exported = libraries.exports(library)
     for name in sorted(exported):
         libraries.reached(name, order, seen)
     for name in order:
@@ -67,14 +67,18 @@ def c_file(libraries, library, header, kit, kind=Function):
         except Unknown as unknown:
             raise Unknown(f"{name}: {unknown}") from unknown
         helpers |= function.helpers
+        in_c |= function.in_c
     calls = HeaderCalls(types, libraries)
     for name in exported:
         calls.call(name)
     crates = sorted({crate_of(name) for name in order})
     first = FIRST.format(header=header, library=library, functions=len(order), libraries=len(crates), digest=libraries.digest(crates),
-                         names=listed(crates), kit=kit, calls=listed(sorted(name.rsplit("::", 1)[1] for name in exported)))
+                         names=listed(crates), kit=kit, in_c=", ".join(sorted(in_c)) or "nothing",
+                         calls=listed(sorted(name.rsplit("::", 1)[1] for name in exported)))
+    by_hand = [SIGNED_READING.format(width) for width in sorted(helpers | calls.helpers)]
+    by_hand += [written(name, types, kind is Checked) for name in sorted(in_c)]
     return "\n".join([first, START] + ["\n".join(checks()) + "\n"] * (kind is Checked) + [SAME, "\n".join(types.text) + "\n"]
-                     + [SIGNED_READING.format(width) for width in sorted(helpers | calls.helpers)] + early + functions + calls.text)
+                     + by_hand + early + functions + calls.text)
 
 
 def main():

@@ -26,14 +26,14 @@ class HeaderCalls:
 
     def is_struct(self, t):
         """A struct that the header has; one of a single nameless field is that field there."""
-        return t[0] == "named" and self.libraries.fields[t[1]][0][0] != "f0"
+        return t[0] == "named" and self.libraries.members(t[1])[0][0] != "f0"
 
     def copy(self, way, t):
         """The name of the function that takes a struct from the header's form, or gives it."""
         name, ours, theirs = f"{way}_{c_name(t[1])}", self.types.c(t), self.c(t)
         if name not in self.copies:
             self.copies.add(name)
-            fields = zip(self.libraries.fields[t[1]], self.types.shapes[t[1]])
+            fields = zip(self.libraries.members(t[1]), self.types.shapes[t[1]])
             lines = [line for (field, source), kind in fields for line in self.field(way, f"->{field}", f"->{field}", kind, source)]
             given = f"{ours} *to, const {theirs} *from" if way == "take" else f"{theirs} *to, const {ours} *from"
             self.text += [f"static void {name}({given})", "{"] + ["    " + line for line in lines] + ["}", ""]
@@ -48,7 +48,7 @@ class HeaderCalls:
         if self.is_struct(t):
             return [f"{self.copy(way, t)}(&{to}, &{from_});"]
         if t[0] == "named":
-            field, inner = self.libraries.fields[t[1]][0]
+            field, inner = self.libraries.members(t[1])[0]
             return self.field(way, f"{ours}.{field}", theirs, self.types.shapes[t[1]][0], inner)
         same = f"SAME({(from_ if way == 'take' else to).replace('[i]', '[0]')}, {self.c(t, source)});"
         return [same, f"{to} = {self.number(from_, t, self.c(t, source), way)};"]
@@ -62,7 +62,7 @@ class HeaderCalls:
 
     def call(self, name):
         """A call: what it is given is taken, the function of the MIR called, what it lent and its result given."""
-        node, given, before, values, after = self.libraries.functions[name], [], [], [], []
+        node, given, before, values, after = self.libraries.function(name), [], [], [], []
         result, *kinds = [type_of(local["ty"]) for local in node["locals"][:node["params"] + 1]]
         for i, (t, (p, source)) in enumerate(zip(kinds, self.libraries.parameters[name]), 1):
             behind, const = t[2] if t[0] == "ref" else t, "const " if t[0] in ("ref", "slice") and not t[1] else ""

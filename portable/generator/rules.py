@@ -15,13 +15,18 @@ why the C still does what the MIR does; where its condition is not met, the loca
    MIR indexes nothing but memory, so it copies a parameter before it indexes it. Right because such a copy is assigned once, and never written
    after: if a write or a reference that could write is met, it is a variable again. By rule 2 the original stays as it was.
 4. An array of constants that is only read is `static const` (`tables`).
-   Right because it is assigned once, only with constants, and then, as in rule 3, never written: each call of the function would make the same."""
+   Right because it is assigned once, only with constants, and then, as in rule 3, never written: each call of the function would make the same.
+   One that the MIR itself lends is written so too (`static`)."""
 from dataclasses import dataclass
 
 from c_types import Types, c_name, type_of
-from mir import Unknown, form
+from in_c import IN_C
+from mir import Unknown, callee, form
 
 OVER = 8  # bytes; a struct up to this size is passed as cheaply as its address
+PARTS = {"lifetimes", "outlives", "params", "generics", "types", "locals", "body"}  # of a function
+# a function without parameters for types or traits; which traits its calls need stands there too, and is seen at each call
+PLAIN = {"types": [], "outlives": [], "bounds": [], "method_of": None, "trait_lifetimes": 0}
 
 
 class Again(Exception):
@@ -60,17 +65,20 @@ class Locals:
     """The locals of one function of the MIR, as far as the rules have to know them."""
 
     def __init__(self, types: Types, libraries, name):
-        self.types, self.name, self.node, self.helpers = types, name, libraries.functions[name], set()
+        self.types, self.name, self.node, self.helpers, self.in_c = types, name, libraries.function(name), set(), set()
         homes = {local["home"] for local in self.node.get("locals", ())}
-        if set(self.node) != {"lifetimes", "outlives", "params", "types", "locals", "body"} or not homes <= {"ValueLocal", "MemorySlot"}:
+        if set(self.node) != PARTS or not homes <= {"ValueLocal", "MemorySlot"}:
             raise Unknown(f"parts of a function: {sorted(self.node)}, {sorted(homes)}")
+        generics = {part: said for part, said in self.node["generics"].items() if part != "impls"}
+        if generics != PLAIN:
+            raise Unknown(f"a function with parameters for types or traits: {generics}")
         types.add_shapes(self.node["types"])
         self.kinds = [type_of(local["ty"]) for local in self.node["locals"]]
         self.slots = {i for i, local in enumerate(self.node["locals"]) if local["home"] == "MemorySlot"}  # those that a reference can reach
         self.parameters = range(1, self.node["params"] + 1)
-        names = libraries.names(libraries.parameters, name, len(self.parameters))
+        names = libraries.names(name, libraries.parameters.get(name, []), len(self.parameters))
         self.names = ["v0"] + names + [f"v{i}" for i in range(len(names) + 1, len(self.kinds))]
-        given = [s["Assign"] for s in self.node["body"] if isinstance(s, dict) and "Assign" in s and not s["Assign"][0]["steps"]]
+        given = [assign for assign in self.all("Assign") if not assign[0]["steps"]]
         assigned = [place["local"] for place, _ in given]
         if (self.slots | set(assigned)) & set(self.parameters):
             raise Unknown("a parameter that is written")
@@ -80,7 +88,23 @@ class Locals:
         # the arrays of rules 3 and 4, until one is seen to be written
         self.tables = {place["local"]: value for place, value in given
                        if place["local"] in self.slots and assigned.count(place["local"]) == 1 and self.is_constant(value) is not None}
+        self.statics = {lend[0]["local"]: self.static(*lend) for lend in self.all("LendStatic")}  # constant arrays behind a `&`
         self.begin()
+
+    def all(self, kind):
+        """What stands in all statements of a kind."""
+        return [s[kind] for s in self.node["body"] if isinstance(s, dict) and kind in s]
+
+    def static(self, place, node, values):
+        """A constant array that is lent to a local, and to no other: its type and the numbers."""
+        t, (name, content) = type_of(node), form(values)
+        places = [assign[0] for assign in self.all("Assign") + self.all("LendStatic")] + [call[2] for call in self.all("Call")]
+        whole = [*self.parameters] + [other["local"] for other in places if not other["steps"]]
+        if place["steps"] or whole.count(place["local"]) != 1:
+            raise Unknown("a constant that is lent to a part of a local, or to one with another value")
+        if name != "Ints" or t != ("array", ("int", content["width"]), len(content["values"])) or self.kinds[place["local"]] != ("ref", False, t):
+            raise Unknown(f"a constant {name} of type {t} that is lent to one of type {self.kinds[place['local']]}")
+        return t, content["values"]
 
     def begin(self):
         """Nothing of the function is written yet."""
@@ -111,6 +135,8 @@ class Locals:
         self.reads += 1
         if local in self.pointers:
             return self.pointers[local]
+        if local in self.statics:
+            return self.lent_static(local, *self.statics[local])
         if local in self.tables and "Opd" in self.tables[local]:
             return self.operand(self.tables[local]["Opd"])
         if local in self.kept:
@@ -121,6 +147,14 @@ class Locals:
         value = self.pending.pop(local)
         self.calls += [local] if value.alone else []
         return value
+
+    def lent_static(self, local, t, numbers):
+        """The address of a constant array, which stands above from its first use on."""
+        if local not in self.seen:
+            self.seen.add(local)
+            given = ", ".join(self.constant(t[1], number % 2 ** t[1][1]).text for number in numbers)
+            self.top.append(f"static const {self.declared(local, t)} = {{{{{given}}}}};")
+        return Value("&" + self.names[local], self.kinds[local])
 
     def keep(self, *locals_):
         """These are variables."""
@@ -142,8 +176,10 @@ class Locals:
 
     # ---- rule 2: a big argument is lent
 
-    def call(self, name, nodes):
+    def call(self, node, nodes):
         """A call with its arguments."""
+        name = callee(node)
+        self.in_c |= {name} & set(IN_C)
         lent, writes = self.types.lent[name]
         given = [self.lend(node, writes) if i in lent else self.operand(node).text for i, node in enumerate(nodes, 1)]
         return f"{c_name(name)}({', '.join(given)})"

@@ -54,6 +54,8 @@ class Function(Expressions):
                 lines += self.written("break;" if s[1] else "continue;")
             elif s[0] in ("If", "Switch"):
                 lines += self.branches(s, depth)
+            elif s[0] == "LendStatic":
+                continue  # it stands above, where it is read
             elif s[0] == "Block" and len(s[2]) == 1 and s[2][0][0] == "Loop":
                 lines += self.written() + self.loop(s[2][0][2], depth)
             else:
@@ -68,9 +70,9 @@ class Function(Expressions):
         place, target = content[0] if name == "Assign" else content[2], None
         local, kind = place["local"], self.kinds[place["local"]]
         if name == "Call":
-            if form(content[0])[0] != "Direct" or place["steps"]:
-                raise Unknown("a call that is not direct, or whose result is put behind a step")
-            value = Value(self.call(content[0]["Direct"], content[1]), kind, alone=True)
+            if place["steps"]:
+                raise Unknown("a call whose result is put behind a step")
+            value = Value(self.call(content[0], content[1]), kind, alone=True)
         elif place["steps"]:
             target = self.place(place, writes=True)
             value = self.value(content[1], target.type)

@@ -49,6 +49,10 @@ EDITS = [
     ("expressions", '", ".join([value.text] * content[1])', '", ".join([value.text] * (content[1] - 1))'),
     ("expressions", 'content["value"] % 2 ** content["width"]', 'content["value"] % 2 ** 31'),
     ("expressions", '"{{0}}" if value.number == 0 or value.text == "false"', '"{{0}}" if True'),
+    # constants that are lent, the address behind one, what stands in C
+    ("rules", 'number % 2 ** t[1][1]', 'number % 2 ** 32'), ("rules", 'for number in numbers)', 'for number in numbers[::-1])'),
+    ("expressions", 'value.text[1:] if value.text[0] == "&" else', ''), ("expressions", 'Value(self.start(value).start, ("ref"', 'Value(value.text, ("ref"'),
+    ("in_c", 'i < to.len', 'i + 1 < to.len'), ("in_c", 'to.at[i] = from.at[i]', 'to.at[i] = from.at[0]'),
     # the header's structs
     ("header_calls", 'if ref and t[1] else []', 'if False else []'), ("header_calls", 'else f"signed{t[1]}({text})"', 'else "0"'),
     ("header_calls", 'return "size_t" if t == WORD else', 'return "uint32_t" if t == WORD else'),

@@ -22,18 +22,26 @@ EDITS = [  # what stands there, what to put there, and what the generator names
     ('{"Rem": "Unsigned"}', '{"Rem": "Signed"}', "Rem Signed"), ('"And"', '"Xor"', "Xor"), ('"Unsigned"', '"Wrapping"', "Wrapping"),
     ('"Op1": ["Not"', '"Op1": ["Neg"', "Neg"), ('"Cast": ["Unsigned"', '"Cast": ["Float"', "Cast"), ('{"Int": 8}', '{"Int": 128}', "128"),
     ('"Loop"', '"While"', "While"), ('{"Exit": 1}', '{"Exit": 2}', "Exit 2"), ('"Switch"', '"Match"', "Match"), ('"Block", "Loop"', '"Loop"', "Loop"),
-    ('"Direct"', '"Indirect"', "not direct"), ('{"Deref": {"Int": 8}}', '{"Deref": {"Int": 16}}', "Deref"), ('{"Variant": 0}', '{"Downcast": 0}', "Downcast"),
+    ('"Fn"', '"Closure"', "not direct"), ('{"Deref": {"Int": 8}}', '{"Deref": {"Int": 16}}', "Deref"), ('{"Variant": 0}', '{"Downcast": 0}', "Downcast"),
     ('"Aggregate"', '"Union"', "Union"), ('"AddrOf"', '"AddrOfMut"', "AddrOfMut"), ('"False"', '"Never"', "Never"), ('"Fields"', '"Opaque"', "Opaque"),
     ('"Variants"', '"Layers"', "Layers"), ('"params"', '"parameters"', "parameters"),
-    ('{"Direct": "', '{"Direct": "gone::', "gone::"), ('"Lit"', '"Param"', "Param"),
+    ('{"Fn": ["', '{"Fn": ["gone::', "gone::"), ('"Lit"', '"Param"', "Param"),
     ('"&[]"', '"&str"', "&str"), ('"Imm"', '"Weak"', "Weak"), ('"MemorySlot"', '"Register"', "Register"),
+    # types, traits and lifetimes as parameters; a constant that is lent
+    ('{"types": [], "dicts": []}', '{"types": [{"Int": 8}], "dicts": []}', "types"), ('"method_of": null', '"method_of": {"Impl": 0}', "method_of"),
+    ('"generics": {"types": []', '"generics": {"types": [0]', "parameters for types"), ('"type_params": 0', '"type_params": 1', "type_params"),
+    ('"owns": false', '"owns": true', "owns"), ('"lifetimes": []}, []]}', '"lifetimes": ["Erased"]}, []]}', "Erased"),
+    ('"lifetimes": []}, []]}', '"lifetimes": []}, [{"Int": 8}]]}', "Named"), ('U8Clone", [], []', 'U8Clone", [], [0]', "U8Clone"),
+    ('T::copy_from_slice', 'T::clone_from_slice', "clone_from_slice"), ('"LendStatic"', '"LendMut"', "LendMut"), ('"Ints"', '"Bools"', "Bools"),
+    ('"values": [', '"values": [0, ', "lent"), ('"steps": []}, {"Array"', '"steps": [{"Field": 0}]}, {"Array"', "part of a local"),
+    ('{"Deref": {"Array": [{"Int": 64}, {"Lit": 5}]}}', '{"Deref": {"Int": 32}}', "behind"),
 ]
 
 
 def said(libraries, library, old, new):
     """The function that was edited, and what the generator says then: nothing where it goes on. No function: the form stands nowhere."""
     order = []
-    for name in sorted(libraries.exported[library]):
+    for name in sorted(libraries.exports(library)):
         libraries.reached(name, order, set(order))
     for name in order:
         text = json.dumps(libraries.functions[name])
