@@ -1,8 +1,8 @@
 #!/usr/bin/env python3
 """Wrong generators must be found: mutants.py LIBRARY RLIBS..
 
-Each edit makes the generator wrong in one place. It is found where the generator stops, gcc with -Werror refuses the file, interface/tests/ fails
-or does not end, or small.py fails. Exit status 1 if one is not found."""
+Each edit makes a copy of the generator wrong in one place; the copy without an edit has to be right. It is found where the generator stops, gcc
+with -Werror refuses the file, interface/tests/ fails or does not end, or small.py fails. Exit status 1 if one is not found."""
 import glob
 import os
 import shutil
@@ -46,7 +46,7 @@ EDITS = [
     # members, tags, constants
     ("expressions", 'self.types.members(kind[1])[content], self', 'self.types.members(kind[1])[content - 1], self'),
     ("expressions", '"at", "len")[content]', '"len", "at")[content]'), ("expressions", 'f".tag = {values[0].number}"', 'f".tag = {1 - values[0].number}"'),
-    ("expressions", '", ".join([value.text] * content[1])', '", ".join([value.text] * (content[1] - 1))'),
+    ("expressions", '", ".join([value.text] * length_of(content[1]))', '", ".join([value.text] * (length_of(content[1]) - 1))'),
     ("expressions", 'content["value"] % 2 ** content["width"]', 'content["value"] % 2 ** 31'),
     ("expressions", '"{{0}}" if value.number == 0 or value.text == "false"', '"{{0}}" if True'),
     # constants that are lent, the address behind one, what stands in C
@@ -87,11 +87,15 @@ def found_by(generator, folder, test, given):
 def main():
     alive = 0
     with tempfile.TemporaryDirectory() as folder:
-        test, generator = os.path.join(folder, "test.o"), os.path.join(folder, "generator")
+        test, generator = os.path.join(folder, "test.o"), os.path.join(folder, "portable", "generator")
+        os.symlink(os.path.join(ROOT, "tools"), os.path.join(folder, "tools"))  # the generator reads layout.py there
         run(*GCC, "-r", "-nostdlib", *glob.glob(os.path.join(ROOT, "interface", "tests", "*.c")), "-o", test)
-        if found_by(GENERATOR, folder, test, sys.argv[1:]):
-            sys.exit("mutants.py: the generator itself is found wrong")
+        shutil.copytree(GENERATOR, generator)
+        found = found_by(generator, folder, test, sys.argv[1:])
+        if found:
+            sys.exit(f"mutants.py: the generator itself is found wrong by {found}")
         for module, old, new in EDITS:
+            shutil.rmtree(generator)
             shutil.copytree(GENERATOR, generator)
             path = os.path.join(generator, module + ".py")
             with open(path) as file:
@@ -103,7 +107,6 @@ def main():
             found = found_by(generator, folder, test, sys.argv[1:])
             alive += found is None
             print(f"{found or 'NOT FOUND'} | {module}: {old.strip()[:60]!r} -> {new.strip()[:60]!r}", flush=True)
-            shutil.rmtree(generator)
     print(f"{len(EDITS)} wrong generators, {alive} not found")
     sys.exit(alive != 0)
 
