@@ -51,7 +51,8 @@ EDITS = [
     ("expressions", '"{{0}}" if value.number == 0 or value.text == "false"', '"{{0}}" if True'),
     # constants that are lent, the address behind one, what stands in C
     ("rules", 'number % 2 ** t[1][1]', 'number % 2 ** 32'), ("rules", 'for number in numbers)', 'for number in numbers[::-1])'),
-    ("expressions", 'value.text[1:] if value.text[0] == "&" else', ''), ("expressions", 'Value(self.start(value).start, ("ref"', 'Value(value.text, ("ref"'),
+    ("expressions", 'value.text[1:] if value.text[0] == "&" else', ''),
+    ("expressions", 'Value(self.start(value).start, ("ref"', 'Value(value.text, ("ref"'),
     ("in_c", 'i < to.len', 'i + 1 < to.len'), ("in_c", 'to.at[i] = from.at[i]', 'to.at[i] = from.at[0]'),
     # the header's structs
     ("header_calls", 'if ref and t[1] else []', 'if False else []'), ("header_calls", 'else f"signed{t[1]}({text})"', 'else "0"'),

@@ -1,10 +1,10 @@
 #!/usr/bin/env python3
-"""Functions that the proved code does not have, for the conditions of rules 1 and 2: small.py GENERATOR
+"""Functions that the proved code does not have, for the conditions of rules 1 and 2 and for what is lent: small.py GENERATOR
 
 A library of MIR written by hand is put through the generator in the folder GENERATOR, compiled and run. In hb_lent a big argument is copied from
-an array that the call writes through a slice; in hb_before and hb_after a byte is read before or after a call that writes it, and both are added. hb_wide adds two constants whose sum has 33
-bits; hb_rows writes one row of an array of arrays and reads it and the next. In hb_table and hb_wide_table constant arrays are
-lent, of the first also a slice, whose pointer is used twice; hb_copied calls the function of core that stands in C.
+an array that the call writes through a slice; in hb_before and hb_after a byte is read before or after a call that writes it, and both are added.
+hb_wide adds two constants whose sum has 33 bits; hb_rows writes one row of an array of arrays and reads it and the next. In hb_table and
+hb_wide_table constant arrays are lent, of the first also a slice, whose pointer is used twice; hb_copied calls core's function that stands in C.
 Exit status 1 if an answer is wrong."""
 import json
 import os
