@@ -108,7 +108,8 @@ pub fn write(suit: u8, size: u8, buf: &mut [u8]) -> Cards
     ensures value { result ≡ answer_of suit size (length buf.old) }
     ensures buf_after { buf.new ≡ card_buffer suit size buf.old }
 {
-    if 2 < suit {
+    let no_suit = 2 < suit;
+    if no_suit {
         return refused();
     }
     if !is_size(size) {

@@ -204,7 +204,8 @@ fn weighed(yaku: bool, paid: Points, gain: Points, most: Points) -> u8
     if paid.0 != gain.0 {
         return 3;
     }
-    if paid.0 < most.0 {
+    let less = paid.0 < most.0;
+    if less {
         return 4;
     }
     0

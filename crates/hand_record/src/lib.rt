@@ -128,7 +128,8 @@ pub fn read(s: &[u8]) -> HandRead
     ensures { result ≡ read_of s.now }
 {
     let n = s.len();
-    if n < 4 {
+    let short = n < 4;
+    if short {
         return refused(1);
     }
     let h = header(s);

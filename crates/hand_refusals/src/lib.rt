@@ -19,7 +19,8 @@ fn over_33(c: [u8; 13], n: usize) -> bool
     ensures { result ≡ any_below n (λ i. ltb 33 (get_or c i 0)) }
 {
     for i in 0..n {
-        if 33 < c[i] {
+        let over = 33 < c[i];
+        if over {
             return true;
         }
     }

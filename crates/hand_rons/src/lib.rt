@@ -46,7 +46,8 @@ fn no_hand() -> Hand {
 fn cut(number: u8, s: &[u8]) -> usize
     ensures { result ≡ cut_of number s.now }
 {
-    if number == 1 {
+    let last = number == 1;
+    if last {
         return s.len();
     }
     hand_record::record_length(s)

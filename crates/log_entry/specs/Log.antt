@@ -41,7 +41,7 @@ unfoldable pub entries_few : ℕ → List ℕ → List LogEntry
 entries_few zero s = []
 entries_few (suc fuel) s = entries_by (next_of s 0) (λ n. entries_few fuel (drop n s))
 
--- all entries of bytes: at most as many as there are bytes (`Walk-Ends`), so that this fuel is enough (`parts_follow`)
+-- all entries of bytes: at most as many as there are bytes (`walk_ends`), so that this fuel is enough (`parts_follow`)
 unfoldable pub entries_of : List ℕ → List LogEntry
 entries_of s = entries_few (length s) s
 

@@ -131,7 +131,8 @@ fn multi_ron_length(argument: u8, rest: &[u8]) -> usize
     if argument == 0 {
         return 0;
     }
-    if 3 < argument {
+    let over = 3 < argument;
+    if over {
         return 0;
     }
     with_header(records_length(argument, rest))
@@ -166,7 +167,8 @@ fn length_by(kind: u8, argument: u8, rest: &[u8]) -> usize
     if kind == PAO {
         return pao_length(argument, rest);
     }
-    if CHOMBO < kind {
+    let above = CHOMBO < kind;
+    if above {
         return 0;
     }
     1
@@ -187,7 +189,8 @@ fn correction_length(argument: u8, rest: &[u8]) -> usize
     if k < WIN {
         return 0;
     }
-    if MULTI_RON < k {
+    let above = MULTI_RON < k;
+    if above {
         return 0;
     }
     with_header(length_by(k, header % 16, &rest[1..]))

@@ -31,7 +31,8 @@ fn print_log<R: Print>(rt: &R, s: &[u8]) -> io::Result<usize>
 pub fn tally<R: Print>(rt: &R, s: &[u8]) -> io::Result<usize>
     ensures { IfOk result (λ n. n ≡ length (printed_text s.now)) }
 {
-    if s.len() <= 65536 {
+    let whole = s.len() <= 65536;
+    if whole {
         return print_log(rt, s);
     }
     print_log(rt, &s[..65536])

@@ -78,7 +78,8 @@ pub fn riichi(p: Position, seat: u8) -> Moved
     }
     let d = p.declared;
     let i = seat as usize;
-    if 0 < d[i] {
+    let again = 0 < d[i];
+    if again {
         return refused(p, 10);
     }
     let s = p.scores;

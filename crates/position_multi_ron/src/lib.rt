@@ -40,7 +40,8 @@ fn settle_all(p: Position, first: u8, number: u8, hands: [Hand; 3]) -> Settled
             to_foremost(foremost, p.counter),
             to_foremost(foremost, p.sticks),
         );
-        if 0 < t.refusal {
+        let refused = 0 < t.refusal;
+        if refused {
             return t;
         }
         let a = t.gives;

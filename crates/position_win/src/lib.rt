@@ -147,7 +147,8 @@ pub fn win(p: Position, s: &[u8]) -> Moved
         return position_bookings::refused(p, 9);
     }
     let t = settle(p, s, p.counter, p.sticks);
-    if 0 < t.refusal {
+    let refused = 0 < t.refusal;
+    if refused {
         return position_bookings::refused(p, t.refusal);
     }
     let dealers = t.winner == p.dealer;

@@ -32,7 +32,8 @@ fn is_groups(t: [u8; 34], from: u8, pieces: usize) -> bool
     if k == 34 {
         return false;
     }
-    if 3 <= t[k as usize] {
+    let three = 3 <= t[k as usize];
+    if three {
         return is_groups(reading_steps::without(t, 34 + k), k, pieces - 1);
     }
     if reading_steps::fits(t, k) {

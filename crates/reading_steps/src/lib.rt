@@ -201,7 +201,8 @@ pub fn is_seven_pairs(t: [u8; 34]) -> bool
     let mut kinds: u8 = 0;
     for k in 0..34 {
         if t[k] != 0 {
-            if t[k] != 2 {
+            let no_pair = t[k] != 2;
+            if no_pair {
                 return false;
             }
             kinds += 1;

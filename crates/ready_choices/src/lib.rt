@@ -229,7 +229,8 @@ pub fn value(m: Move, later: u8, have: u8, room: u8) -> u8
     requires { (later ≤ 200) × (have ≤ 4) }
     ensures { result ≡ value_of m later have room }
 {
-    if m.fine & (m.tiles <= room) & (later != 0) {
+    let possible = m.fine & (m.tiles <= room) & (later != 0);
+    if possible {
         return later + least(have, m.tiles);
     }
     0

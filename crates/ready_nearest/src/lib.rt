@@ -69,7 +69,8 @@ fn with_pair(v: u8, k: u8, s: u8, q: Begun, x: u8, have: u8, room: u8, table: &[
         room,
         table,
     );
-    if q.p == 0 {
+    let none = q.p == 0;
+    if none {
         return w;
     }
     better(
@@ -116,7 +117,8 @@ fn regular(k: u8, s: u8, q: Begun, have: u8, room: u8, table: &[u8; 2800]) -> u8
         room,
         table,
     );
-    if q.g == 2 {
+    let two = q.g == 2;
+    if two {
         return both;
     }
     let three = better(
@@ -239,7 +241,8 @@ fn short(t: &[u8; 34], w: [u8; 34]) -> [u8; 34]
     let mut u = w;
     let mut k: usize = 0;
     while k < 34 {
-        if t[k] < w[k] {
+        let lacks = t[k] < w[k];
+        if lacks {
             u[k] -= 1;
             return u;
         }

@@ -42,7 +42,8 @@ pub fn give(buf: &mut [u8], clips: &[u8]) -> Said
     ensures value { result ≡ given_of clips.now buf.old }
     ensures buf_after { buf.new ≡ buffer_of clips.now buf.old }
 {
-    if buf.len() < clips.len() {
+    let short = buf.len() < clips.len();
+    if short {
         return refused(13);
     }
     let n = text::copy(clips, buf);
@@ -121,7 +122,8 @@ pub fn say_refusal(language: u8, number: u8, buf: &mut [u8]) -> Said
     if !is_known(language) {
         return refused(8);
     }
-    if 22 < number {
+    let unknown = 22 < number;
+    if unknown {
         return refused(8);
     }
     let clips = [200 + number];

@@ -103,7 +103,8 @@ fn put_ready(buf: &mut [u8], language: u8, swaps: u8) -> usize
     requires { 192 ≤ length buf.old }
     ensures { Put buf.old 0 (ready_message language swaps) buf.new result × (result ≤ 14) }
 {
-    if swaps == 0 {
+    let none = swaps == 0;
+    if none {
         return speech_phrases::put_clip(buf, 0, 82);
     }
     let i = speech_numerals::number(buf, 0, language, swaps as u32);

@@ -71,7 +71,8 @@ pub fn from_record(s: &[u8], buf: &mut [u8]) -> Written
 {
     let r = hand_record::read_hand(s);
     let refusal = r.refusal;
-    if 0 < refusal {
+    let refused = 0 < refusal;
+    if refused {
         return Written { refusal, len: 0 };
     }
     store(r.hand.held, buf)

@@ -106,7 +106,8 @@ fn open_sorts(t: &[u8; 34]) -> [bool; 10]
         o[c] = b;
         n += one(b);
     }
-    if 2 < n {
+    let open = 2 < n;
+    if open {
         return [false; 10];
     }
     o
@@ -133,7 +134,8 @@ fn over_33(d: &[u8]) -> bool
     ensures { result ≡ some_in d.now (ltb 33) }
 {
     for i in 0..d.len() {
-        if 33 < d[i] {
+        let over = 33 < d[i];
+        if over {
             return true;
         }
     }

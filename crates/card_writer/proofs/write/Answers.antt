@@ -11,19 +11,19 @@ bytes : (suit size : ℕ) → suit ≤ 2
     → length (written (take (size - size) (replicate 8 0)) ((size - 2) / 3) size (9 * suit + 9) (9 * suit) (replicate 34 0)) ≡ size * length (cards_of suit size)
 bytes suit size h = ap length (all_drawn suit size (replicate 8 0) h) ∙ whole suit size
 
-pub returns-then-suit-gt2 : goal.returns-then-suit-gt2
-returns-then-suit-gt2 c =
-    let k = kept_suit c.args.suit c.args.size c.args.buf.now c.if-suit-gt2.true in
+pub returns-then-no_suit : goal.returns-then-no_suit
+returns-then-no_suit c =
+    let k = kept_suit c.args.suit c.args.size c.args.buf.now c.if-no_suit.true in
     record { value = c.refused.ensures ∙ k.0; buf_after = k.1 }
 
 pub returns-then-not-is_size : goal.returns-then-not-is_size
 returns-then-not-is_size c =
-    let k = kept_size c.args.suit c.args.size c.args.buf.now c.if-suit-gt2.false (sym c.is_size.ensures ∙ c.if-not-is_size.true) in
+    let k = kept_size c.args.suit c.args.size c.args.buf.now c.if-no_suit.false (sym c.is_size.ensures ∙ c.if-not-is_size.true) in
     record { value = c.refused-then-not-is_size.ensures ∙ k.0; buf_after = k.1 }
 
 pub returns-then-buf-tiles : goal.returns-then-buf-tiles
 returns-then-buf-tiles c =
-    let suited : c.args.suit ≤ 2 = omega (arith, c.if-suit-gt2.false) in
+    let suited : c.args.suit ≤ 2 = omega (arith, c.if-no_suit.false) in
     let sized = known c.args.size (sym c.is_size.ensures ∙ c.if-not-is_size.false) in
     let count = c.count-count.ensures ∙ count_all c.args.suit c.args.size suited in
     let product : c.args.size * c.count-count.result ≡ c.args.size * length (cards_of c.args.suit c.args.size) = ap (λ (m : ℕ). c.args.size * m) count in
@@ -32,7 +32,7 @@ returns-then-buf-tiles c =
 
 pub draw-requires : goal.draw-requires
 draw-requires c =
-    let suited : c.args.suit ≤ 2 = omega (arith, c.if-suit-gt2.false) in
+    let suited : c.args.suit ≤ 2 = omega (arith, c.if-no_suit.false) in
     let sized = known c.args.size (sym c.is_size.ensures ∙ c.if-not-is_size.false) in
     let count = c.count-count.ensures ∙ count_all c.args.suit c.args.size suited in
     let product : c.args.size * c.count-count.result ≡ c.args.size * length (cards_of c.args.suit c.args.size) = ap (λ (m : ℕ). c.args.size * m) count in
@@ -40,7 +40,7 @@ draw-requires c =
 
 pub returns : goal.returns
 returns c =
-    let suited : c.args.suit ≤ 2 = omega (arith, c.if-suit-gt2.false) in
+    let suited : c.args.suit ≤ 2 = omega (arith, c.if-no_suit.false) in
     let sized = known c.args.size (sym c.is_size.ensures ∙ c.if-not-is_size.false) in
     let count = c.count-count.ensures ∙ count_all c.args.suit c.args.size suited in
     let product : c.args.size * c.count-count.result ≡ c.args.size * length (cards_of c.args.suit c.args.size) = ap (λ (m : ℕ). c.args.size * m) count in

@@ -11,10 +11,10 @@ pub returns-then-paid-gain : goal.returns-then-paid-gain
 unfolding weighed_as
 returns-then-paid-gain c = rw (c.if-not-yaku.false, ne_eqb _ _ c.if-paid-gain.true)
 
-pub returns-then-paid-most : goal.returns-then-paid-most
+pub returns-then-less : goal.returns-then-less
 unfolding weighed_as
-returns-then-paid-most c = rw (c.if-not-yaku.false, eq-eqb _ _ c.if-paid-gain.false, lt-ltb _ _ c.if-paid-most.true)
+returns-then-less c = rw (c.if-not-yaku.false, eq-eqb _ _ c.if-paid-gain.false, lt-ltb _ _ c.if-less.true)
 
 pub returns : goal.returns
 unfolding weighed_as
-returns c = rw (c.if-not-yaku.false, eq-eqb _ _ c.if-paid-gain.false, le-ltb _ _ c.if-paid-most.false)
+returns c = rw (c.if-not-yaku.false, eq-eqb _ _ c.if-paid-gain.false, le-ltb _ _ c.if-less.false)

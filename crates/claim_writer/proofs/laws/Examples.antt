@@ -1,4 +1,4 @@
--- Claims byte by byte, computed: those of the hand `five` of claim/specs/laws/Examples, and what is refused.
+-- Claims byte by byte, computed: those of the hand `five` of claim/proofs/laws/Examples, and what is refused.
 use Rattle.std.specs.Prelude.{List, [], ◌∷◌, ◌≡◌, refl, ℕ, replicate}
 use Rattle.std.proofs.Common.{sym, ◌∙◌}
 use Rattle.tiles.specs.Groups.{is_group}

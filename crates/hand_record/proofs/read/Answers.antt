@@ -5,8 +5,8 @@ use Rattle.hand_record.specs.Record.{length_of}
 use Rattle.hand_record.proofs.laws.Read.{read_not, read_as}
 use Rattle.hand_record.proofs.read.Goals as goal
 
-pub returns-then-n-lt4 : goal.returns-then-n-lt4
-returns-then-n-lt4 c = c.refused.ensures ∙ sym (read_not _ (λ f. omega arith))
+pub returns-then-short : goal.returns-then-short
+returns-then-short c = c.refused.ensures ∙ sym (read_not _ (λ f. omega arith))
 
 pub returns-then-m-gt4 : goal.returns-then-m-gt4
 returns-then-m-gt4 c = c.refused-then-m-gt4.ensures ∙ sym (read_not _ (λ f. omega (arith, ap (λ (x : Head). x.m) c.header-h.ensures)))
@@ -20,4 +20,4 @@ pub returns : goal.returns
 returns c =
     c.hand_in.ensures
     ∙ read_as _ _ (ap (λ (x : Head). x.m) (sym c.header-h.ensures))
-    (record { four = c.if-n-lt4.false; few = c.if-m-gt4.false; right = c.if-n-m.false })
+    (record { four = c.if-short.false; few = c.if-m-gt4.false; right = c.if-n-m.false })

@@ -4,4 +4,4 @@ use Rattle.log_entry.proofs.laws.Lengths.{by_most}
 use Rattle.log_entry.proofs.correction_length.Goals as goal
 
 pub with_header-requires : goal.with_header-requires
-with_header-requires c = rw c.length_by.ensures (by_most _ _ _ (λ z. omega (arith, z, c.if-k-gt-MULTI_RON.false)))
+with_header-requires c = rw c.length_by.ensures (by_most _ _ _ (λ z. omega (arith, z, c.if-above.false)))

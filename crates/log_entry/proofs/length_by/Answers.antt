@@ -12,8 +12,8 @@ returns-then-kind-eq-MULTI_RON c = c.multi_ron_length.ensures ∙ sym (length_mu
 pub returns-then-kind-eq-PAO : goal.returns-then-kind-eq-PAO
 returns-then-kind-eq-PAO c = c.pao_length.ensures ∙ sym (length_pao _ _ _ c.if-kind-eq-PAO.true)
 
-pub returns-then-kind-gt-CHOMBO : goal.returns-then-kind-gt-CHOMBO
-returns-then-kind-gt-CHOMBO c = sym (length_over _ _ _ (omega (arith, c.if-kind-gt-CHOMBO.true, c.if-kind-eq-PAO.false, c.if-kind-eq-MULTI_RON.false)))
+pub returns-then-above : goal.returns-then-above
+returns-then-above c = sym (length_over _ _ _ (omega (arith, c.if-above.true, c.if-kind-eq-PAO.false, c.if-kind-eq-MULTI_RON.false)))
 
 pub returns : goal.returns
-returns c = sym (length_plain _ _ _ c.if-kind-eq-WIN.false c.if-kind-gt-CHOMBO.false)
+returns c = sym (length_plain _ _ _ c.if-kind-eq-WIN.false c.if-above.false)

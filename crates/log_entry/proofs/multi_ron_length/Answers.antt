@@ -4,4 +4,4 @@ use Rattle.log_entry.proofs.laws.Records.{records_inside}
 use Rattle.log_entry.proofs.multi_ron_length.Goals as goal
 
 pub with_header-requires : goal.with_header-requires
-with_header-requires c = omega (arith, c.if-argument-gt3.false, c.records_length.ensures, records_inside c.args.argument c.args.rest.now)
+with_header-requires c = omega (arith, c.if-over.false, c.records_length.ensures, records_inside c.args.argument c.args.rest.now)

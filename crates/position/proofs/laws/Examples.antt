@@ -1,4 +1,4 @@
--- The example of document 01, Log: seat 1 declares riichi, then a draw with seat 1 ready. Computed; log_walk/specs/Claims has it from the bytes on.
+-- The example of document 01, Log: seat 1 declares riichi, then a draw with seat 1 ready. Computed; log_walk/proofs/Claims has it from the bytes on.
 use Rattle.std.specs.Prelude.{◌≡◌, refl, List, [], ◌∷◌, pos}
 use Rattle.position.specs.Booking.{Booking, result, riichi, draw}
 use Rattle.position.specs.Ledger.{fresh, total_of, not_open, out_of_form, refusal_for, refusals_of, riichi_gives, draw_gives, effect_of, applied, after}

@@ -16,19 +16,19 @@ returns-then-not_open c =
     rw c.refused-then-not_open.ensures
     (refused_moves a.p (riichi a.seat) 9 (riichi_shut a.p a.seat c.if-seat-gt3.false (sym c.not_open.ensures ∙ c.if-not_open.true)) (omega arith))
 
-pub returns-then-d-i-gt0 : goal.returns-then-d-i-gt0
-returns-then-d-i-gt0 c =
+pub returns-then-again : goal.returns-then-again
+returns-then-again c =
     let a = c.args in
-    rw c.refused-then-d-i-gt0.ensures
+    rw c.refused-then-again.ensures
     (refused_moves a.p (riichi a.seat) 10
-    (riichi_twice a.p a.seat c.if-seat-gt3.false (sym c.not_open.ensures ∙ c.if-not_open.false) (lt-ltb _ _ c.if-d-i-gt0.true)) (omega arith))
+    (riichi_twice a.p a.seat c.if-seat-gt3.false (sym c.not_open.ensures ∙ c.if-not_open.false) (lt-ltb _ _ c.if-again.true)) (omega arith))
 
 pub returns-then-lacks_stick : goal.returns-then-lacks_stick
 returns-then-lacks_stick c =
     let a = c.args in
     rw c.refused-then-lacks_stick.ensures
     (refused_moves a.p (riichi a.seat) 21
-    (riichi_by a.p a.seat c.if-seat-gt3.false (sym c.not_open.ensures ∙ c.if-not_open.false) (le-ltb _ _ c.if-d-i-gt0.false) true
+    (riichi_by a.p a.seat c.if-seat-gt3.false (sym c.not_open.ensures ∙ c.if-not_open.false) (le-ltb _ _ c.if-again.false) true
     (sym c.lacks_stick.ensures ∙ c.if-lacks_stick.true)) (omega arith))
 
 pub put_stick-requires : goal.put_stick-requires
@@ -39,6 +39,6 @@ returns c =
     let a = c.args in
     rw c.accepted.ensures
     (accepted_moves a.p (riichi a.seat) c.put_stick.result
-    (riichi_by a.p a.seat c.if-seat-gt3.false (sym c.not_open.ensures ∙ c.if-not_open.false) (le-ltb _ _ c.if-d-i-gt0.false) false
+    (riichi_by a.p a.seat c.if-seat-gt3.false (sym c.not_open.ensures ∙ c.if-not_open.false) (le-ltb _ _ c.if-again.false) false
     (sym c.lacks_stick.ensures ∙ c.if-lacks_stick.false))
     c.put_stick.ensures)

@@ -13,15 +13,15 @@ settle_hand-t-requires c =
       omega (arith, c.to_foremost-in-loop-i.ensures.1, few_sticks c.args.p o.form),
     )
 
-pub returns-then-t-gt0-clause-by_index : goal.returns-then-t-gt0-clause-by_index
-returns-then-t-gt0-clause-by_index c rs r e =
+pub returns-then-refused-clause-by_index : goal.returns-then-refused-clause-by_index
+returns-then-refused-clause-by_index c rs r e =
     let a = c.args in
     let w = c.loop-i in
     let three : length a.hands ≡ 3 = search rules in
     let room : a.number ≤ length a.hands = omega (arith, three, c.requires.1) in
     given_refused a.p a.first a.number a.hands w.by w.i c.requires.1 room w.invariant
     c.loop-i-test.true c.to_foremost.result c.to_foremost-in-loop-i.result c.to_foremost.ensures.0
-    c.to_foremost-in-loop-i.ensures.0 c.settle_hand-t.result c.settle_hand-t.ensures.by_index rs r e c.if-t-gt0.true
+    c.to_foremost-in-loop-i.ensures.0 c.settle_hand-t.result c.settle_hand-t.ensures.by_index rs r e c.if-refused.true
 
 pub pay-b-requires : goal.pay-b-requires
 pay-b-requires c =
@@ -40,7 +40,7 @@ loop-i-preserved c =
     given_more a.p a.first a.number a.hands w.by w.i c.requires.1 room w.invariant
     c.loop-i-test.true c.to_foremost.result c.to_foremost-in-loop-i.result c.to_foremost.ensures.0
     c.to_foremost-in-loop-i.ensures.0
-    c.settle_hand-t.result c.settle_hand-t.ensures.by_index (omega (arith, c.if-t-gt0.false)) c.settle_hand-t.ensures.gifts
+    c.settle_hand-t.result c.settle_hand-t.ensures.by_index (omega (arith, c.if-refused.false)) c.settle_hand-t.ensures.gifts
     c.pay-b.result c.pay-b.ensures
 
 pub returns-clause-by_index : goal.returns-clause-by_index

@@ -17,12 +17,12 @@ settle-t-requires c =
     let o = open_of c.args.p (sym c.not_open.ensures ∙ c.if-not_open.false) in
     (o, omega (arith, o.form.counter, o.hands), few_sticks c.args.p o.form)
 
-pub returns-then-t-gt0 : goal.returns-then-t-gt0
-returns-then-t-gt0 c =
+pub returns-then-refused : goal.returns-then-refused
+returns-then-refused c =
     let z = c.args in
     let shut = sym c.not_open.ensures ∙ c.if-not_open.false in
-    rw c.refused-then-t-gt0.ensures
-    (refused_moves z.p (result (win z.s.now)) c.settle-t.result.refusal (win_by z.p z.s.now shut ∙ sym c.settle-t.ensures.0) c.if-t-gt0.true)
+    rw c.refused-then-refused.ensures
+    (refused_moves z.p (result (win z.s.now)) c.settle-t.result.refusal (win_by z.p z.s.now shut ∙ sym c.settle-t.ensures.0) c.if-refused.true)
 
 pub counter_after-requires : goal.counter_after-requires
 counter_after-requires c =
@@ -37,7 +37,7 @@ pub returns : goal.returns
 returns c =
     let z = c.args in
     let shut = sym c.not_open.ensures ∙ c.if-not_open.false in
-    let none : c.settle-t.result.refusal ≡ 0 = omega (arith, c.if-t-gt0.false) in
+    let none : c.settle-t.result.refusal ≡ 0 = omega (arith, c.if-refused.false) in
     let given = c.settle-t.ensures.1 none in
     rw c.accepted.ensures
     (accepted_moves z.p (result (win z.s.now)) c.finish-after.result

@@ -1,5 +1,5 @@
 -- How the code finds the best reading: what a keeper keeps of a list of readings. That the list has all of them, each once, in order is
--- stated in search/Claims.
+-- stated in proofs/SearchClaims.
 use Rattle.std.specs.Prelude.{List, [], ◌∷◌, ℕ, ◌-◌}
 use Rattle.tiles.specs.Below.{tabulate}
 use Rattle.reading.specs.declared.Reading.{Reading}

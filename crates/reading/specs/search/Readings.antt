@@ -1,5 +1,5 @@
 -- How the code finds the readings of a hand: a search, code by code, and the list `readings` that it meets. Nobody has to believe it:
--- that the list has all readings, each once, in the document's order and nothing else is stated in search/Claims.
+-- that the list has all readings, each once, in the document's order and nothing else is stated in proofs/SearchClaims.
 use Rattle.std.specs.Prelude.{Bool, true, false, ◌&&◌, cond, List, [], ◌∷◌, ◌++◌, map, ℕ, zero, suc, ◌+◌, ◌-◌, ◌%◌, leb, eqb, get_or, set, replicate}
 use Rattle.tiles.specs.Below.{all_below, tabulate}
 use Rattle.tiles.specs.Groups.{is_run, is_group}

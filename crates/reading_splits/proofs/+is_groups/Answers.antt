@@ -12,18 +12,18 @@ returns-then-k-eq34 t c =
     splits_into_over _ _ c.args.t c.if-pieces-eq0.false (omega (arith, c.lowest-k.ensures.0, c.if-k-eq34.true, c.requires.1))
 
 pub without-requires : goal.without-requires
-without-requires t c = fits_three _ _ (omega (arith, c.lowest-k.ensures.1, c.if-k-eq34.false)) c.if-t-k-ge3.true
+without-requires t c = fits_three _ _ (omega (arith, c.lowest-k.ensures.1, c.if-k-eq34.false)) c.if-three.true
 
 pub is_groups-requires : goal.is_groups-requires
 is_groups-requires t c =
     let low : c.lowest-k.result < 34 = omega (arith, c.lowest-k.ensures.1, c.if-k-eq34.false) in
-    (omega arith, (c.lowest-k.ensures.1, without_from c.args.t _ _ (c.lowest-k.ensures.0 ∙ c.requires.1) c.lowest-k.ensures.1 _ c.without.ensures (fits_three _ _ low c.if-t-k-ge3.true)))
+    (omega arith, (c.lowest-k.ensures.1, without_from c.args.t _ _ (c.lowest-k.ensures.0 ∙ c.requires.1) c.lowest-k.ensures.1 _ c.without.ensures (fits_three _ _ low c.if-three.true)))
 
-pub returns-then-t-k-ge3 : goal.returns-then-t-k-ge3
-returns-then-t-k-ge3 t c =
+pub returns-then-three : goal.returns-then-three
+returns-then-three t c =
     let low : c.lowest-k.result < 34 = omega (arith, c.lowest-k.ensures.1, c.if-k-eq34.false) in
     let long : length c.args.t ≡ 34 = search rules in
-    groups_three c.args.pieces c.args.t c.lowest-k.result c.if-pieces-eq0.false long (c.lowest-k.ensures.0 ∙ c.requires.1) low _ c.if-t-k-ge3.true (rw (← c.without.ensures) c.is_groups.ensures)
+    groups_three c.args.pieces c.args.t c.lowest-k.result c.if-pieces-eq0.false long (c.lowest-k.ensures.0 ∙ c.requires.1) low _ c.if-three.true (rw (← c.without.ensures) c.is_groups.ensures)
 
 pub is_groups-requires-then-fits : goal.is_groups-requires-then-fits
 is_groups-requires-then-fits t c =
@@ -33,11 +33,11 @@ pub returns-then-fits : goal.returns-then-fits
 returns-then-fits t c =
     let low : c.lowest-k.result < 34 = omega (arith, c.lowest-k.ensures.1, c.if-k-eq34.false) in
     let long : length c.args.t ≡ 34 = search rules in
-    groups_run c.args.pieces c.args.t c.lowest-k.result c.if-pieces-eq0.false long (c.lowest-k.ensures.0 ∙ c.requires.1) low _ c.if-t-k-ge3.false (sym c.fits.ensures ∙ c.if-fits.true)
+    groups_run c.args.pieces c.args.t c.lowest-k.result c.if-pieces-eq0.false long (c.lowest-k.ensures.0 ∙ c.requires.1) low _ c.if-three.false (sym c.fits.ensures ∙ c.if-fits.true)
     (rw (← c.without-then-fits.ensures) c.is_groups-then-fits.ensures)
 
 pub returns : goal.returns
 returns t c =
     let low : c.lowest-k.result < 34 = omega (arith, c.lowest-k.ensures.1, c.if-k-eq34.false) in
     let long : length c.args.t ≡ 34 = search rules in
-    groups_none c.args.pieces c.args.t c.lowest-k.result c.if-pieces-eq0.false long (c.lowest-k.ensures.0 ∙ c.requires.1) low c.if-t-k-ge3.false (sym c.fits.ensures ∙ c.if-fits.false)
+    groups_none c.args.pieces c.args.t c.lowest-k.result c.if-pieces-eq0.false long (c.lowest-k.ensures.0 ∙ c.requires.1) low c.if-three.false (sym c.fits.ensures ∙ c.if-fits.false)

@@ -4,9 +4,9 @@ use Rattle.reading.specs.search.Readings.{less}
 use Rattle.ready_choices.proofs.laws.Sums.{total_le_of}
 use Rattle.ready_nearest.proofs.short.Goals as goal
 
-pub returns-then-t-k : goal.returns-then-t-k
+pub returns-then-lacks : goal.returns-then-lacks
 unfolding less
-returns-then-t-k c = record { kind = c.loop-k.k; low = c.loop-k-test.true; lack = c.if-t-k.true; less_one = rw c.loop-k.invariant.1 }
+returns-then-lacks c = record { kind = c.loop-k.k; low = c.loop-k-test.true; lack = c.if-lacks.true; less_one = rw c.loop-k.invariant.1 }
 
 pub returns : goal.returns
 returns c =

@@ -1,4 +1,4 @@
--- Where the best complete hand begins, and so the fewest swaps. Nobody has to believe it: what is found is stated in `ready`.
+-- Where the best complete hand begins, and so the fewest swaps. What it is, the theorems of `ready` say: `fewest_swaps` is this number.
 use Rattle.std.specs.Prelude.{cond, List, ℕ, ◌-◌, ◌*◌, leb, eqb}
 use Rattle.ready_choices.specs.search.Moves.{state, best}
 

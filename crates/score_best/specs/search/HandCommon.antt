@@ -1,5 +1,5 @@
 -- What a reading is worth as the code makes it: from what is the same in every reading of a hand, with four places in which 68 is no group.
--- What it means is `worth` of score/specs/Named; `worth_in_lem` of score/specs/laws/FullReading proves the two equal.
+-- What it means is `worth` of score/specs/Named; `worth_in_lem` of score/proofs/laws/FullReading proves the two equal.
 use Rattle.std.specs.Prelude.{cond, List, ◌≡◌, ℕ, ◌<◌, eqb, get_or}
 use Rattle.tiles.specs.Below.{tabulate}
 use Rattle.reading.specs.declared.Reading.{Reading}

@@ -8,12 +8,12 @@ use Rattle.speech_score.proofs.say_refusal.Goals as goal
 pub returns-then-not-is_known : goal.returns-then-not-is_known
 returns-then-not-is_known c = unknown_by _ _ _ _ c.is_known.ensures (ap not c.if-not-is_known.true) c.refused.ensures
 
-pub returns-then-number-gt22 : goal.returns-then-number-gt22
-returns-then-number-gt22 c =
-    rw (lt-ltb _ _ c.if-number-gt22.true)
-    (refused_by _ 8 _ _ c.is_known.ensures (ap not c.if-not-is_known.false) refl (omega arith) c.refused-then-number-gt22.ensures)
+pub returns-then-unknown : goal.returns-then-unknown
+returns-then-unknown c =
+    rw (lt-ltb _ _ c.if-unknown.true)
+    (refused_by _ 8 _ _ c.is_known.ensures (ap not c.if-not-is_known.false) refl (omega arith) c.refused-then-unknown.ensures)
 
 pub returns : goal.returns
 returns c =
-    rw (le-ltb _ _ c.if-number-gt22.false)
+    rw (le-ltb _ _ c.if-unknown.false)
     (given_by _ 0 _ _ c.is_known.ensures (ap not c.if-not-is_known.false) refl (omega arith) refl c.give.ensures.value c.give.ensures.buf_after)

@@ -27,27 +27,27 @@ refused s buf r e g =
 read : (s : List ℕ) (r : ReadHand) → r ≡ read_hand_of s → r.refusal ≤ 0 → (0 ≡ refusal_in (read_of s).answer) × (r.hand.held ≡ held_in_record s)
 read s r e l = (sym (flat_refusal s r e ∙ sound r l), ap (λ (h : Hand). h.held) (flat_hand s r e))
 
-pub returns-then-refusal-gt0-clause-value : goal.returns-then-refusal-gt0-clause-value
-returns-then-refusal-gt0-clause-value c =
-    (refused c.args.s.now c.args.buf.now c.read_hand-r.result c.read_hand-r.ensures c.if-refusal-gt0.true).0
+pub returns-then-refused-clause-value : goal.returns-then-refused-clause-value
+returns-then-refused-clause-value c =
+    (refused c.args.s.now c.args.buf.now c.read_hand-r.result c.read_hand-r.ensures c.if-refused.true).0
 
-pub returns-then-refusal-gt0-clause-buf_after : goal.returns-then-refusal-gt0-clause-buf_after
-returns-then-refusal-gt0-clause-buf_after c =
-    (refused c.args.s.now c.args.buf.now c.read_hand-r.result c.read_hand-r.ensures c.if-refusal-gt0.true).1
+pub returns-then-refused-clause-buf_after : goal.returns-then-refused-clause-buf_after
+returns-then-refused-clause-buf_after c =
+    (refused c.args.s.now c.args.buf.now c.read_hand-r.result c.read_hand-r.ensures c.if-refused.true).1
 
 pub store-requires : goal.store-requires
-store-requires c = (flat_bounds _ c.read_hand-r.result c.read_hand-r.ensures (sound c.read_hand-r.result c.if-refusal-gt0.false)).few
+store-requires c = (flat_bounds _ c.read_hand-r.result c.read_hand-r.ensures (sound c.read_hand-r.result c.if-refused.false)).few
 
 pub returns-clause-value : goal.returns-clause-value
 returns-clause-value c =
     let b = c.args.buf.now in
     let y : Held = held_in_record c.args.s.now in
-    let q = read c.args.s.now c.read_hand-r.result c.read_hand-r.ensures c.if-refusal-gt0.false in
+    let q = read c.args.s.now c.read_hand-r.result c.read_hand-r.ensures c.if-refused.false in
     c.store.ensures.value ∙ ap (λ (x : Held). written_by (refusal_after 0 x b) x) q.1 ∙ ap (λ (j : ℕ). written_by (refusal_after j y b) y) q.0
 
 pub returns-clause-buf_after : goal.returns-clause-buf_after
 returns-clause-buf_after c =
     let b = c.args.buf.now in
     let y : Held = held_in_record c.args.s.now in
-    let q = read c.args.s.now c.read_hand-r.result c.read_hand-r.ensures c.if-refusal-gt0.false in
+    let q = read c.args.s.now c.read_hand-r.result c.read_hand-r.ensures c.if-refused.false in
     c.store.ensures.buf_after ∙ ap (λ (x : Held). buffer_by (refusal_after 0 x b) x b) q.1 ∙ ap (λ (j : ℕ). buffer_by (refusal_after j y b) y b) q.0
