@@ -17,8 +17,8 @@ slice_bounds-page-end g c =
     let size : length c.lines-r.new.buf ≡ 65536 = search rules in
     omega (arith, size, fits _ c.requires k.page k.w k.printed k.invariant _ c.lines-r.ensures.value)
 
-pub slice_bounds-write_all-end : goal.slice_bounds-write_all-end
-slice_bounds-write_all-end g c =
+pub slice_bounds-put-end : goal.slice_bounds-put-end
+slice_bounds-put-end g c =
     let k = c.loop-page in
     let size : length c.lines-r.new.buf ≡ 65536 = search rules in
     sym (length-take-le _ _ (omega (arith, size, fits _ c.requires k.page k.w k.printed k.invariant _ c.lines-r.ensures.value)))
