@@ -2,7 +2,7 @@
 use Rattle.std.specs.Prelude.{ℕ, ◌≤◌, false, List, ◌≡◌}
 use Rattle.hand_record.specs.Record.{hand_of, read_of, IsSound}
 use Rattle.score.specs.Score.{score_of}
-use Rattle.symmetry.specs.Rotated.{on, rotated_hand, rotated_record, RotatedScore}
+use Rattle.symmetry.specs.Rotated.{rotated_dealer, rotated_hand, rotated_record, RotatedScore}
 use Rattle.symmetry.specs.Renamed.{IsRenaming, IsRenamed, is_all_green, SameScore}
 use Rattle.symmetry.proofs.laws.Rotated as rotated
 use Rattle.symmetry.proofs.laws.Renamed as renamed
@@ -19,7 +19,7 @@ module _ (n : ℕ) (s : List ℕ) (i : IsSound s) where
   rotated_hand_lem = rotated.rotated_hand_lem n s i
 
   -- "in a sound record, with a dealer up to 3, moving .. moves the four changes on by that number and alters nothing else": whatever the wind
-  pub rotated_scores : (dealer wind : ℕ) → dealer ≤ 3 → RotatedScore n (score_of s dealer wind) (score_of (rotated_record n s) (on n dealer) wind)
+  pub rotated_scores : (dealer wind : ℕ) → dealer ≤ 3 → RotatedScore n (score_of s dealer wind) (score_of (rotated_record n s) (rotated_dealer n dealer) wind)
   rotated_scores = rotated.rotated_scores n s i
 
 -- ---- "any renaming of the three suits": by σ

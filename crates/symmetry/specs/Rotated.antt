@@ -10,6 +10,10 @@ use Rattle.score.specs.declared.Scored.{Scored}
 abbrev pub on : ℕ → ℕ → ℕ
 on n seat = (seat + n) % 4
 
+-- "moving winner, discarder and dealer on by the same number of seats": the dealer
+abbrev pub rotated_dealer : ℕ → ℕ → ℕ
+rotated_dealer n dealer = on n dealer
+
 -- "moving winner, discarder" on by n; "a tsumo record's discarder stays 0"
 abbrev pub rotated_fields : ℕ → Fields → Fields
 rotated_fields n f = record {

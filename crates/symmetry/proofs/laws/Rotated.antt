@@ -32,7 +32,7 @@ use Rattle.score.specs.Readings.{AreReadingsOf, readings_of}
 use Rattle.score.proofs.laws.Readings.{are_readings, only_readings}
 use Rattle.score.specs.Score.{score_of}
 use Rattle.score.proofs.Claims.{scored}
-use Rattle.symmetry.specs.Rotated.{on, rotated_hand, rotated_record, RotatedScore}
+use Rattle.symmetry.specs.Rotated.{on, rotated_dealer, rotated_hand, rotated_record, RotatedScore}
 use Rattle.score_best.proofs.laws.Tried.{up_to_cong}
 use Rattle.symmetry.proofs.laws.Seats.{rotated_score, rotated, on_test, wind_stays, gain_on, changes_on, refused_on}
 use Rattle.hand_record.proofs.laws.Sound.{read_accepted, read_is_hand, written_back, written_sound}
@@ -51,7 +51,7 @@ module _ (n : ℕ) (h : Hand) (dealer wind : ℕ) (hw : h.fields.winner ≤ 3) (
   k = rotated_hand n h
 
   abbrev d : ℕ
-  d = on n dealer
+  d = rotated_dealer n dealer
 
   ron_on : is_ron h.fields ≡ true → (h.fields.discarder < 4) × (k.fields.discarder ≡ on n h.fields.discarder)
   ron_on e = (omega arith, rw e)
@@ -181,19 +181,19 @@ module _ (n : ℕ) (s : List ℕ) (i : IsSound s) where
   unfolding rotated_record
   rotated_hand_lem = written_back (rotated_hand n h₀) accepted is_hand
 
-  rotated_score_lem : (dealer wind : ℕ) → dealer ≤ 3 → score_of (rotated_record n s) (on n dealer) wind ≡ rotated_score n (score_of s dealer wind)
+  rotated_score_lem : (dealer wind : ℕ) → dealer ≤ 3 → score_of (rotated_record n s) (rotated_dealer n dealer) wind ≡ rotated_score n (score_of s dealer wind)
   unfolding rotated_record
   rotated_score_lem dealer wind d = go (ltb 1 wind) refl
     where
-      go : (b : Bool) → ltb 1 wind ≡ b → score_of (rotated_record n s) (on n dealer) wind ≡ rotated_score n (score_of s dealer wind)
+      go : (b : Bool) → ltb 1 wind ≡ b → score_of (rotated_record n s) (rotated_dealer n dealer) wind ≡ rotated_score n (score_of s dealer wind)
       go true e =
           let l = ltb-true 1 wind e in
-          score_eight (rotated_record n s) (on n dealer) wind (inr l) ∙ sym (ap (rotated_score n) (score_eight s dealer wind (inr l)) ∙ refused_on n 8)
+          score_eight (rotated_record n s) (rotated_dealer n dealer) wind (inr l) ∙ sym (ap (rotated_score n) (score_eight s dealer wind (inr l)) ∙ refused_on n 8)
       go false e =
           let b = bounds_of h₀ (read_accepted s i) in
           let l = ltb-false 1 wind e in
-          score_of_lem (rotated_hand n h₀) accepted is_hand (on n dealer) wind (omega arith) l
+          score_of_lem (rotated_hand n h₀) accepted is_hand (rotated_dealer n dealer) wind (omega arith) l
           (named_on n h₀ dealer wind b.winner d b.discarder (scored s dealer wind d l i))
 
-  pub rotated_scores : (dealer wind : ℕ) → dealer ≤ 3 → RotatedScore n (score_of s dealer wind) (score_of (rotated_record n s) (on n dealer) wind)
+  pub rotated_scores : (dealer wind : ℕ) → dealer ≤ 3 → RotatedScore n (score_of s dealer wind) (score_of (rotated_record n s) (rotated_dealer n dealer) wind)
   rotated_scores dealer wind d = rw (rotated_score_lem dealer wind d) (rotated n (score_of s dealer wind))
