@@ -106,7 +106,7 @@ def identifiers(path, crates):
 def sources():
     for pattern in ["crates/**/*.rt", "crates/**/*.antt"] + [f"{folder}/**/*{ending}" for folder in FOLDERS for ending in (".c", ".h", ".rs", ".py", ".sh")]:
         for path in sorted(glob.glob(os.path.join(tree.ROOT, pattern), recursive=True)):
-            if "/target/" not in path:
+            if "/target/" not in path and "/out/" not in path:
                 yield os.path.relpath(path, tree.ROOT)
 
 
