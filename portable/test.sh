@@ -1,7 +1,7 @@
 #!/usr/bin/env bash
 # Tests the portable C file on this machine: test.sh [COUNT]. Needs rt, python3, gcc, clang and cargo.
 # 1. make.sh twice gives the same file, its digest is the MIR's, and its symbols are the header's calls;
-# 2. the generator's own tests: unknown forms, functions that the code does not have, wrong generators;
+# 2. the generator's own tests: unknown forms, functions that the code does not have, a crate of generic forms against rustc, wrong generators;
 # 3. gcc and clang at four levels without a warning, and interface/tests/ over each;
 # 4. these tests and the comparison with the other scorer (COUNT hands, default 100000) under the sanitizers: the file of each compiler, and the
 #    file that aborts where the MIR is undefined with clang's checks of conversions and unsigned sums; first a fault that they have to find;
@@ -38,7 +38,9 @@ echo "the same file twice; SHA-256 of the MIR of $(wc -w <<<"$libraries") librar
 # ---- 2. the generator
 python3 -B portable/tests/unknown.py handset "${rlibs[@]}" | tail -1
 python3 -B portable/tests/small.py portable/generator
-python3 -B portable/tests/mutants.py handset "${rlibs[@]}" | tail -1
+python3 -B portable/tests/forms.py build "$made/forms"
+python3 -B portable/tests/forms.py check "$made/forms" portable/generator "$kit/rlibs"
+python3 -B portable/tests/mutants.py handset "$made/forms" "${rlibs[@]}" | tail -1
 
 # ---- 3. compilers
 strict=(-std=c99 -Wall -Wextra -Werror -Wconversion -Wshadow -Wpedantic -ffreestanding -I include)

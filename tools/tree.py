@@ -4,7 +4,8 @@ those of crates/*/src (.rt), and the must-fail edits.
 
 An .antt item is a head ([abbrev|unfoldable] [pub] [record|data] NAME .. : ..), its deeper-indented lines, and the equations that begin with
 NAME. `abbrev` and `unfoldable` make a definition, `record` and `data` a type; a head with neither is a theorem: its equations, and an
-`unfolding` before them, are its proof. Items inside `module _ (..) where` stand two columns in."""
+`unfolding` before them, are its proof. Items inside `module _ (..) where` stand two columns in. A `ruleset NAME = ..` lists theorems and says
+nothing of its own, so that it is no item."""
 import glob
 import os
 import re
@@ -115,6 +116,9 @@ def antt_file(crate, path, text):
             modules.append(bare)
             continue
         if indent <= base and not closing:
+            if re.match(r"(pub )?ruleset ", bare):
+                item = None
+                continue
             first = bare.split()[0]
             equation = item and (first == item.name or first == "unfolding")
             if equation:

@@ -16,12 +16,18 @@ class Checked(Function):
 
     def arithmetic(self, name, sign, a, b):
         plain = super().arithmetic(name, sign, a, b)
+        if name.startswith("Wrap"):
+            return Value(f"{name.upper()}{a.type[1]}({a.text}, {b.text})", a.type)
         if sign == "Signed":
             if a.type[1] < 32:
                 raise Unknown(f"signed {name} of {a.type[1]} bits")
             return Value(f"S{name.upper()}{a.type[1]}({self.signed(a)}, {self.signed(b)})", a.type)
         cut = f"({self.types.c(a.type)})"
         return plain if plain.loose else Value(f"CUT{a.type[1]}{plain.text[len(cut):]}", a.type)
+
+    @staticmethod
+    def unreachable():
+        return ["abort();"]
 
 
 def checks():
@@ -33,6 +39,10 @@ def checks():
         for name, kind, wrong in (("UU", "uint64_t", f"x > UINT{w}_MAX"), ("US", "uint64_t", f"x > INT{w}_MAX"),
                                   ("SU", "int64_t", f"x < 0 || (uint64_t)x > UINT{w}_MAX"), ("SS", "int64_t", f"x < INT{w}_MIN || x > INT{w}_MAX")):
             yield f"static inline uint{w}_t CAST_{name}{w}({kind} x) {{ if ({wrong}) abort(); return (uint{w}_t)x; }}"
+    for w in (8, 16, 32, 64):
+        for name in ("ADD", "SUB", "MUL"):
+            body = f"uint{w}_t r; if (__builtin_{name.lower()}_overflow(a, b, &r)) return r; return r;"
+            yield f"static inline uint{w}_t WRAP{name}{w}(uint{w}_t a, uint{w}_t b) {{ {body} }}"
     for w in (32, 64):
         for name in ("ADD", "SUB", "MUL"):
             body = f"int{w}_t r; if (__builtin_{name.lower()}_overflow(a, b, &r)) abort(); return (uint{w}_t)r;"

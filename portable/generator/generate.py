@@ -5,14 +5,15 @@ RLIBS are folders of built libraries (NAME.rlib), KIT what `rt version` says. Fr
 calls reach, one C function, CRATE_FUNCTION, for one function of the MIR, and at the end the calls as HEADER declares them. The same input gives
 the same file. A form of MIR that is not known here is named, and nothing is written: exit status 1. --checked: checked.py.
 
-To read the generator: mir.py (reading), in_c.py (functions that stand there in C), c_types.py (types), rules.py (four rules that go beyond writing
-MIR down), expressions.py, statements.py, header_calls.py (the exported calls), and here the file."""
+To read the generator: mir.py (reading), interface.py (names that MIR lacks), instances.py (generic functions made concrete), names.py (C's names),
+c_types.py (types), rules.py (four rules that go beyond writing MIR down), expressions.py, flow.py, statements.py, header_calls.py (the exported
+calls), and here the file."""
 import sys
 
 from c_types import Types
 from checked import Checked, checks
 from header_calls import HeaderCalls
-from in_c import written
+from instances import Instances
 from mir import Libraries, Unknown, crate_of
 from statements import Function, wrapped
 
@@ -22,7 +23,6 @@ FIRST = """\
  *   of the mir.json of these libraries, one after the other:
 {names}
  * Kit: {kit}
- * In C by hand: {in_c}
  * Calls:
 {calls}
  */
@@ -54,29 +54,30 @@ def listed(names):
 
 def c_file(libraries, library, header, kit, kind=Function):
     """The file's text."""
-    types, order, seen, functions, early, helpers, above, in_c = Types(libraries), [], set(), [], [], set(), set(), set()
+    instances = Instances(libraries)
+    types, order, seen, functions, early, helpers, above = Types(instances), [], set(), [], [], set(), set()
     exported = libraries.exports(library)
     for name in sorted(exported):
-        libraries.reached(name, order, seen)
+        instances.reached(instances.instance(name, [], []), order, seen)
+    for name in order:
+        types.add_shapes(name)
     for name in order:
         above.add(name)
         try:
-            function = kind(types, libraries, name)
-            early += [kind(types, libraries, callee).head() + ";" for callee in sorted(set(libraries.calls(name)) - above)]
+            function = kind(types, instances, name)
+            early += [kind(types, instances, callee).head() + ";" for callee in sorted(set(instances.calls(name)) - above)]
             functions.append(function.write())
         except Unknown as unknown:
             raise Unknown(f"{name}: {unknown}") from unknown
         helpers |= function.helpers
-        in_c |= function.in_c
-    calls = HeaderCalls(types, libraries)
+    calls = HeaderCalls(types, instances)
     for name in exported:
         calls.call(name)
     crates = sorted({crate_of(name) for name in order})
     first = FIRST.format(header=header, library=library, functions=len(order), libraries=len(crates), digest=libraries.digest(crates),
-                         names=listed(crates), kit=kit, in_c=", ".join(sorted(in_c)) or "nothing",
+                         names=listed(crates), kit=kit,
                          calls=listed(sorted(name.rsplit("::", 1)[1] for name in exported)))
     by_hand = [SIGNED_READING.format(width) for width in sorted(helpers | calls.helpers)]
-    by_hand += [written(name, types, kind is Checked) for name in sorted(in_c)]
     return "\n".join([first, START] + ["\n".join(checks()) + "\n"] * (kind is Checked) + [SAME, "\n".join(types.text) + "\n"]
                      + by_hand + early + functions + calls.text)
 

@@ -5,7 +5,7 @@ import os
 import re
 import sys
 
-from c_types import WORD, c_name, type_of
+from c_types import WORD, type_of
 from statements import wrapped
 
 sys.path.append(os.path.join(os.path.dirname(os.path.abspath(__file__)), "..", "..", "tools"))
@@ -15,8 +15,9 @@ from layout import partner  # noqa: E402
 class HeaderCalls:
     """The exported calls, one after the other in `text`."""
 
-    def __init__(self, types, libraries):
-        self.types, self.libraries, self.copies, self.helpers, self.text = types, libraries, set(), set(), []
+    def __init__(self, types, instances):
+        self.types, self.instances, self.libraries = types, instances, instances.libraries
+        self.copies, self.helpers, self.text = set(), set(), []
 
     def c(self, t, source=""):
         """The header's type of a value; MIR has no sign, so that is the source's."""
@@ -30,10 +31,10 @@ class HeaderCalls:
 
     def copy(self, way, t):
         """The name of the function that takes a struct from the header's form, or gives it."""
-        name, ours, theirs = f"{way}_{c_name(t[1])}", self.types.c(t), self.c(t)
+        name, ours, theirs = f"{way}_{self.types.c(t)}", self.types.c(t), self.c(t)
         if name not in self.copies:
             self.copies.add(name)
-            fields = zip(self.libraries.members(t[1]), self.types.shapes[t[1]])
+            fields = zip(self.libraries.members(t[1]), self.types.shape(t))
             lines = [line for (field, source), kind in fields for line in self.field(way, f"->{field}", f"->{field}", kind, source)]
             given = f"{ours} *to, const {theirs} *from" if way == "take" else f"{theirs} *to, const {ours} *from"
             self.text += [f"static void {name}({given})", "{"] + ["    " + line for line in lines] + ["}", ""]
@@ -49,7 +50,7 @@ class HeaderCalls:
             return [f"{self.copy(way, t)}(&{to}, &{from_});"]
         if t[0] == "named":
             field, inner = self.libraries.members(t[1])[0]
-            return self.field(way, f"{ours}.{field}", theirs, self.types.shapes[t[1]][0], inner)
+            return self.field(way, f"{ours}.{field}", theirs, self.types.shape(t)[0], inner)
         same = f"SAME({(from_ if way == 'take' else to).replace('[i]', '[0]')}, {self.c(t, source)});"
         return [same, f"{to} = {self.number(from_, t, self.c(t, source), way)};"]
 
@@ -62,9 +63,9 @@ class HeaderCalls:
 
     def call(self, name):
         """A call: what it is given is taken, the function of the MIR called, what it lent and its result given."""
-        node, given, before, values, after = self.libraries.function(name), [], [], [], []
+        node, given, before, values, after = self.instances.function(name), [], [], [], []
         result, *kinds = [type_of(local["ty"]) for local in node["locals"][:node["params"] + 1]]
-        for i, (t, (p, source)) in enumerate(zip(kinds, self.libraries.parameters[name]), 1):
+        for i, (t, (p, source)) in enumerate(zip(kinds, self.libraries.parameters(name)), 1):
             behind, const = t[2] if t[0] == "ref" else t, "const " if t[0] in ("ref", "slice") and not t[1] else ""
             if t[0] == "slice":
                 given.append(f"{const}uint8_t *{p}, size_t {p}_len")
@@ -78,7 +79,7 @@ class HeaderCalls:
             else:
                 given.append(f"{self.c(t, source)} {p}")
                 values.append(self.number(p, t, self.c(t, source), "take"))
-        lines = before + [f"{self.types.c(result)} result = {c_name(name)}({', '.join(values)});"] + after
+        lines = before + [f"{self.types.c(result)} result = {self.types.function(name)}({', '.join(values)});"] + after
         if self.is_struct(result):
             lines += [f"{self.c(result)} given;", f"{self.copy('give', result)}(&given, &result);", "return given;"]
         else:

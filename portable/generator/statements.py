@@ -1,11 +1,12 @@
-"""Statements: one function of the MIR as one function of C. A block that holds nothing but a loop is that loop; its exits 0 and 1 are `continue`
-and `break`. What MIR's flow does otherwise is written as it stands; an exit over two loops, or a block of another kind, stops the generator."""
+"""Statements: one function of the MIR as one function of C. Of the innermost loop, the next turn is `continue` and the end is `break`; any other
+exit is a `goto` to the end of its block, or of the turn or the whole of its loop. What no call reaches, by the proofs, is a loop without end."""
 import re
 import textwrap
 
-from c_types import PTR, UNIT, c_name
+from c_types import PTR
 from expressions import Expressions
-from mir import Unknown, form, tree
+from instances import said
+from mir import Unknown, form
 from rules import Again, Pointer, Value
 
 COLUMNS = 120
@@ -21,25 +22,27 @@ class Function(Expressions):
     """One function of the MIR in C."""
 
     def head(self):
-        given = ", ".join(self.declared(i).replace(" ", "~") for i in self.parameters)
-        return f"static {self.types.c(self.kinds[0])} {c_name(self.name)}({given or 'void'})"
+        given = ", ".join(self.declared(i).replace(" ", "~") for i in self.parameters if i not in self.empty)
+        result = f"static {self.types.c(self.kinds[0])} ".replace("* ", "*").replace(" ", "~", self.types.c(self.kinds[0]).count("*"))
+        return f"{result}{self.types.function(self.name)}({given or 'void'})"
+
+    def comment(self):
+        """The instance in words, where the function has parameters for types or impls."""
+        path, types = self.instances.path(self.name)
+        return wrapped(f"/* {path}{said(types)} */") if self.name != path else []
 
     def write(self):
         """The function, written as often as something new is known of its locals: each time one more is a variable, so that it ends."""
-        nodes = iter(self.node["body"])
-        body = tree(nodes)
-        if next(nodes, None) is not None:
-            raise Unknown("statements after the body's end")
         while True:
             self.begin()
             try:
-                lines = self.statements(body, 0)
+                lines = self.statements(self.body, 0)
                 break
             except Again:
                 continue
-        unused = [f"(void){self.names[i]};" for i in self.parameters if i not in self.used]
-        lines = self.top + unused + lines[:-1] + lines[-1:] * (lines[-1] != "return;")
-        return "\n".join(wrapped(self.head()) + ["{"] + [part for line in lines for part in wrapped("    " + line)] + ["}", ""])
+        unused = [f"(void){self.names[i]};" for i in self.parameters if i not in self.used | self.empty]
+        lines = self.top + unused + lines[:-1] + lines[-1:] * (lines[-1:] != ["return;"])
+        return "\n".join(self.comment() + wrapped(self.head()) + ["{"] + [part for line in lines for part in wrapped("    " + line)] + ["}", ""])
 
     def statements(self, statements, depth):
         lines = []
@@ -48,19 +51,35 @@ class Function(Expressions):
             if s[0] in ("Assign", "Call"):
                 lines += self.assignment(*s, depth, statements[i + 1:i + 2] == [("Return", None)])
             elif s[0] == "Return":
-                if self.kinds[0] == UNIT or not lines or not lines[-1].startswith("return "):
-                    lines += self.written("return;" if self.kinds[0] == UNIT else f"return {self.read(0).text};")
-            elif s[0] == "Exit" and s[1] in (0, 1) and self.loops:
-                lines += self.written("break;" if s[1] else "continue;")
+                if 0 in self.empty or not lines or not lines[-1].startswith("return "):
+                    lines += self.written("return;" if 0 in self.empty else f"return {self.read(0).text};")
+            elif s[0] == "Exit":
+                lines += self.written(self.exit(s[1]))
             elif s[0] in ("If", "Switch"):
                 lines += self.branches(s, depth)
             elif s[0] == "LendStatic":
                 continue  # it stands above, where it is read
-            elif s[0] == "Block" and len(s[2]) == 1 and s[2][0][0] == "Loop":
-                lines += self.written() + self.loop(s[2][0][2], depth)
-            else:
-                raise Unknown(f"{s[0]} {s[1]} that is no loop in a block of its own, and no end or next turn of the innermost loop")
+            elif s[0] == "Loop":
+                lines += self.written() + self.loop(s[1], s[2], depth)
+            elif s[0] == "Block":
+                lines += self.written() + self.statements(s[2], depth + 1) + self.label(s[1])
+            elif s[0] == "Unreachable":
+                lines += self.written(*self.unreachable())
         return lines + self.written()
+
+    def exit(self, scope):
+        """An exit to the end of a block or a loop, or to the next turn of a loop."""
+        if self.loops and scope in self.loops[-1]:
+            return "break;" if scope is self.loops[-1][0] else "continue;"
+        return f"goto {self.labels.setdefault(scope, f'end_{len(self.labels) + 1}')};"
+
+    def label(self, scope):
+        """The end of a block or a loop, where an exit goes there."""
+        return [f"{self.labels[scope]}:;"] if scope in self.labels else []
+
+    @staticmethod
+    def unreachable():
+        return ["for (;;) {", "}"]
 
     def inner(self, statements, depth):
         return ["    " + line for line in self.statements(statements, depth + 1)]
@@ -69,15 +88,14 @@ class Function(Expressions):
         """An assignment or a call; last: a return is next."""
         place, target = content[0] if name == "Assign" else content[2], None
         local, kind = place["local"], self.kinds[place["local"]]
+        self.pointee = None if place["steps"] else self.pointees.get(local)
         if name == "Call":
             if place["steps"]:
                 raise Unknown("a call whose result is put behind a step")
             value = Value(self.call(content[0], content[1]), kind, alone=True)
         elif place["steps"]:
             target = self.place(place, writes=True)
-            value = self.value(content[1], target.type)
-        elif kind == UNIT and content[1] == {"Opd": "Unit"}:
-            return []
+            value = self.plain(self.value(content[1], target.type))
         elif local in self.tables:
             if "Opd" not in content[1]:
                 self.seen.add(local)
@@ -86,10 +104,10 @@ class Function(Expressions):
         else:
             value = self.value(content[1], kind)
         self.whole(value)
-        if target or kind == UNIT:
+        if target or local in self.empty or (name == "Call" and local not in self.read_at_all and local):
             return self.written(f"{target.text} = {value.text};" if target else f"{value.text};")
         if local == 0 and last:
-            return self.written(f"return {value.text};")
+            return self.written(f"return {self.plain(value).text};")
         if local in self.kept:
             return self.written(self.variable(local, kind, value, depth))
         if local in self.pending or (isinstance(value, Value) and len(value.text) > COLUMNS - 30):
@@ -99,13 +117,15 @@ class Function(Expressions):
 
     def variable(self, local, kind, value, depth):
         """A variable is assigned: declared there where that is its first statement and stands in no other, or else above."""
-        if kind == PTR:
-            if local in self.seen or value.offset is None:
-                raise Unknown("a raw pointer that is no index")
+        if isinstance(value, Pointer) and local not in self.untyped:
+            if local in self.seen:
+                self.untyped.add(local)
+                raise Again
             self.seen.add(local)
             self.top.append(self.declared(local, ("ref", value.mutable, value.element)) + ";")
             self.pointers[local] = Pointer(self.names[local], value.mutable, value.element, table=value.table)
-            return f"{self.names[local]} = &{self.element(value)};"
+            return f"{self.names[local]} = {self.at(Value(self.element(value), PTR))};"
+        value = self.plain(value)
         if local in self.seen or depth > 0:
             self.declare(local)
             return f"{self.names[local]} = {value.text};"
@@ -113,15 +133,17 @@ class Function(Expressions):
         literal = f"({self.types.c(kind)}){{"
         return f"{self.declared(local)} = {value.text[len(literal) - 1:] if value.text.startswith(literal) else value.text};"
 
-    def loop(self, body, depth):
-        """A loop; where it begins with a test that ends it, a `while`."""
-        self.loops += 1
+    def loop(self, scopes, body, depth):
+        """A loop; where it begins with a test that ends it, a `while`. Its scopes are its end and its turn."""
+        self.loops.append(scopes)
         lines = self.inner(body, depth)
-        self.loops -= 1
+        self.loops.pop()
+        end, turn = map(self.label, scopes)
+        lines += ["    " + line for line in turn]
         test = re.fullmatch(r"    if \(!(\w+|\((.*)\))\) \{", lines[0])
         if test and lines[1:3] == ["        break;", "    }"]:
-            return [f"while ({test.group(2) or test.group(1)}) {{"] + lines[3:] + ["}"]
-        return ["for (;;) {"] + lines + ["}"]
+            return [f"while ({test.group(2) or test.group(1)}) {{"] + lines[3:] + ["}"] + end
+        return ["for (;;) {"] + lines + ["}"] + end
 
     def branches(self, s, depth):
         """An If or a Switch. A switch without a default meets no other key than its own, by the proofs; so its last arm needs no test."""

@@ -4,8 +4,10 @@
 A library of MIR written by hand is put through the generator in the folder GENERATOR, compiled and run. In hb_lent a big argument is copied from
 an array that the call writes through a slice; in hb_before and hb_after a byte is read before or after a call that writes it, and both are added.
 hb_wide adds two constants whose sum has 33 bits; hb_rows writes one row of an array of arrays and reads it and the next. In hb_table and
-hb_wide_table constant arrays are lent, of the first also a slice, whose pointer is used twice; hb_copied calls core's function that stands in C.
-Exit status 1 if an answer is wrong."""
+hb_wide_table constant arrays are lent, of the first also a slice, whose pointer is used twice. hb_held is hb_lent with the slice in a struct of a
+type with parameters. hb_escaped has a constant array written through a raw pointer that a generic function is given; hb_impls calls one generic
+function with two impls; hb_dropped drops a value whose drop writes, and one whose drop does nothing; hb_left leaves a block from within a loop,
+and its loop's turn from within a block. Exit status 1 if an answer is wrong."""
 import json
 import os
 import subprocess
@@ -59,12 +61,35 @@ def byte(n):
     return {"Opd": {"Int": {"width": 8, "value": n}}}
 
 
-def function(parameters, kinds, slots, *statements):
+def function(parameters, kinds, slots, *statements, types=0, bounds=(), method_of=None, impls=(), declared=()):
     """A function of so many parameters; the kinds of its locals, the result first, and which of them are memory."""
-    body = [part for s in statements for part in ("Seq", s)] + ["Return"]
+    flat = any(isinstance(s, str) for s in statements)  # prefix code already, all but its first statement and its end
+    body = ["Seq", *statements, "Return"] if flat else [part for s in statements for part in ("Seq", s)] + ["Return"]
     locals_ = [{"ty": kind, "home": "MemorySlot" if i in slots else "ValueLocal"} for i, kind in enumerate(kinds)]
-    generics = {"types": [], "outlives": [], "bounds": [], "method_of": None, "trait_lifetimes": 0, "impls": []}
-    return {"lifetimes": 1, "outlives": [], "params": parameters, "generics": generics, "types": [], "locals": locals_, "body": body}
+    types = [{"is_copy": False, "is_kept": False, "const_bits": None}] * types
+    generics = {"types": types, "outlives": [], "bounds": list(bounds), "method_of": method_of, "trait_lifetimes": 0, "impls": list(impls)}
+    return {"lifetimes": 1, "outlives": [], "params": parameters, "generics": generics, "types": list(declared), "locals": locals_, "body": body}
+
+
+def named(name, *types):
+    return {"Named": [{"name": f"small::{name}", "lifetimes": []}, list(types)]}
+
+
+def struct(name, count, *fields):
+    """What a function says of a struct with so many parameters."""
+    return {"name": f"small::{name}", "lifetimes": 0, "bounds": [], "type_params": count, "const_params": [], "type_bounds": [], "owns": False,
+            "is_cell": False, "is_tuple": False, "shape": {"Fields": list(fields)}}
+
+
+def impl(name, of, kind, method):
+    """An impl of a trait for a type, with one method."""
+    return {"name": f"small::{name}", "lifetimes": 0, "outlives": [], "types": [], "type_outlives": [], "bounds": [],
+            "of": {"of": of, "lifetimes": [], "types": [kind]}, "methods": [f"small::{name}::{method}"]}
+
+
+def given(*types, impls=()):
+    """What a call of a generic function gives it."""
+    return {"types": list(types), "dicts": [{"Impl": [f"small::{name}", [], []]} for name in impls]}
 
 
 def number(n):
@@ -86,7 +111,11 @@ DEREF = {"Deref": INT8}
 LENT_ROW, LENT_BYTE = {"Ref": ["Erased", "Imm", ROW]}, {"Ref": ["Erased", "Imm", INT8]}
 LENT_SLICE = {"Struct": ["&[]", [LENT_BYTE, INT64]]}
 WIDE = {"Array": [INT64, {"Lit": 3}]}
-COPY = "core::slice::edits::slice+T::copy_from_slice", {"types": [INT8], "dicts": [{"Impl": ["core::clone::U8Clone", [], []]}]}
+HELD, GUARD, NONE = named("Held", SLICE), named("Guard"), named("None")
+SHAPES = [struct("Held", 1, {"Param": 0}), struct("Guard", 0, {"Ref": ["Erased", "Mut", INT8]}), struct("None", 0)]
+NUM, DROP = "small::Num", "core::marker::Destruct"
+IMPLS = [impl("A", NUM, INT8, "num"), impl("B", NUM, INT8, "num"), impl("GuardDrop", DROP, GUARD, "drop"), impl("NoneDrop", DROP, NONE, "drop")]
+P0 = {"Param": 0}
 MIR = [
     # fn first_after(buf, big) -> u8 { buf[0] = 9; big[0] }
     ("first_after", function(2, [INT8, SLICE, ARRAY, ARRAY, PTR, PTR, PTR], {3},
@@ -108,7 +137,8 @@ MIR = [
     ("hb_wide", function(0, [INT64], set(), assign(0, {"Op2": [{"Add": "Unsigned"}, number(4294967295), number(1)]}))),
     # fn hb_rows(x) -> u8 { let mut a = [[x; 4]; 3]; a[1] = [9; 4]; a[1][0] + a[2][0] }
     ("hb_rows", function(1, [INT8, INT8, ROW, ROWS, ROW, ROW, ROW, INT8, INT8] + [PTR] * 10, {3, 5, 6},
-                         assign(2, {"Repeat": [copy(1), {"Lit": 4}]}), assign(3, {"Repeat": [copy(2), {"Lit": 3}]}), assign(4, {"Repeat": [byte(9)["Opd"], {"Lit": 4}]}),
+                         assign(2, {"Repeat": [copy(1), {"Lit": 4}]}), assign(3, {"Repeat": [copy(2), {"Lit": 3}]}),
+                         assign(4, {"Repeat": [byte(9)["Opd"], {"Lit": 4}]}),
                          *row_of(3, 4, (9, 10)), assign(place(10, {"Deref": ROW}), {"Opd": copy(4)}),
                          *row_of(3, 4, (11, 12)), *first_of(12, 5, (13, 14), 7), *row_of(3, 8, (15, 16)), *first_of(16, 6, (17, 18), 8),
                          assign(0, add(7, 8)))),
@@ -124,9 +154,48 @@ MIR = [
                                lend(2, 64, 1, 2 ** 64 - 2, 5), assign(3, {"AddrOf": place(2, {"Deref": WIDE})}),
                                assign(5, {"Op2": [{"Mul": "Unsigned"}, copy(1), number(8)]}), assign(4, {"Op2": ["Offset", copy(3), copy(5)]}),
                                assign(0, {"Opd": copy(4, {"Deref": INT64})}))),
-    # fn hb_copied(to, from) -> u8 { to.copy_from_slice(from); to[0] }
-    ("hb_copied", function(2, [INT8, SLICE, LENT_SLICE, "Unit", PTR], set(),
-                           call_of(*COPY, 3, copy(1), copy(2)), first(4, copy(1, FIRST)), assign(0, {"Opd": copy(4, DEREF)}))),
+    # fn held_after(held, big) -> u8 { held.0[0] = 9; big[0] }; hb_held(x) is hb_lent over it
+    ("held_after", function(2, [INT8, HELD, ARRAY, ARRAY, PTR, PTR, PTR], {3},
+                            first(4, copy(1, FIRST, FIRST)), assign(place(4, DEREF), byte(9)), assign(3, {"Opd": copy(2)}),
+                            assign(5, {"AddrOf": place(3)}), first(6, copy(5)), assign(0, {"Opd": copy(6, DEREF)}), declared=SHAPES)),
+    ("hb_held", function(1, [INT8, INT8, ARRAY, PTR, SLICE, ARRAY, HELD], {2},
+                         assign(2, {"Repeat": [copy(1), {"Lit": 16}]}), assign(3, {"AddrOf": place(2)}),
+                         assign(4, {"Aggregate": [copy(3), number(16)]}), assign(5, {"Opd": copy(2)}), assign(6, {"Aggregate": [copy(4)]}),
+                         call("held_after", 0, copy(6), copy(5)), declared=SHAPES)),
+    # fn put<T>(at, x: T) { *at = x }
+    ("put", function(2, ["Unit", "Ptr", P0], set(), assign(place(1, {"Deref": P0}), {"Opd": copy(2)}), types=1)),
+    # fn hb_escaped(x) -> u8 { let a = [3; 4]; put(&a, x); a[0] }
+    ("hb_escaped", function(1, [INT8, INT8, ROW, PTR, PTR, "Unit", PTR, PTR], {2},
+                            assign(2, {"Repeat": [byte(3)["Opd"], {"Lit": 4}]}), assign(3, {"AddrOf": place(2)}), first(4, copy(3)),
+                            call_of("small::put", given(INT8), 5, copy(4), copy(1)), assign(6, {"AddrOf": place(2)}), first(7, copy(6)),
+                            assign(0, {"Opd": copy(7, DEREF)}))),
+    # fn num_of<T: Num>() -> u8 { T::num() }; hb_impls() -> u8: twice that of u8, by two impls
+    ("A::num", function(0, [INT8], set(), assign(0, byte(5)), method_of={"Impl": ["small::A", 0]})),
+    ("B::num", function(0, [INT8], set(), assign(0, byte(70)), method_of={"Impl": ["small::B", 0]})),
+    ("num_of", function(0, [INT8], set(), {"Call": [{"Method": [{"Given": 0}, 0, given()]}, [], place(0)]}, types=1,
+                        bounds=[{"of": NUM, "lifetimes": [], "types": [P0]}])),
+    ("hb_impls", function(0, [INT8, INT8, INT8, INT8], set(), call_of("small::num_of", given(INT8, impls=["A"]), 1),
+                          call_of("small::num_of", given(INT8, impls=["B"]), 2),
+                          assign(3, {"Op2": [{"Mul": "Unsigned"}, copy(2), byte(2)["Opd"]]}), assign(0, add(1, 3)), impls=IMPLS)),
+    # hb_dropped(buf) -> u8 { drop(None); drop(Guard(&mut buf[0])); buf[0] }, where the drop of Guard writes 8
+    ("GuardDrop::drop", function(1, ["Unit", GUARD], set(), assign(place(1, FIRST, DEREF), byte(8)), method_of={"Impl": ["small::GuardDrop", 0]},
+                                 declared=SHAPES)),
+    ("NoneDrop::drop", function(1, ["Unit", NONE], set(), assign(0, {"Opd": "Unit"}), method_of={"Impl": ["small::NoneDrop", 0]}, declared=SHAPES)),
+    ("drop_it", function(1, ["Unit", P0], set(), {"Call": [{"Method": [{"Given": 0}, 0, given()]}, [copy(1)], place(0)]}, types=1,
+                         bounds=[{"of": DROP, "lifetimes": [], "types": [P0]}])),
+    ("hb_dropped", function(1, [INT8, SLICE, NONE, PTR, {"Ref": ["Erased", "Mut", INT8]}, GUARD, "Unit", PTR], set(),
+                            assign(2, {"Aggregate": []}), call_of("small::drop_it", given(NONE, impls=["NoneDrop"]), 6, copy(2)),
+                            first(3, copy(1, FIRST)), assign(4, {"AddrOf": place(3, DEREF)}), assign(5, {"Aggregate": [copy(4)]}),
+                            call_of("small::drop_it", given(GUARD, impls=["GuardDrop"]), 6, copy(5)),
+                            first(7, copy(1, FIRST)), assign(0, {"Opd": copy(7, DEREF)}), impls=IMPLS, declared=SHAPES)),
+    # hb_left(n) -> u8: { let mut i = 0; 'b: { loop { if i == n { break 'b } 't: { if i == 2 { break 't }; if i == 5 { break } } i += 1 } i = 100 } i }
+    ("hb_left", function(1, [INT8, INT8, INT8, "Bool"], set(), assign(2, byte(0)),
+                         *["Seq", "Block", "Seq", "Block", "Loop",
+                           "Seq", assign(3, {"Op2": ["Eq", copy(2), copy(1)]}), "Seq", {"If": copy(3)}, {"Exit": 2}, "Skip",
+                           "Seq", "Block", "Seq", assign(3, {"Op2": ["Eq", copy(2), byte(2)["Opd"]]}), "Seq", {"If": copy(3)}, {"Exit": 0}, "Skip",
+                           "Seq", assign(3, {"Op2": ["Eq", copy(2), byte(5)["Opd"]]}), {"If": copy(3)}, {"Exit": 2}, "Skip",
+                           assign(2, {"Op2": [{"Add": "Unsigned"}, copy(2), byte(1)["Opd"]]}), assign(2, byte(100))],
+                         "Seq", assign(0, {"Opd": copy(2)}))),
 ]
 INTERFACE = """fn first_after ( buf : & mut [ u8 ] , big : [ u8 ; 16 ] ) -> u8 ;
 fn nine ( buf : & mut [ u8 ] ) -> u8 ;
@@ -140,7 +209,11 @@ fn last ( s : & [ u8 ] ) -> u8
     ensures { result ≡ get_or s.now 3 0 } ;
 pub fn hb_table ( i : usize ) -> u8 ;
 pub fn hb_wide_table ( i : usize ) -> u64 ;
-pub fn hb_copied ( to : & mut [ u8 ] , from : & [ u8 ] ) -> u8 ;
+pub fn hb_held ( x : u8 ) -> u8 ;
+pub fn hb_escaped ( x : u8 ) -> u8 ;
+pub fn hb_impls ( ) -> u8 ;
+pub fn hb_dropped ( buf : & mut [ u8 ] ) -> u8 ;
+pub fn hb_left ( n : u8 ) -> u8 ;
 """
 HEADER = """#include <stdbool.h>
 #include <stddef.h>
@@ -152,15 +225,20 @@ uint64_t hb_wide(void);
 uint8_t hb_rows(uint8_t x);
 uint8_t hb_table(size_t i);
 uint64_t hb_wide_table(size_t i);
-uint8_t hb_copied(uint8_t *to, size_t to_len, const uint8_t *from, size_t from_len);
+uint8_t hb_held(uint8_t x);
+uint8_t hb_escaped(uint8_t x);
+uint8_t hb_impls(void);
+uint8_t hb_dropped(uint8_t *buf, size_t buf_len);
+uint8_t hb_left(uint8_t n);
 """
 MAIN = """#include "small.h"
 int main(void)
 {
-    uint8_t a[1] = {5}, b[1] = {5}, c[3] = {1, 2, 3}, d[3] = {7, 8, 9};
+    uint8_t a[1] = {5}, b[1] = {5}, c[1] = {5};
     return !(hb_lent(1) == 1 && hb_before(a, 1) == 6 && a[0] == 9 && hb_after(b, 1) == 10 && hb_wide() == UINT64_C(4294967296) &&
              hb_rows(3) == 12 && hb_table(1) == 212 && hb_table(2) == 19 && hb_wide_table(1) == UINT64_MAX - 1 &&
-             hb_wide_table(2) == 5 && hb_copied(c, 2, d, 2) == 7 && c[1] == 8 && c[2] == 3 && d[0] == 7);
+             hb_wide_table(2) == 5 && hb_held(1) == 1 && hb_escaped(7) == 7 && hb_impls() == 145 && hb_dropped(c, 1) == 8 &&
+             hb_left(4) == 4 && hb_left(6) == 100);
 }
 """
 

@@ -15,34 +15,38 @@ sys.path.insert(0, GENERATOR)
 sys.dont_write_bytecode = True
 
 from generate import c_file  # noqa: E402
+from instances import Instances  # noqa: E402
 from mir import Libraries, Unknown  # noqa: E402
 
 EDITS = [  # what stands there, what to put there, and what the generator names
     ('"Shl"', '"Rotate"', "Rotate"), ('{"Shr": "Unsigned"}', '{"Shr": "Signed"}', "Shr Signed"), ('{"Div": "Unsigned"}', '{"Div": "Signed"}', "Div Signed"),
-    ('{"Rem": "Unsigned"}', '{"Rem": "Signed"}', "Rem Signed"), ('"And"', '"Xor"', "Xor"), ('"Unsigned"', '"Wrapping"', "Wrapping"),
+    ('{"Rem": "Unsigned"}', '{"Rem": "Signed"}', "Rem Signed"), ('"And"', '"Nand"', "Nand"), ('"Unsigned"', '"Wrapping"', "Wrapping"),
     ('"Op1": ["Not"', '"Op1": ["Neg"', "Neg"), ('"Cast": ["Unsigned"', '"Cast": ["Float"', "Cast"), ('{"Int": 8}', '{"Int": 128}', "128"),
-    ('"Loop"', '"While"', "While"), ('{"Exit": 1}', '{"Exit": 2}', "Exit 2"), ('"Switch"', '"Match"', "Match"), ('"Block", "Loop"', '"Loop"', "Loop"),
-    ('"Fn"', '"Closure"', "not direct"), ('{"Deref": {"Int": 8}}', '{"Deref": {"Int": 16}}', "Deref"), ('{"Variant": 0}', '{"Downcast": 0}', "Downcast"),
+    ('"Loop"', '"While"', "While"), ('{"Exit": 1}', '{"Exit": 9}', "Exit 9"), ('"Switch"', '"Match"', "Match"), ('"Block", "Loop"', '"Loop"', "Exit"),
+    ('"Fn"', '"Closure"', "not direct"), ('{"Deref": {"Int": 8}}', '{"Deref": {"Int": 16}}', "16"), ('{"Variant": 0}', '{"Downcast": 0}', "Downcast"),
     ('"Aggregate"', '"Union"', "Union"), ('"AddrOf"', '"AddrOfMut"', "AddrOfMut"), ('"False"', '"Never"', "Never"), ('"Fields"', '"Opaque"', "Opaque"),
     ('"Variants"', '"Layers"', "Layers"), ('"params"', '"parameters"', "parameters"),
-    ('{"Fn": ["', '{"Fn": ["gone::', "gone::"), ('"Lit"', '"Param"', "Param"),
+    ('{"Fn": ["', '{"Fn": ["gone::', "gone::"), ('"Lit"', '"Size"', "Size"),
     ('"&[]"', '"&str"', "&str"), ('"Imm"', '"Weak"', "Weak"), ('"MemorySlot"', '"Register"', "Register"),
-    # types, traits and lifetimes as parameters; a constant that is lent
-    ('{"types": [], "dicts": []}', '{"types": [{"Int": 8}], "dicts": []}', "types"), ('"method_of": null', '"method_of": {"Impl": 0}', "method_of"),
-    ('"generics": {"types": []', '"generics": {"types": [0]', "parameters for types"), ('"type_params": 0', '"type_params": 1', "type_params"),
-    ('"owns": false', '"owns": true', "owns"), ('"lifetimes": []}, []]}', '"lifetimes": ["Erased"]}, []]}', "Erased"),
-    ('"lifetimes": []}, []]}', '"lifetimes": []}, [{"Int": 8}]]}', "Named"), ('U8Clone", [], []', 'U8Clone", [], [0]', "U8Clone"),
-    ('T::copy_from_slice', 'T::clone_from_slice', "clone_from_slice"), ('"LendStatic"', '"LendMut"', "LendMut"), ('"Ints"', '"Bools"', "Bools"),
-    ('"values": [', '"values": [0, ', "lent"), ('"steps": []}, {"Array"', '"steps": [{"Field": 0}]}, {"Array"', "part of a local"),
-    ('{"Deref": {"Array": [{"Int": 64}, {"Lit": 5}]}}', '{"Deref": {"Int": 32}}', "behind"),
+    # parameters that are not given, or given and not asked for; impls; types that are cells; a constant that is lent
+    ('{"types": [], "dicts": []}', '{"types": [{"Int": 8}], "dicts": []}', "types"), ('{"types": [], "dicts": []}', '{"types": []}', "a call with"),
+    ('"generics": {"types": []', '"generics": {"types": [0]', "types"), ('"type_params": 0', '"type_params": 1', "two shapes"),
+    ('{"types": [{"Int": 8}], "dicts"', '{"types": [], "dicts"', "types"), ('{"Int": 8}], "dicts"', '{"Param": 7}], "dicts"', "parameter 7"),
+    ('"dicts": [{"Given": 0}', '"dicts": [{"Given": 7}', "impl 7"), ('"dicts": [{"Given": 0}', '"dicts": [{"Above": 0}', "impl Above"),
+    ('{"Impl": ["core::clone::U8Clone"', '{"Impl": ["core::clone::U16Clone"', "16"),
+    ('"core::clone::U8Clone", [], []', '"core::clone::U8Clone", [], [0]', "no form"),
+    ('{"Method": [{"Given": 0}, 0', '{"Method": [{"Given": 0}, 5', "method 5"), ('"is_cell": false', '"is_cell": true', "is_cell"),
+    ('"SizeOf"', '"AlignOf"', "AlignOf"), ('"LendStatic"', '"LendMut"', "LendMut"), ('"Ints"', '"Bools"', "Bools"),
+    ('"values": [', '"values": [0, ', "values"), ('{"Deref": {"Array": [{"Int": 64}, {"Lit": 5}]}}', '{"Deref": {"Int": 32}}', "start"),
 ]
 
 
 def said(libraries, library, old, new):
     """The function that was edited, and what the generator says then: nothing where it goes on. No function: the form stands nowhere."""
-    order = []
+    instances, reached = Instances(libraries), []
     for name in sorted(libraries.exports(library)):
-        libraries.reached(name, order, set(order))
+        instances.reached(instances.instance(name, [], []), reached, set(reached))
+    order = list(dict.fromkeys(instances.path(name)[0] for name in reached))
     for name in order:
         text = json.dumps(libraries.functions[name])
         if old in text:

@@ -12,12 +12,8 @@ fn gather(b: &[u8], at: usize, n: usize) -> u8
     ensures { result ≡ val 0 (take n (drop at b.now)) }
 {
     let mut r: u8 = 0;
-    let mut i = at;
-    let mut left = n;
-    while 0 < left {
-        r = r * 2 + b[i];
-        i += 1;
-        left -= 1;
+    for &bit in &b[at..at + n] {
+        r = r * 2 + bit;
     }
     r
 }
@@ -27,12 +23,8 @@ pub fn put(b: &mut [u8], at: usize, n: usize, v: u8)
     requires { (n ≤ 8) × (at + n ≤ length b.old) }
     ensures { b.new ≡ sets b.old at (digits n v) }
 {
-    let mut i = at;
-    let mut left = n;
-    while 0 < left {
-        left -= 1;
-        b[i] = (v >> left) % 2;
-        i += 1;
+    for i in 0..n {
+        b[at + i] = (v >> (n - 1 - i)) % 2;
     }
 }
 
@@ -41,13 +33,10 @@ pub fn pack_into(ws: &[u8], vs: &[u8], b: &mut [u8], at: usize)
     requires { (length ws.now ≡ length vs.now) × EachBelow 9 ws.now × (at + width_of ws.now ≤ length b.old) }
     ensures { b.new ≡ sets b.old at (pack ws.now vs.now) }
 {
-    let mut i = 0;
     let mut o = at;
-    while i < ws.len() {
-        let w = ws[i] as usize;
-        put(b, o, w, vs[i]);
-        o += w;
-        i += 1;
+    for (i, &w) in ws.iter().enumerate() {
+        put(b, o, w as usize, vs[i]);
+        o += w as usize;
     }
 }
 
@@ -56,13 +45,10 @@ pub fn unpack_into(ws: &[u8], b: &[u8], at: usize, out: &mut [u8])
     requires { (length ws.now ≤ length out.old) × EachBelow 9 ws.now × (at + width_of ws.now ≤ length b.now) × EachBelow 2 b.now }
     ensures { out.new ≡ sets out.old 0 (unpack ws.now (drop at b.now)) }
 {
-    let mut i = 0;
     let mut o = at;
-    while i < ws.len() {
-        let w = ws[i] as usize;
-        out[i] = gather(b, o, w);
-        o += w;
-        i += 1;
+    for (i, &w) in ws.iter().enumerate() {
+        out[i] = gather(b, o, w as usize);
+        o += w as usize;
     }
 }
 
@@ -142,6 +128,7 @@ pub fn run_into(s: &[u8], at: usize, w: usize, n: usize, out: &mut [u8])
 {
     let mut i = 0;
     let mut o = at;
+    // stays a while: how far it goes depends on the bytes that are left
     while 2 < n - i && o / 8 + 4 <= s.len() {
         let t = three(s, o, w);
         out[i] = t[0];
@@ -150,9 +137,8 @@ pub fn run_into(s: &[u8], at: usize, w: usize, n: usize, out: &mut [u8])
         o += 3 * w;
         i += 3;
     }
-    while i < n {
-        out[i] = field(s, o, w);
+    for j in i..n {
+        out[j] = field(s, o, w);
         o += w;
-        i += 1;
     }
 }

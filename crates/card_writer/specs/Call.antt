@@ -1,5 +1,7 @@
 -- What the call gives (02, S-9): its answer and the buffer after it.
-use Rattle.std.specs.Prelude.{Bool, ◌||◌, not, cond, List, ◌++◌, ℕ, ltb, eqb, length, drop}
+use Rattle.std.specs.Prelude.{Bool, ◌||◌, not, cond, List, ◌++◌, ℕ, ltb, eqb, length, drop, Result, Ok, Err}
+use Rattle.refusals.specs.declared.Refusal.{Refusal}
+use Rattle.refusals.specs.Refusal.{number}
 use Rattle.cards.specs.CardList.{cards_of, card_bytes}
 use Rattle.card_writer.specs.declared.Cards.{Cards}
 
@@ -14,6 +16,11 @@ refuses suit size room = ltb 2 suit || not (is_size size) || ltb room (length (c
 -- "It refuses with 19"; "a refused call returns its number with all else zero" (01)
 abbrev pub refused_cards : Cards
 refused_cards = record { refusal = 19; count = 0 }
+
+-- what C is given of a result: the number of sets, or the refusal beside zero
+abbrev pub answer_in : Result ℕ Refusal → Cards
+answer_in (Ok n) = record { refusal = 0; count = n }
+answer_in (Err r) = record { refusal = number r; count = 0 }
 
 -- "The number of sets is returned."
 unfoldable pub answer_of : ℕ → ℕ → ℕ → Cards

@@ -1,6 +1,6 @@
 -- What Judge answers, for every record, claim, dealer and round wind (02, S-13). Nothing here says how it is found; `Judge` has the one such answer.
 use Rattle.std.specs.Prelude.{List, ◌⊎◌, ◌≡◌, ℕ, ◌<◌, ◌≤◌}
-use Rattle.hand_record.specs.declared.Answer.TheVariants.{Refused}
+use Rattle.hand_record.specs.Record.{Refused}
 use Rattle.hand_record.specs.Record.{hand_of, read_of, IsSound}
 use Rattle.reading.specs.declared.Reading.{Reading}
 use Rattle.claim.specs.declared.Judged.{Judged}

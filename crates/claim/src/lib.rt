@@ -1,25 +1,20 @@
 // Judge: a claim of another scorer, a reading and the winner's gain, held against the record of a hand (02, S-13).
 #![tactic(auto)]
 
-ghost use Rattle.std.specs.Prelude.{◌≡◌, ◌++◌, ◌+◌, ◌*◌, ◌-◌, ◌<◌, ◌≤◌, length, take, replicate};
+ghost use Rattle.std.specs.Prelude.{◌≡◌, ◌&&◌, ◌++◌, ◌+◌, ◌*◌, ◌-◌, ◌<◌, ◌≤◌, eqb, length, take, replicate};
 ghost use Rattle.bits.specs.Bits.{bits_of};
-ghost use Rattle.claim.specs.IsJudged.{refused_with, IsJudged};
+ghost use Rattle.claim.specs.IsJudged.{IsJudged};
 ghost use Rattle.claim.specs.Judge.{judged_of};
-ghost use Rattle.claim.specs.search.Claimed.{shape_in, codes_in, ascends as ascends_of, length_of, nothing as nothing_of, claimed_in, claimed_of};
+ghost use Rattle.claim.specs.search.Claimed.{shape_in, codes_in, ascends as ascends_of, length_of, gain_at, faulty_regular, reading_in, named_in, claimed_of};
+ghost use Rattle.claim.specs.search.Judge.{judged_in};
 ghost use Rattle.claim.specs.search.Verdict.{IsFormed, strip, regularly, reads, weighed_as, verdict_of};
 
 use hand::Hand;
-use hand_record::Answer;
 use reading::Reading;
+use refusals::Refusal;
 use units::Points;
 
-// The bytes of a regular claim with 0 to 4 melds.
-const LENGTHS: [usize; 5] = [7, 7, 6, 5, 4];
-
-// Its padding bits.
-const PADS: [usize; 5] = [0, 7, 6, 5, 4];
-
-// What Judge gives: a refusal and 0, or 0 and the verdict: 0 accepted, 1 to 4 the first condition that is false.
+// What Judge gives, flat as C is given it: a refusal and 0, or 0 and the verdict: 0 accepted, 1 to 4 the first condition that is false.
 #[repr(C)]
 #[derive(Clone, Copy)]
 pub struct Judged {
@@ -27,15 +22,36 @@ pub struct Judged {
     pub verdict: u8,
 }
 
-// What a claim names where it is sound: a reading and the winner's gain.
+// What a claim names: a reading and the winner's gain.
 #[derive(Clone, Copy)]
 struct Claimed {
-    sound: bool,
     reading: Reading,
     gain: Points,
 }
 
 // ---- the claim
+
+// How many bytes a claim of a shape has for a hand with m melds.
+pub fn length(shape: u8, m: u8) -> usize
+    requires { m ≤ 4 }
+    ensures { result ≡ length_of shape m }
+{
+    if shape == 0 {
+        return [7, 7, 6, 5, 4][m as usize];
+    }
+    3
+}
+
+// Where its gain begins: after shape, pair, codes and place, or after the shape alone.
+fn gain_at(shape: u8, m: u8) -> usize
+    requires { m ≤ 4 }
+    ensures { result ≡ gain_at shape m }
+{
+    if shape == 0 {
+        return 11 + 7 * (4 - m as usize);
+    }
+    2
+}
 
 // The 4 - m group codes, then 68 in each place that a meld takes.
 fn groups_in(s: &[u8], m: usize) -> [u8; 4]
@@ -47,136 +63,96 @@ fn groups_in(s: &[u8], m: usize) -> [u8; 4]
     out
 }
 
-// The first n codes are groups' and do not descend.
-fn ascend(g: [u8; 4], n: usize) -> bool
-    requires { n ≤ 4 }
-    ensures { result ≡ ascends_of 0 (take n g) }
+// The codes are groups' and do not descend.
+fn ascend(codes: &[u8]) -> bool
+    ensures { result ≡ ascends_of 0 codes.now }
 {
-    let mut low: u8 = 0;
-    let mut i: usize = 0;
-    while i < n {
-        let c = g[i];
+    let mut low = 0;
+    for &c in codes {
         if !((low <= c) & reading_steps::is_group(c)) {
             return false;
         }
         low = c;
-        i += 1;
     }
     true
 }
 
-// What a faulty claim names.
-fn nothing() -> Claimed
-    ensures { result ≡ nothing_of }
+// The reading that a claim names, which has the length of one of its shape.
+fn reading_in(s: &[u8], m: u8, shape: u8) -> Option<Reading>
+    requires { (m ≤ 4) × (length s.now ≡ length_of shape m) × (shape_in (bits_of s.now) ≡ shape) }
+    ensures { result ≡ named_in (eqb shape 0 && faulty_regular m (bits_of s.now)) (reading_in m (bits_of s.now)) }
 {
-    let r = reading::of_shape(1);
-    Claimed {
-        sound: false,
-        reading: r,
-        gain: Points(0),
+    if shape != 0 {
+        return Some(reading::of_shape(shape));
     }
-}
-
-// What a claim of shape 0 names, which has the length of one.
-fn regular_in(s: &[u8], m: usize) -> Claimed
-    requires { (m ≤ 4) × (length s.now ≡ length_of 0 m) × (shape_in (bits_of s.now) ≡ 0) }
-    ensures { result ≡ claimed_in m (length_of 0 m) (bits_of s.now) }
-{
-    let size = 4 - m;
-    let at = 8 + 7 * size;
+    let size = (4 - m) as usize;
     let pair = bits::field(s, 2, 6);
-    let groups = groups_in(s, m);
-    let place = bits::field(s, at, 3);
-    let gain = bits::long_field(s, at + 3, 17);
-    let padding = bits::field(s, at + 20, PADS[m]);
-    if (33 < pair) | !ascend(groups, size) | (size < place as usize) | (0 < padding) {
-        return nothing();
+    let groups = groups_in(s, m as usize);
+    let place = bits::field(s, 8 + 7 * size, 3);
+    let faulty = (33 < pair) | !ascend(&groups[..size]) | (size < place as usize);
+    if faulty {
+        return None;
     }
-    let r = Reading {
-        shape: 0,
+    Some(Reading {
+        shape,
         pair,
         groups,
         place,
-    };
-    Claimed {
-        sound: true,
-        reading: r,
-        gain: Points(gain),
-    }
-}
-
-// What a claim of shape 1 or 2 names, which has the length of one.
-fn shape_in(s: &[u8], m: usize, shape: u8) -> Claimed
-    requires { (length s.now ≡ 3) × (shape_in (bits_of s.now) ≡ shape) × (0 < shape) × (shape ≡ 3 → ⊥) }
-    ensures { result ≡ claimed_in m 3 (bits_of s.now) }
-{
-    let gain = bits::long_field(s, 2, 17);
-    let padding = bits::field(s, 19, 5);
-    if 0 < padding {
-        return nothing();
-    }
-    let r = reading::of_shape(shape);
-    Claimed {
-        sound: true,
-        reading: r,
-        gain: Points(gain),
-    }
+    })
 }
 
 // What a claim names for a hand with m melds.
-fn read_claim(s: &[u8], m: usize) -> Claimed
+fn read_claim(s: &[u8], m: u8) -> Option<Claimed>
     requires { m ≤ 4 }
     ensures { result ≡ claimed_of m s.now }
 {
     let n = s.len();
     if n < 3 {
-        return nothing();
+        return None;
     }
     let shape = bits::field(s, 0, 2);
-    if shape == 0 {
-        if n != LENGTHS[m] {
-            return nothing();
-        }
-        return regular_in(s, m);
+    let far = (n != length(shape, m)) | (shape == 3);
+    if far {
+        return None;
     }
-    if (n != 3) | (shape == 3) {
-        return nothing();
+    let reading = reading_in(s, m, shape)?;
+    let at = gain_at(shape, m);
+    let gain = bits::long_field(s, at, 17);
+    let padding = bits::field(s, at + 17, 8 * n - (at + 17));
+    let padded = 0 < padding;
+    if padded {
+        return None;
     }
-    shape_in(s, m, shape)
+    Some(Claimed {
+        reading,
+        gain: Points(gain),
+    })
 }
 
 // ---- the verdict
 
-// The first n groups use every tile of the tally exactly once.
-fn splits_as(t: [u8; 34], g: [u8; 4], n: usize) -> bool
-    requires { n ≤ 4 }
-    ensures { result ≡ strip t (take n g) }
+// The groups use every tile of the tally exactly once.
+fn splits_as(t: [u8; 34], groups: &[u8]) -> bool
+    ensures { result ≡ strip t groups.now }
 {
-    let mut u = t;
-    let mut i: usize = 0;
-    while i < n {
-        let c = g[i];
-        if !reading_steps::fits(u, c) {
-            return false;
+    match groups {
+        [] => reading_steps::is_empty(t),
+        [c, others @ ..] => {
+            reading_steps::fits(t, *c) && splits_as(reading_steps::without(t, *c), others)
         }
-        let w = reading_steps::without(u, c);
-        u = w;
-        i += 1;
     }
-    reading_steps::is_empty(u)
 }
 
-// The pair, n groups and a place are a regular reading.
-fn is_regular(t: [u8; 34], n: usize, win: u8, pair: u8, groups: [u8; 4], place: u8) -> bool
-    requires { (n ≤ 4) × (pair < 34) × (place ≤ 4) }
-    ensures { result ≡ regularly t n win pair groups place }
+// The pair, the first n groups and the place of a reading are a regular one of the tally.
+fn is_regular(t: [u8; 34], n: usize, win: u8, r: Reading) -> bool
+    requires { (n ≤ 4) × (r.pair < 34) × (r.place ≤ 4) }
+    ensures { result ≡ regularly t n win r.pair r.groups r.place }
 {
-    let k = pair as usize;
+    let k = r.pair as usize;
     if t[k] < 2 {
         return false;
     }
-    let u = reading_steps::without_pair(t, k);
-    splits_as(u, groups, n) & reading_steps::holds(pair, groups, place, win)
+    splits_as(reading_steps::without_pair(t, k), &r.groups[..n]) & reading_steps::holds(r, win)
 }
 
 // The reading is one of the tally with m melds, won by the kind win.
@@ -184,9 +160,8 @@ fn is_reading(t: [u8; 34], m: u8, win: u8, r: Reading) -> bool
     requires { (m ≤ 4) × (r.place ≤ 4) × (r.shape ≡ 0 → r.pair < 34) }
     ensures { result ≡ reads t m win r }
 {
-    let groups = r.groups;
     if r.shape == 0 {
-        return is_regular(t, (4 - m) as usize, win, r.pair, groups, r.place);
+        return is_regular(t, (4 - m) as usize, win, r);
     }
     if r.shape == 1 {
         return (m == 0) & reading_steps::is_seven_pairs(t);
@@ -194,6 +169,7 @@ fn is_reading(t: [u8; 34], m: u8, win: u8, r: Reading) -> bool
     (m == 0) & reading_steps::is_orphans(t)
 }
 
+// A verdict stays a number: `IsVerdict` of specs/ holds it, and C is given it.
 // The verdict on a reading of the tiles: whether it has a yaku, what it pays, what is claimed, and the most that a reading with a yaku pays.
 fn weighed(yaku: bool, paid: Points, gain: Points, most: Points) -> u8
     ensures { result ≡ weighed_as yaku paid.0 gain.0 most.0 }
@@ -230,14 +206,16 @@ fn verdict(h: Hand, dealer: u8, wind: u8, r: Reading, gain: Points) -> u8
 
 // ---- the call
 
-// A refusal, and all else zero.
-fn refused(n: u8) -> Judged
-    ensures { result ≡ refused_with n }
+// Judge's verdict on a claim for the record of a won hand, or the refusal.
+fn try_judge(s: &[u8], claim: &[u8], dealer: u8, wind: u8) -> Result<u8, Refusal>
+    ensures { judged_in result ≡ judged_of s.now claim.now dealer wind }
 {
-    Judged {
-        refusal: n,
-        verdict: 0,
+    if (3 < dealer) | (1 < wind) {
+        return Err(Refusal::Argument);
     }
+    let h = hand_record::read(s).hand()?;
+    let x = read_claim(claim, h.held.m).ok_or(Refusal::Claim)?;
+    Ok(verdict(h, dealer, wind, x.reading, x.gain))
 }
 
 // Judge: whether another scorer's claim for the record of a won hand is accepted, or which of the four conditions fails first; or why it is refused.
@@ -245,23 +223,9 @@ pub fn judge(s: &[u8], claim: &[u8], dealer: u8, wind: u8) -> Judged
     ensures judged { IsJudged s.now claim.now dealer wind result }
     ensures value { result ≡ judged_of s.now claim.now dealer wind }
 {
-    if (3 < dealer) | (1 < wind) {
-        return refused(8);
-    }
-    let r = hand_record::read(s);
-    let a = r.answer;
-    let Answer::Sound(f) = a else {
-        return refused(hand_record::refusal(a));
-    };
-    let held = r.held;
-    let h = Hand { fields: f, held };
-    let x = read_claim(claim, held.m as usize);
-    if !x.sound {
-        return refused(22);
-    }
-    let named = x.reading;
+    let judged = try_judge(s, claim, dealer, wind);
     Judged {
-        refusal: 0,
-        verdict: verdict(h, dealer, wind, named, x.gain),
+        refusal: refusals::number(judged),
+        verdict: judged.unwrap_or(0),
     }
 }

@@ -3,12 +3,14 @@
 
 ghost use Rattle.std.specs.Prelude.{◌≡◌, [], ◌∷◌, ◌≤◌, ◌<◌};
 ghost use Rattle.bits.specs.Bits.{pack, fill};
+ghost use Rattle.hand_record.specs.Record.{written_in};
 ghost use Rattle.claim.specs.search.Claimed.{widths};
 ghost use Rattle.claim_writer.specs.Writes.{Writes};
 ghost use Rattle.claim_writer.specs.Write.{written_of, buffer_of};
-ghost use Rattle.claim_writer.specs.search.Bytes.{in_order, ordered, is_nameable, regular_values, other_values, packed, length_for};
+ghost use Rattle.claim_writer.specs.search.Bytes.{in_order, ordered, is_nameable, regular_values, other_values, packed};
 
 use hand_record::Written;
+use refusals::Refusal;
 use units::Points;
 
 // A claim's gain and reading, and the m of its hand. Shape, pair, groups and place are as `Reading` has them.
@@ -22,9 +24,6 @@ pub struct Claim {
     pub place: u8,
     pub m: u8,
 }
-
-// The bytes of a regular claim with 0 to 4 melds.
-const LENGTHS: [usize; 5] = [7, 7, 6, 5, 4];
 
 // ---- whether bytes can name it
 
@@ -40,14 +39,16 @@ fn in_order(n: u8, i: u8, low: u8, code: u8) -> bool
 
 // The groups are n codes that do not descend, then 68.
 fn are_ordered(g: [u8; 4], n: u8) -> bool
-    requires { n ≤ 4 }
     ensures { result ≡ ordered n 0 g }
 {
-    let a = in_order(n, 0, 0, g[0]);
-    let b = in_order(n, 1, g[0], g[1]);
-    let c = in_order(n, 2, g[1], g[2]);
-    let d = in_order(n, 3, g[2], g[3]);
-    a & (b & (c & d))
+    let mut low = 0;
+    for (i, &code) in g.iter().enumerate() {
+        if !in_order(n, i as u8, low, code) {
+            return false;
+        }
+        low = code;
+    }
+    true
 }
 
 // Some bytes name the reading and the gain for m melds.
@@ -66,17 +67,6 @@ fn is_nameable(c: Claim) -> bool
 }
 
 // ---- its bytes
-
-// How many bytes the claim has.
-fn length(c: Claim) -> usize
-    requires { c.m ≤ 4 }
-    ensures { result ≡ length_for c }
-{
-    if c.shape == 0 {
-        return LENGTHS[c.m as usize];
-    }
-    3
-}
 
 // The bits of a regular claim, with zeros after them.
 fn pack_regular(c: Claim) -> [u8; 56]
@@ -134,27 +124,29 @@ fn pack_claim(c: Claim) -> [u8; 56]
 
 // ---- the call
 
+// Stores the claim at the start of the buffer and gives its length; refused where no bytes name it or the buffer is short, and then no byte is stored.
+fn try_write(c: Claim, buf: &mut [u8]) -> Result<usize, Refusal>
+    ensures value { written_in result ≡ written_of c buf.old }
+    ensures buf_after { buf.new ≡ buffer_of c buf.old }
+{
+    if !is_nameable(c) {
+        return Err(Refusal::Claim);
+    }
+    let n = claim::length(c.shape, c.m);
+    if buf.len() < n {
+        return Err(Refusal::Buffer);
+    }
+    let b = pack_claim(c);
+    let ew = [8u8; 7];
+    bits::unpack_into(&ew[..n], &b, 0, buf);
+    Ok(n)
+}
+
 // Write claim: stores the claim at the start of the buffer and gives its length; 22 or 13 and no byte stored where it is refused.
 pub fn write(c: Claim, buf: &mut [u8]) -> Written
     ensures writes { Writes c buf.old result buf.new }
     ensures value { result ≡ written_of c buf.old }
     ensures buf_after { buf.new ≡ buffer_of c buf.old }
 {
-    if !is_nameable(c) {
-        return Written {
-            refusal: 22,
-            len: 0,
-        };
-    }
-    let n = length(c);
-    if buf.len() < n {
-        return Written {
-            refusal: 13,
-            len: 0,
-        };
-    }
-    let b = pack_claim(c);
-    let ew = [8u8; 7];
-    bits::unpack_into(&ew[..n], &b, 0, buf);
-    Written { refusal: 0, len: n }
+    Written::from(try_write(c, buf))
 }

@@ -16,14 +16,12 @@ const WINS: [u8; 39] = [
 
 // The position after a hand: seat 1's riichi, refused or not, and the three wins.
 fn hand_of(g: Position) -> Position {
-    let a = position_bookings::riichi(g, 1);
-    let h = a.position;
-    let records = WINS;
-    let b = position_multi_ron::multi_ron(h, 3, &records);
-    b.position
+    let h = position_bookings::riichi(g, 1).unwrap_or(g);
+    position_multi_ron::multi_ron(h, 3, &WINS).unwrap_or(h)
 }
 
 // Prints the first n bytes.
+// stays with a length: text::line says how many bytes it wrote
 fn put<R: Print>(rt: &R, line: &[u8], n: usize) -> io::Result<()> {
     if n <= line.len() {
         rt.write_all(&line[..n])?;
@@ -32,21 +30,20 @@ fn put<R: Print>(rt: &R, line: &[u8], n: usize) -> io::Result<()> {
 }
 
 // Prints a line of `tally`.
+// stays numbers: what the program tally prints
 fn show<R: Print>(rt: &R, g: Position, entry: u32, letter: u8, refusal: u8) -> io::Result<()> {
     let mut line = [0u8; 96];
-    let s = g.scores;
-    let n = text::line(&mut line, entry, letter, refusal, s, g.sticks);
+    let n = text::line(&mut line, entry, letter, refusal, g.scores, g.sticks);
     put(rt, &line, n)
 }
 
 fn main(rt: HostRuntime) -> io::Result<()> {
     let mut g = position_bookings::fresh_position();
-    for k in 0..200usize {
-        let h = hand_of(g);
-        g = h;
+    // stays a range: as many hands as a game has
+    for _ in 0..200 {
+        g = hand_of(g);
     }
     show(&rt, g, 400, b'M', 0)?;
     let after = position_bookings::draw(g, 0);
-    let h = after.position;
-    show(&rt, h, 401, b'D', after.refusal)
+    show(&rt, after.unwrap_or(g), 401, b'D', refusals::number(after))
 }

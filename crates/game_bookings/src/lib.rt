@@ -1,33 +1,28 @@
 // What is booked in a game (01, The game; 02, S-10), by value: the six bookings, and a correction by each result. Any value of the game and any bytes may
-// be given.
+// be given. A booking gives the game after it, or the refusal.
 #![tactic(auto)]
 
-ghost use Rattle.std.specs.Prelude.{◌≡◌, cond, ltb};
+ghost use Rattle.std.specs.Prelude.{◌≡◌};
+ghost use Rattle.std.specs.Result.{result_unwrap_or};
+ghost use Rattle.refusals.specs.Refusal.{refusal_in};
 ghost use Rattle.position.specs.Booking as Booking;
-ghost use Rattle.game.specs.Game.{booking, correction, fresh_game, game_out_of_form};
+ghost use Rattle.position.specs.Ledger.{effect_of};
+ghost use Rattle.game.specs.Game.{booking as booked, correction, fresh_game, game_out_of_form};
 ghost use Rattle.game.specs.Runs.{Books};
-ghost use Rattle.game_bookings.specs.search.Books.{correction_refusal, checked_in};
+ghost use Rattle.game_bookings.specs.search.Books.{checked_in, Makes};
 
 use game::Game;
 use position::Position;
-use position_bookings::Moved;
-
-// What an entry gives: 0 and the game after it, or the refusal and the game as it was.
-#[derive(Clone, Copy)]
-pub struct Booked {
-    pub refusal: u8,
-    pub game: Game,
-}
+use refusals::Refusal;
 
 // A game with no booking yet: a fresh position, and nothing to supersede.
 pub fn fresh_game() -> Game
     ensures { result ≡ fresh_game }
 {
     let now = position_bookings::fresh_position();
-    let earlier = now;
     Game {
         now,
-        earlier,
+        earlier: now,
         correctable: 0,
     }
 }
@@ -36,9 +31,8 @@ pub fn fresh_game() -> Game
 fn out_of_form(g: Game) -> bool
     ensures { result ≡ game_out_of_form g }
 {
-    let now = g.now;
-    let earlier = g.earlier;
-    position_form::out_of_form(now) | ((0 < g.correctable) & position_form::out_of_form(earlier))
+    position_form::out_of_form(g.now)
+        | ((0 < g.correctable) & position_form::out_of_form(g.earlier))
 }
 
 // The position in which a booking is made: the one that stands. Where the earlier one is kept and out of form it is that one, in which every booking meets
@@ -46,140 +40,136 @@ fn out_of_form(g: Game) -> bool
 fn checked(g: Game) -> Position
     ensures { result ≡ checked_in g }
 {
-    let earlier = g.earlier;
-    if (0 < g.correctable) & position_form::out_of_form(earlier) {
-        return earlier;
+    if (0 < g.correctable) & position_form::out_of_form(g.earlier) {
+        g.earlier
+    } else {
+        g.now
     }
-    let now = g.now;
-    now
 }
 
-// The game after a booking in a position: as it was, or with that booking's position, what is then the earlier one, and whether it can be superseded.
-fn book(g: Game, m: Moved, earlier: Position, correctable: u32) -> Booked
-    ensures { result ≡ record { refusal = m.refusal; game = cond (ltb 0 m.refusal) g (record { now = m.position; earlier = earlier; correctable = correctable }) } }
+// The game after a booking, by how it is made in a position: the position after it stands, the one before it is the earlier one, and a booking that
+// finishes a hand can be superseded. Refused as it is in the position; with 9 too where the earlier position is kept and out of form.
+fn book<F: FnOnce(Position) -> Result<Position, Refusal>>(
+    g: Game,
+    finishes: bool,
+    booking: F,
+) -> Result<Game, Refusal>
+    requires { F.IsAlwaysCallable booking }
+    ensures { (b : Booking.Booking) → (effect_of g.now b).finishes ≡ finishes → Makes (F.post booking (checked_in g)) (checked_in g) b → Books g (booked b) (refusal_in result) (result_unwrap_or result g) }
 {
-    if 0 < m.refusal {
-        return Booked {
-            refusal: m.refusal,
-            game: g,
-        };
-    }
-    let now = m.position;
-    let game = Game {
+    let now = booking(checked(g))?;
+    Ok(Game {
         now,
-        earlier,
-        correctable,
-    };
-    Booked {
-        refusal: m.refusal,
-        game,
+        earlier: g.now,
+        correctable: u32::from(finishes),
+    })
+}
+
+// The game after a result, by how it is booked in a position; it can be superseded.
+pub fn finish<F: FnOnce(Position) -> Result<Position, Refusal>>(
+    g: Game,
+    booking: F,
+) -> Result<Game, Refusal>
+    requires { F.IsAlwaysCallable booking }
+    ensures { (r : Booking.Result) → Makes (F.post booking (checked_in g)) (checked_in g) (Booking.result r) → Books g (booked (Booking.result r)) (refusal_in result) (result_unwrap_or result g) }
+{
+    book(g, true, booking)
+}
+
+// The correction of the last finished booking by a result, by how that is booked in a position: it is booked in the earlier one. Refused with 9, a game out
+// of form; 20, none to supersede; then as that result is.
+pub fn correct<F: FnOnce(Position) -> Result<Position, Refusal>>(
+    g: Game,
+    booking: F,
+) -> Result<Game, Refusal>
+    requires { F.IsAlwaysCallable booking }
+    ensures { (r : Booking.Result) → Makes (F.post booking g.earlier) g.earlier (Booking.result r) → Books g (correction r) (refusal_in result) (result_unwrap_or result g) }
+{
+    if out_of_form(g) {
+        return Err(Refusal::NotOpen);
     }
+    if g.correctable == 0 {
+        return Err(Refusal::Supersede);
+    }
+    let now = booking(g.earlier)?;
+    Ok(Game {
+        now,
+        earlier: g.earlier,
+        correctable: 1,
+    })
 }
 
 // Riichi of a seat. Refused with 8, 9, 10, 21 as `position_bookings::riichi` has it; 9 too where the earlier position is kept and out of form, as every
 // booking is.
-pub fn riichi(g: Game, seat: u8) -> Booked
-    ensures { Books g (booking (Booking.riichi seat)) result.refusal result.game }
+pub fn riichi(g: Game, seat: u8) -> Result<Game, Refusal>
+    ensures { Books g (booked (Booking.riichi seat)) (refusal_in result) (result_unwrap_or result g) }
 {
-    let m = position_bookings::riichi(checked(g), seat);
-    let now = g.now;
-    book(g, m, now, 0)
+    book(g, false, |p| position_bookings::riichi(p, seat))
 }
 
 // The feeder of a holder's yaku, named for this hand.
-pub fn pao(g: Game, holder: u8, feeder: u8, yaku: u8) -> Booked
-    ensures { Books g (booking (Booking.pao holder feeder yaku)) result.refusal result.game }
+pub fn pao(g: Game, holder: u8, feeder: u8, yaku: u8) -> Result<Game, Refusal>
+    ensures { Books g (booked (Booking.pao holder feeder yaku)) (refusal_in result) (result_unwrap_or result g) }
 {
-    let m = position_bookings::pao(checked(g), holder, feeder, yaku);
-    let now = g.now;
-    book(g, m, now, 0)
+    book(
+        g,
+        false,
+        |p| position_bookings::pao(p, holder, feeder, yaku),
+    )
 }
 
 // Win by a record; it can be superseded.
-pub fn win(g: Game, s: &[u8]) -> Booked
-    ensures { Books g (booking (Booking.result (Booking.win s.now))) result.refusal result.game }
+pub fn win(g: Game, s: &[u8]) -> Result<Game, Refusal>
+    ensures { Books g (booked (Booking.result (Booking.win s.now))) (refusal_in result) (result_unwrap_or result g) }
 {
-    let m = position_win::win(checked(g), s);
-    let now = g.now;
-    book(g, m, now, 1)
+    finish(g, |p| position_win::win(p, s))
 }
 
 // Draw, by four bits of who is ready; it can be superseded.
-pub fn draw(g: Game, bits: u8) -> Booked
-    ensures { Books g (booking (Booking.result (Booking.draw bits))) result.refusal result.game }
+pub fn draw(g: Game, bits: u8) -> Result<Game, Refusal>
+    ensures { Books g (booked (Booking.result (Booking.draw bits))) (refusal_in result) (result_unwrap_or result g) }
 {
-    let m = position_bookings::draw(checked(g), bits);
-    let now = g.now;
-    book(g, m, now, 1)
+    finish(g, |p| position_bookings::draw(p, bits))
 }
 
 // Chombo of a seat; it can be superseded.
-pub fn chombo(g: Game, seat: u8) -> Booked
-    ensures { Books g (booking (Booking.result (Booking.chombo seat))) result.refusal result.game }
+pub fn chombo(g: Game, seat: u8) -> Result<Game, Refusal>
+    ensures { Books g (booked (Booking.result (Booking.chombo seat))) (refusal_in result) (result_unwrap_or result g) }
 {
-    let m = position_bookings::chombo(checked(g), seat);
-    let now = g.now;
-    book(g, m, now, 1)
+    finish(g, |p| position_bookings::chombo(p, seat))
 }
 
 // Multiple ron: the number of records, and the records end to end; they can be superseded, as one booking.
-pub fn multi_ron(g: Game, number: u8, s: &[u8]) -> Booked
-    ensures { Books g (booking (Booking.result (Booking.multi_ron number s.now))) result.refusal result.game }
+pub fn multi_ron(g: Game, number: u8, s: &[u8]) -> Result<Game, Refusal>
+    ensures { Books g (booked (Booking.result (Booking.multi_ron number s.now))) (refusal_in result) (result_unwrap_or result g) }
 {
-    let m = position_multi_ron::multi_ron(checked(g), number, s);
-    let now = g.now;
-    book(g, m, now, 1)
-}
-
-// The correction of the last finished booking by a result that was booked in the earlier position. Refused with 9, a game out of form; 20, none to supersede;
-// then as that result is.
-fn correct(g: Game, m: Moved) -> Booked
-    ensures { result ≡ record { refusal = correction_refusal g m.refusal; game = cond (ltb 0 (correction_refusal g m.refusal)) g (record { now = m.position; earlier = g.earlier; correctable = 1 }) } }
-{
-    if out_of_form(g) {
-        return Booked {
-            refusal: 9,
-            game: g,
-        };
-    }
-    if g.correctable == 0 {
-        return Booked {
-            refusal: 20,
-            game: g,
-        };
-    }
-    let earlier = g.earlier;
-    book(g, m, earlier, 1)
+    finish(g, |p| position_multi_ron::multi_ron(p, number, s))
 }
 
 // The correction of the last finished booking by a win.
-pub fn correct_win(g: Game, s: &[u8]) -> Booked
-    ensures { Books g (correction (Booking.win s.now)) result.refusal result.game }
+pub fn correct_win(g: Game, s: &[u8]) -> Result<Game, Refusal>
+    ensures { Books g (correction (Booking.win s.now)) (refusal_in result) (result_unwrap_or result g) }
 {
-    let earlier = g.earlier;
-    correct(g, position_win::win(earlier, s))
+    correct(g, |p| position_win::win(p, s))
 }
 
 // The same by a draw.
-pub fn correct_draw(g: Game, bits: u8) -> Booked
-    ensures { Books g (correction (Booking.draw bits)) result.refusal result.game }
+pub fn correct_draw(g: Game, bits: u8) -> Result<Game, Refusal>
+    ensures { Books g (correction (Booking.draw bits)) (refusal_in result) (result_unwrap_or result g) }
 {
-    let earlier = g.earlier;
-    correct(g, position_bookings::draw(earlier, bits))
+    correct(g, |p| position_bookings::draw(p, bits))
 }
 
 // The same by a chombo.
-pub fn correct_chombo(g: Game, seat: u8) -> Booked
-    ensures { Books g (correction (Booking.chombo seat)) result.refusal result.game }
+pub fn correct_chombo(g: Game, seat: u8) -> Result<Game, Refusal>
+    ensures { Books g (correction (Booking.chombo seat)) (refusal_in result) (result_unwrap_or result g) }
 {
-    let earlier = g.earlier;
-    correct(g, position_bookings::chombo(earlier, seat))
+    correct(g, |p| position_bookings::chombo(p, seat))
 }
 
 // The same by a multiple ron.
-pub fn correct_multi_ron(g: Game, number: u8, s: &[u8]) -> Booked
-    ensures { Books g (correction (Booking.multi_ron number s.now)) result.refusal result.game }
+pub fn correct_multi_ron(g: Game, number: u8, s: &[u8]) -> Result<Game, Refusal>
+    ensures { Books g (correction (Booking.multi_ron number s.now)) (refusal_in result) (result_unwrap_or result g) }
 {
-    let earlier = g.earlier;
-    correct(g, position_multi_ron::multi_ron(earlier, number, s))
+    correct(g, |p| position_multi_ron::multi_ron(p, number, s))
 }

@@ -1,7 +1,7 @@
 // The hand: its fields, the tiles held, the tallies of its tiles (01, Tiles and the hand record).
 #![tactic(auto)]
 
-ghost use Rattle.std.specs.Prelude.{◌≡◌, cond, ℕ, ◌+◌, ◌-◌, ◌*◌, ◌/◌, ◌%◌, ◌≤◌, ◌<◌, eqb, get_or};
+ghost use Rattle.std.specs.Prelude.{◌≡◌, ℕ, ◌+◌, ◌-◌, ◌*◌, ◌/◌, ◌%◌, ◌≤◌, ◌<◌, eqb, get_or, length, take};
 ghost use Rattle.tiles.specs.Below.{count_below};
 ghost use Rattle.tiles.specs.Tally.{tally_of};
 ghost use Rattle.hand.specs.Held.{is_closed, meld_holds, in_melds, in_others, in_held};
@@ -9,7 +9,7 @@ ghost use Rattle.hand.specs.Hand.{concealed_tally, hand_tally};
 
 // The numbers of a hand, in the record's order: how 0 tsumo, 1 ron.
 #[repr(C)]
-#[derive(Clone, Copy)]
+#[derive(Clone, Copy, Default)]
 pub struct Fields {
     pub how: u8,
     pub winner: u8,
@@ -22,7 +22,7 @@ pub struct Fields {
 
 // The tiles held: m melds, each 64 times its kind plus its tile, and 13 - 3m concealed tiles beside the winning one. Unused places are 0.
 #[repr(C)]
-#[derive(Clone, Copy)]
+#[derive(Clone, Copy, Default)]
 pub struct Held {
     pub m: u8,
     pub melds: [u8; 4],
@@ -31,10 +31,26 @@ pub struct Held {
 
 // A finished hand.
 #[repr(C)]
-#[derive(Clone, Copy)]
+#[derive(Clone, Copy, Default)]
 pub struct Hand {
     pub fields: Fields,
     pub held: Held,
+}
+
+impl Held {
+    // The melds: the places that are used.
+    pub fn melds(&self) -> &[u8]
+        ensures { result.now ≡ take self.now.m self.now.melds }
+    {
+        &self.melds[..usize::from(self.m).min(4)]
+    }
+
+    // The concealed tiles beside the winning one: the places that are used.
+    pub fn concealed(&self) -> &[u8]
+        ensures { result.now ≡ take (13 - 3 * self.now.m) self.now.concealed }
+    {
+        &self.concealed[..others(self.m)]
+    }
 }
 
 // How many concealed tiles there are beside the winning one.
@@ -48,26 +64,20 @@ pub fn others(m: u8) -> usize
 pub fn is_closed(x: Held) -> bool
     ensures { result ≡ is_closed x }
 {
-    let m = x.m;
-    let d = x.melds;
-    ((m <= 0) | (d[0] / 64 == 3))
-        & ((m <= 1) | (d[1] / 64 == 3))
-        & ((m <= 2) | (d[2] / 64 == 3))
-        & ((m <= 3) | (d[3] / 64 == 3))
+    x.melds().iter().all(|&b| b / 64 == 3)
 }
 
 // ---- tallies
 
-// The tally of the first n tiles.
-fn tally_of(c: [u8; 13], n: usize) -> [u8; 34]
-    requires { n ≤ 13 }
-    ensures { result ≡ tally_of (λ k. count_below n (λ i. eqb (get_or c i 0) k)) }
+// The tally of at most 13 tiles.
+fn tally_of(tiles: &[u8]) -> [u8; 34]
+    requires { length tiles.now ≤ 13 }
+    ensures { result ≡ tally_of (λ k. count_below (length tiles.now) (λ i. eqb (get_or tiles.now i 0) k)) }
 {
     let mut t = [0u8; 34];
-    for i in 0..n {
-        let k = c[i] as usize;
+    for &k in tiles {
         if k < 34 {
-            t[k] += 1;
+            t[usize::from(k)] += 1;
         }
     }
     t
@@ -77,8 +87,7 @@ fn tally_of(c: [u8; 13], n: usize) -> [u8; 34]
 pub fn others_tally(x: Held) -> [u8; 34]
     ensures { result ≡ tally_of (in_others x) }
 {
-    let c = x.concealed;
-    tally_of(c, others(x.m))
+    tally_of(x.concealed())
 }
 
 // A tally with the tiles of a meld added.
@@ -98,25 +107,17 @@ fn add_meld(t: [u8; 34], b: u8) -> [u8; 34]
     }
 }
 
-// The same, where the meld is one of the m.
-fn add_meld_if(t: [u8; 34], used: bool, b: u8) -> [u8; 34]
-    requires { (k : ℕ) → get_or t k 0 ≤ 240 }
-    ensures { (k : ℕ) → k < 34 → get_or result k 0 ≡ get_or t k 0 + cond used (meld_holds b k) 0 }
-{
-    if used { add_meld(t, b) } else { t }
-}
-
-// A tally with the tiles of all m melds added, kans whole.
+// A tally with the tiles of all melds added, kans whole.
 fn add_melds(t: [u8; 34], x: Held) -> [u8; 34]
     requires { (k : ℕ) → get_or t k 0 ≤ 224 }
     ensures { (k : ℕ) → k < 34 → get_or result k 0 ≡ get_or t k 0 + in_melds x k }
 {
-    let m = x.m;
-    let d = x.melds;
-    let t1 = add_meld_if(t, 0 < m, d[0]);
-    let t2 = add_meld_if(t1, 1 < m, d[1]);
-    let t3 = add_meld_if(t2, 2 < m, d[2]);
-    add_meld_if(t3, 3 < m, d[3])
+    let mut sum = t;
+    for &b in x.melds() {
+        let more = add_meld(sum, b);
+        sum = more;
+    }
+    sum
 }
 
 // The tally of melds and concealed tiles together.

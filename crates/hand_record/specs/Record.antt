@@ -1,5 +1,6 @@
 -- The hand record: its bits, Read and Write (01, Tiles and the hand record).
-use Rattle.std.specs.Prelude.{◌≡◌, Bool, false, ◌||◌, cond, not, List, [], ◌∷◌, ◌++◌, ℕ, ◌+◌, ◌*◌, ◌-◌, ltb, eqb, length, get_or, take, drop, replicate}
+use Rattle.std.specs.Prelude.{◌≡◌, Bool, false, ◌||◌, cond, not, Result, Ok, Err, List, [], ◌∷◌, ◌++◌, ℕ, ◌+◌, ◌*◌, ◌-◌, ltb, eqb, length, get_or, take, drop, replicate}
+use Rattle.std.specs.Result.{result_unwrap_or}
 use Rattle.bits.specs.Bits.{unpack, eights, EachBelow, bits_of, pack_bytes, fill}
 use Rattle.hand.specs.declared.Fields.{Fields}
 use Rattle.hand.specs.declared.Held.{Held}
@@ -7,9 +8,9 @@ use Rattle.hand.specs.declared.Hand.{Hand}
 use Rattle.hand.specs.Held.{descends, over_four}
 use Rattle.hand.specs.Refusals.{wrong_fields, in_record, wrong_situation, refusal_of, unwritable}
 use Rattle.hand_record.specs.declared.Head.{Head}
-use Rattle.hand_record.specs.declared.Answer.{Answer}
-use Rattle.hand_record.specs.declared.Answer.TheVariants.{Sound, Refused}
-use Rattle.hand_record.specs.declared.HandRead.{HandRead}
+use Rattle.refusals.specs.declared.Refusal.{Refusal}
+use Rattle.refusals.specs.Refusal.{number, refusal_in as number_in}
+use Rattle.hand_record.specs.declared.HandRead.{HandRead as HandReadInCode}
 use Rattle.hand_record.specs.declared.ReadHand.{ReadHand}
 use Rattle.hand_record.specs.declared.Written.{Written}
 
@@ -73,6 +74,25 @@ unfoldable pub padding_of : ℕ → List ℕ → ℕ
 padding_of m bits = get_or (unpack (widths m) bits) (8 + m + (13 - 3 * m)) 0
 
 -- ---- Read
+
+-- what Read answers: the fields of a sound record, or the number of the refusal
+pub data Answer : Type 0 where
+  Sound : Fields → Answer
+  Refused : ℕ → Answer
+
+-- what it gives: the tiles held stand beside the answer
+pub record HandRead : Type 0 where
+  pub answer : Answer
+  pub held : Held
+
+-- "Where an answer is an enum, a definition gives this paper's number and values for each of its cases": what the code's answer says
+abbrev pub answer_of : Result Fields Refusal → Answer
+answer_of (Ok f) = Sound f
+answer_of (Err r) = Refused (number r)
+
+-- and what the code's Read gives
+abbrev pub numbered : HandReadInCode → HandRead
+numbered r = record { answer = answer_of r.answer; held = r.held }
 
 -- no meld and no tile: "an all-zero hand"
 abbrev pub none_held : Held
@@ -174,6 +194,10 @@ write_refusal h buf = cond (ltb 0 (unwritable h)) (unwritable h) (cond (ltb (len
 unfoldable pub written_of : Hand → List ℕ → Written
 written_of h buf =
     cond (ltb 0 (write_refusal h buf)) (record { refusal = write_refusal h buf; len = 0 }) (record { refusal = 0; len = length_of h.held.m })
+
+-- what C is given of a writer's answer: the refusal's number and 0, or 0 and the length
+abbrev pub written_in : Result ℕ Refusal → Written
+written_in w = record { refusal = number_in w; len = result_unwrap_or w 0 }
 
 -- "bytes past the record stay"; "a refused write changes no byte of the buffer"
 unfoldable pub buffer_of : Hand → List ℕ → List ℕ

@@ -1,13 +1,15 @@
 // The hand record, Read, and how long the record is that bytes start with (01, Tiles and the hand record). It takes all input.
 #![tactic(auto)]
 
-ghost use Rattle.std.specs.Prelude.{◌≡◌, ◌+◌, ◌*◌, ◌-◌, ◌≤◌, length};
+ghost use Rattle.std.specs.Prelude.{◌≡◌, ◌+◌, ◌*◌, ◌-◌, ◌≤◌, ◌<◌, length, IfSome, IfOk, unwrap_or};
 ghost use Rattle.bits.specs.Bits.{bits_of};
 ghost use Rattle.hand_record.specs.search.Offsets.{held_in};
-ghost use Rattle.hand_record.specs.Record.{length_of, head_of, refused_with, answer_in, read_of, count_in, refusal_in, fields_of, read_hand_of};
+ghost use Rattle.hand_record.specs.Record.{length_of, head_of, refused_with, answer_in, read_of, count_in, refusal_in, hand_of, read_hand_of, numbered, written_in};
+ghost use Rattle.refusals.specs.Refusal.{number as number_of, refusal_in as number_in};
 ghost use Rattle.hand_record.specs.Lengths.{record_length};
 
 use hand::{Fields, Hand, Held};
+use refusals::Refusal;
 
 // The widths of the head's fields.
 pub const HEAD: [u8; 8] = [1, 2, 2, 2, 3, 6, 6, 3];
@@ -25,18 +27,25 @@ struct Head {
     m: u8,
 }
 
-// The fields that read, or the refusal.
-#[derive(Clone, Copy)]
-pub enum Answer {
-    Sound(Fields),
-    Refused(u8),
-}
-
-// What Read gives: the tiles held stand beside the answer, all zero where it is refused.
+// What Read gives: the fields that read, or the refusal; the tiles held stand beside them, all zero where it is refused.
 #[derive(Clone, Copy)]
 pub struct HandRead {
-    pub answer: Answer,
+    pub answer: Result<Fields, Refusal>,
     pub held: Held,
+}
+
+impl HandRead {
+    // The hand that reads, or the refusal.
+    pub fn hand(self) -> Result<Hand, Refusal>
+        ensures refusal { number_in result ≡ refusal_in (numbered self).answer }
+        ensures hand { IfOk result (λ h. h ≡ hand_of (numbered self)) }
+    {
+        let fields = self.answer?;
+        Ok(Hand {
+            fields,
+            held: self.held,
+        })
+    }
 }
 
 // What Read gives, flat: 0 and the hand, or the refusal and an all-zero hand.
@@ -53,6 +62,19 @@ pub struct ReadHand {
 pub struct Written {
     pub refusal: u8,
     pub len: usize,
+}
+
+impl From<Result<usize, Refusal>> for Written {
+    ghost from_gives = { λ given w. w ≡ written_in given };
+
+    fn from(given: Result<usize, Refusal>) -> Written
+        ensures { result ≡ written_in given }
+    {
+        Written {
+            refusal: refusals::number(given),
+            len: given.unwrap_or(0),
+        }
+    }
 }
 
 // The head of a record: its first 25 bits.
@@ -91,99 +113,63 @@ pub fn held_in(s: &[u8], at: usize, m: u8) -> Held
 }
 
 // A refused record: the refusal, and zeros.
-fn refused(n: u8) -> HandRead
-    ensures { result ≡ refused_with n }
+fn refused(r: Refusal) -> HandRead
+    ensures { numbered result ≡ refused_with (number_of r) }
 {
-    let held = Held {
-        m: 0,
-        melds: [0u8; 4],
-        concealed: [0u8; 13],
-    };
     HandRead {
-        answer: Answer::Refused(n),
-        held,
+        answer: Err(r),
+        held: Held::default(),
     }
 }
 
 // The hand of m melds and the fields f that a record of its length is, or why it is refused.
 fn hand_in(s: &[u8], f: Fields, m: u8) -> HandRead
     requires { (m ≤ 4) × (length s.now ≡ length_of m) × (f ≡ (head_of (bits_of s.now)).fields) }
-    ensures { result ≡ answer_in m (bits_of s.now) }
+    ensures { numbered result ≡ answer_in m (bits_of s.now) }
 {
     let held = held_in(s, 25, m);
     let padding = bits::last(s, PADS[m as usize]);
     let h = Hand { fields: f, held };
-    let j = hand_refusals::refusal(h, padding as u32);
-    if 0 < j {
-        return refused(j);
-    }
-    HandRead {
-        answer: Answer::Sound(f),
-        held,
+    match hand_refusals::check(h, u32::from(padding)) {
+        Ok(()) => HandRead {
+            answer: Ok(f),
+            held,
+        },
+        Err(r) => refused(r),
     }
 }
 
 // Read: the fields of a sound record beside its tiles held, or the first refusal of 1 to 5 beside zeros.
 pub fn read(s: &[u8]) -> HandRead
-    ensures { result ≡ read_of s.now }
+    ensures { numbered result ≡ read_of s.now }
 {
     let n = s.len();
     let short = n < 4;
     if short {
-        return refused(1);
+        return refused(Refusal::Length);
     }
     let h = header(s);
     let m = h.m;
     if 4 < m {
-        return refused(1);
+        return refused(Refusal::Length);
     }
     if n != LENGTHS[m as usize] {
-        return refused(1);
+        return refused(Refusal::Length);
     }
     let f = h.fields;
     hand_in(s, f, m)
 }
 
-// The refusal of an answer, 0 for a sound record.
-pub fn refusal(a: Answer) -> u8
-    ensures { result ≡ refusal_in a }
-{
-    match a {
-        Answer::Sound(_) => 0,
-        Answer::Refused(n) => n,
-    }
-}
-
-// The fields of an answer, zero where the record is refused.
-fn fields_of(a: Answer) -> Fields
-    ensures { result ≡ fields_of a }
-{
-    match a {
-        Answer::Sound(f) => f,
-        Answer::Refused(_) => Fields {
-            how: 0,
-            winner: 0,
-            discarder: 0,
-            riichi: 0,
-            situation: 0,
-            indicator: 0,
-            winning: 0,
-        },
-    }
-}
-
-// Read, with its answer taken apart: 0 and the hand, or the refusal and an all-zero hand.
+// Read, flat: 0 and the hand, or the refusal and an all-zero hand.
 pub fn read_hand(s: &[u8]) -> ReadHand
     ensures { result ≡ read_hand_of s.now }
 {
-    let r = read(s);
-    let a = r.answer;
-    let held = r.held;
-    let fields = fields_of(a);
-    let hand = Hand { fields, held };
-    ReadHand {
-        refusal: refusal(a),
-        hand,
+    match read(s).hand() {
+        Ok(hand) => ReadHand { refusal: 0, hand },
+        Err(r) => ReadHand {
+            refusal: u8::from(r),
+            hand: Hand::default(),
+        },
     }
 }
 
@@ -197,20 +183,21 @@ fn meld_count(s: &[u8]) -> u8
     bits::field(s, 22, 3)
 }
 
-// How many bytes the record has that bytes start with, 0 where m is over 4 or bytes are missing.
-pub fn record_length(s: &[u8]) -> usize
-    ensures { result ≡ record_length s.now }
+// How many bytes the record has that bytes start with; none where m is over 4 or bytes are missing.
+pub fn record_length(s: &[u8]) -> Option<usize>
+    ensures value { unwrap_or result 0 ≡ record_length s.now }
+    ensures some { IfSome result (λ n. 0 < n) }
 {
     if s.len() < 4 {
-        return 0;
+        return None;
     }
     let m = meld_count(s) as usize;
     if 4 < m {
-        return 0;
+        return None;
     }
     let n = LENGTHS[m];
     if s.len() < n {
-        return 0;
+        return None;
     }
-    n
+    Some(n)
 }

@@ -7,38 +7,19 @@ ghost use Rattle.tiles.specs.Below.{all_below, any_below};
 ghost use Rattle.tiles.specs.Kinds.{is_run_start};
 ghost use Rattle.tiles.specs.Tally.{tally_of};
 ghost use Rattle.hand.specs.Held.{tile_over33, chi_without_run, wrong_held, descends as descends_of, over_four, unused_not_zero, has_kan};
-ghost use Rattle.hand.specs.Refusals.{wrong_discarder, wrong_fields, in_record, wrong_by, refusal_of, too_large, unwritable as unwritable_of};
+ghost use Rattle.hand.specs.Refusals.{wrong_discarder, wrong_fields, in_record, wrong_by, refusal_of, too_large, unwritable};
+ghost use Rattle.refusals.specs.Refusal.{refusal_in};
 
 use hand::{Fields, Hand, Held};
+use refusals::Refusal;
 
 // ---- the tiles held: 2, 3 and 4
-
-// A tile over 33 is among the first n.
-fn over_33(c: [u8; 13], n: usize) -> bool
-    requires { n ≤ 13 }
-    ensures { result ≡ any_below n (λ i. ltb 33 (get_or c i 0)) }
-{
-    for i in 0..n {
-        let over = 33 < c[i];
-        if over {
-            return true;
-        }
-    }
-    false
-}
 
 // A tile over 33 is in a meld or among the concealed tiles.
 fn tile_over_33(x: Held) -> bool
     ensures { result ≡ tile_over33 x }
 {
-    let m = x.m;
-    let d = x.melds;
-    let c = x.concealed;
-    (((0 < m) & (33 < d[0] % 64))
-        | ((1 < m) & (33 < d[1] % 64))
-        | ((2 < m) & (33 < d[2] % 64))
-        | ((3 < m) & (33 < d[3] % 64)))
-        | over_33(c, hand::others(m))
+    x.melds().iter().any(|&b| 33 < b % 64) | x.concealed().iter().any(|&k| 33 < k)
 }
 
 // A chi from whose tile no run goes.
@@ -52,12 +33,7 @@ fn bad_chi(b: u8) -> bool
 fn chi_without_run(x: Held) -> bool
     ensures { result ≡ chi_without_run x }
 {
-    let m = x.m;
-    let d = x.melds;
-    ((0 < m) & bad_chi(d[0]))
-        | ((1 < m) & bad_chi(d[1]))
-        | ((2 < m) & bad_chi(d[2]))
-        | ((3 < m) & bad_chi(d[3]))
+    x.melds().iter().any(|&b| bad_chi(b))
 }
 
 // 2 of the tiles held, with the padding bits after them as a number.
@@ -67,41 +43,21 @@ pub fn wrong_held(x: Held, padding: u32) -> bool
     tile_over_33(x) | chi_without_run(x) | (0 < padding)
 }
 
-// How many tiles have one after them.
-fn followed(m: u8) -> usize
-    ensures { (result ≡ 13 - 3 * m - 1) × (result ≤ 12) }
-{
-    if m <= 4 { 12 - 3 * (m as usize) } else { 0 }
-}
-
-// One of the first n tiles is over the one after it.
-fn falls(c: [u8; 13], n: usize) -> bool
-    requires { n ≤ 12 }
-    ensures { result ≡ any_below n (λ i. ltb (get_or c (i + 1) 0) (get_or c i 0)) }
-{
-    for i in 0..n {
-        if c[i + 1] < c[i] {
-            return true;
-        }
-    }
-    false
-}
-
 // 3: the concealed tiles descend somewhere.
 pub fn descends(x: Held) -> bool
     ensures { result ≡ descends_of x }
 {
-    let c = x.concealed;
-    falls(c, followed(x.m))
+    !x.concealed().is_sorted()
 }
 
 // 4: over four of a kind in a tally.
 pub fn over_four(t: [u8; 34]) -> bool
     ensures { result ≡ over_four (λ k. get_or t k 0) }
 {
+    // each is looked at, so that the compiler may take many at once
     let mut over = false;
-    for k in 0..34 {
-        over = over | (4 < t[k]);
+    for &n in &t {
+        over |= 4 < n;
     }
     over
 }
@@ -141,12 +97,7 @@ fn wrong_fields(h: Hand, padding: u32) -> bool
 fn has_kan(x: Held) -> bool
     ensures { result ≡ has_kan x }
 {
-    let m = x.m;
-    let d = x.melds;
-    ((0 < m) & (2 <= d[0] / 64))
-        | ((1 < m) & (2 <= d[1] / 64))
-        | ((2 < m) & (2 <= d[2] / 64))
-        | ((3 < m) & (2 <= d[3] / 64))
+    x.melds().iter().any(|&b| 2 <= b / 64)
 }
 
 // 5, where the tiles of 4 have n of the winning tile's kind.
@@ -162,27 +113,27 @@ fn wrong_situation(f: Fields, x: Held, n: u8) -> bool
 
 // ---- first match wins
 
-// 2 to 5, first match wins; 0 where there is none.
-pub fn refusal(h: Hand, padding: u32) -> u8
-    ensures { result ≡ refusal_of h padding }
+// 2 to 5, first match wins.
+pub fn check(h: Hand, padding: u32) -> Result<(), Refusal>
+    ensures { refusal_in result ≡ refusal_of h padding }
 {
     if wrong_fields(h, padding) {
-        return 2;
+        return Err(Refusal::Field);
     }
     let f = h.fields;
     let x = h.held;
     if descends(x) {
-        return 3;
+        return Err(Refusal::Descending);
     }
     let t = record_tally(h);
     if over_four(t) {
-        return 4;
+        return Err(Refusal::OverFour);
     }
     let at = f.winning as usize;
     if wrong_situation(f, x, t[at]) {
-        return 5;
+        return Err(Refusal::Situation);
     }
-    0
+    Ok(())
 }
 
 // ---- what Write asks beside them
@@ -226,13 +177,13 @@ fn too_large(h: Hand) -> bool
         | (7 < f.situation)
 }
 
-// What Write refuses of a hand before it looks at the buffer: 2 to 5, or 0.
-pub fn unwritable(h: Hand) -> u8
-    ensures { result ≡ unwritable_of h }
+// What Write refuses of a hand before it looks at the buffer: 2 to 5.
+pub fn check_writable(h: Hand) -> Result<(), Refusal>
+    ensures { refusal_in result ≡ unwritable h }
 {
     if too_large(h) | unused_not_zero(h.held) {
-        2
+        Err(Refusal::Field)
     } else {
-        refusal(h, 0)
+        check(h, 0)
     }
 }

@@ -1,11 +1,13 @@
 -- Records that lie end to end, and what makes them rons on one tile (02, S-6).
-use Rattle.std.specs.Prelude.{◌≡◌, Bool, false, ◌||◌, not, cond, List, [], ◌∷◌, ℕ, zero, suc, ◌+◌, ◌-◌, ◌%◌, ◌≤◌, ◌<◌, ltb, eqb, length, take, drop}
+use Rattle.std.specs.Prelude.{◌≡◌, Bool, false, ◌||◌, not, cond, Result, Ok, Err, List, [], ◌∷◌, ℕ, zero, suc, ◌+◌, ◌-◌, ◌%◌, ◌≤◌, ◌<◌, ltb, eqb, length, take, drop}
 use Rattle.hand.specs.declared.Fields.{Fields}
 use Rattle.hand.specs.declared.Hand.{Hand}
 use Rattle.hand.specs.Hand.{is_ron}
 use Rattle.hand_record.specs.Lengths.{record_length}
-use Rattle.hand_record.specs.Record.{length_of, count_in, refusal_in, hand_of, read_of}
-use Rattle.hand_rons.specs.declared.First.{First}
+use Rattle.hand_record.specs.Record.{length_of, count_in, refused_with, refusal_in, hand_of, read_of}
+use Rattle.refusals.specs.declared.Refusal.{Refusal}
+use Rattle.refusals.specs.Refusal.{number}
+use Rattle.hand_rons.specs.declared.First.{First as FirstInCode}
 
 -- the hand that Read gives of a win's record
 abbrev pub hand_for : List ℕ → Hand
@@ -25,6 +27,17 @@ first_unreadable (s ∷ ss) = cond (ltb 0 (refusal_in (read_of s).answer)) (refu
 -- where the first of n records ends: "each but the last as long as its m says, the last all that is left"; 0 where it doesn't fit
 unfoldable pub cut_of : ℕ → List ℕ → ℕ
 cut_of n s = cond (eqb n 1) (length s) (record_length s)
+
+-- the first of several records, read: its refusal, or 0, where it ends, and its hand
+pub record First : Type 0 where
+  pub refusal : ℕ
+  pub end : ℕ
+  pub hand : Hand
+
+-- what the code's answer says: the refusal's number, or where the record ends and its hand
+abbrev pub numbered : Result FirstInCode Refusal → First
+numbered (Ok r) = record { refusal = 0; end = r.end; hand = r.hand }
+numbered (Err e) = record { refusal = number e; end = 0; hand = hand_of (refused_with 0) }
 
 -- the first of n records, read: its refusal, or its hand and where it ends and the others begin
 pub record IsFirst (n : ℕ) (s : List ℕ) (r : First) : Type 0 where

@@ -2,107 +2,55 @@
 // and who wins first. Each record is read once.
 #![tactic(auto)]
 
-ghost use Rattle.std.specs.Prelude.{◌≡◌, List, map, ℕ, ◌≤◌, take};
-ghost use Rattle.hand_rons.specs.Records.{hand_for, records_of, first_unreadable, conflict, not_on_one_tile, is_winner, first_after, cut_of, IsFirst};
+ghost use Rattle.std.specs.Prelude.{◌≡◌, List, map, ℕ, ◌≤◌, take, IfOk, unwrap_or};
+ghost use Rattle.refusals.specs.Refusal.{refusal_in};
+ghost use Rattle.hand_rons.specs.Records.{hand_for, records_of, first_unreadable, conflict, not_on_one_tile, is_winner, first_after, cut_of, IsFirst, numbered};
 
-use hand::{Fields, Hand, Held};
-use hand_record::Answer;
+use hand::{Fields, Hand};
+use refusals::Refusal;
 
-// One record of several: its hand and where it ends, or its refusal.
+// One record of several: its hand, and where it ends.
 #[derive(Clone, Copy)]
 struct First {
-    refusal: u8,
     end: usize,
     hand: Hand,
 }
 
-// The hands of one to three records, or the refusal of the first that does not read.
-#[derive(Clone, Copy)]
-pub struct Hands {
-    pub refusal: u8,
-    pub hands: [Hand; 3],
-}
-
-// No tile, and all else zero.
-fn no_hand() -> Hand {
-    let held = Held {
-        m: 0,
-        melds: [0u8; 4],
-        concealed: [0u8; 13],
-    };
-    let fields = Fields {
-        how: 0,
-        winner: 0,
-        discarder: 0,
-        riichi: 0,
-        situation: 0,
-        indicator: 0,
-        winning: 0,
-    };
-    Hand { fields, held }
-}
-
-// Where the first of so many records ends, the last being all that is left; 0 where it is broken.
-fn cut(number: u8, s: &[u8]) -> usize
-    ensures { result ≡ cut_of number s.now }
+// Where the first of so many records ends, the last being all that is left; none where it is broken.
+fn cut(number: u8, s: &[u8]) -> Option<usize>
+    ensures { unwrap_or result 0 ≡ cut_of number s.now }
 {
     let last = number == 1;
     if last {
-        return s.len();
+        return Some(s.len());
     }
     hand_record::record_length(s)
 }
 
-// The first of so many records; a broken one is cut to no bytes, which do not read.
-fn read_first(number: u8, s: &[u8]) -> First
+// The first of so many records; a broken one is refused as bytes of the wrong length are.
+fn read_first(number: u8, s: &[u8]) -> Result<First, Refusal>
     requires { 1 ≤ number }
-    ensures { IsFirst number s.now result }
+    ensures { IsFirst number s.now (numbered result) }
 {
-    let end = cut(number, s);
-    let r = hand_record::read(&s[..end]);
-    let a = r.answer;
-    let Answer::Sound(f) = a else {
-        return First {
-            refusal: hand_record::refusal(a),
-            end: 0,
-            hand: no_hand(),
-        };
-    };
-    let held = r.held;
-    let hand = Hand { fields: f, held };
-    First {
-        refusal: 0,
-        end,
-        hand,
-    }
+    let end = cut(number, s).ok_or(Refusal::Length)?;
+    let hand = hand_record::read(&s[..end]).hand()?;
+    Ok(First { end, hand })
 }
 
 // The hands of so many records, in their order, or the refusal of the first that does not read.
-pub fn read_all(number: u8, s: &[u8]) -> Hands
+pub fn read_all(number: u8, s: &[u8]) -> Result<[Hand; 3], Refusal>
     requires { number ≤ 3 }
-    ensures refusal_value { result.refusal ≡ first_unreadable (records_of number s.now) }
-    ensures s_value { result.refusal ≡ 0 → map hand_for (records_of number s.now) ≡ take number result.hands }
+    ensures refusal_value { refusal_in result ≡ first_unreadable (records_of number s.now) }
+    ensures s_value { IfOk result (λ hands. map hand_for (records_of number s.now) ≡ take number hands) }
 {
-    let none = no_hand();
-    let mut hands = [none; 3];
-    let mut left = number;
-    let mut i = 0usize;
-    let mut at = 0usize;
-    while 0 < left {
-        let r = read_first(left, &s[at..]);
-        if 0 < r.refusal {
-            return Hands {
-                refusal: r.refusal,
-                hands,
-            };
-        }
-        let h = r.hand;
-        hands[i] = h;
-        i += 1;
-        at += r.end;
-        left -= 1;
+    let mut hands = [Hand::default(); 3];
+    let mut at = 0;
+    for i in 0..number {
+        let first = read_first(number - i, &s[at..])?;
+        hands[usize::from(i)] = first.hand;
+        at += first.end;
     }
-    Hands { refusal: 0, hands }
+    Ok(hands)
 }
 
 // Two records have one winner, or differ in what rons on one tile have in common.

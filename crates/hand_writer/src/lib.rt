@@ -3,11 +3,12 @@
 
 ghost use Rattle.std.specs.Prelude.{◌≡◌, ◌+◌, ◌*◌, ◌-◌, ◌≤◌, length};
 ghost use Rattle.bits.specs.Bits.{pack, fill};
-ghost use Rattle.hand_record.specs.Record.{held_widths, widths, held_values, values_of, written_of, buffer_of};
+ghost use Rattle.hand_record.specs.Record.{held_widths, widths, held_values, values_of, written_in, written_of, buffer_of};
 ghost use Rattle.std.proofs.lemmas.List.Edits.{sets};
 
 use hand::{Hand, Held};
 use hand_record::Written;
+use refusals::Refusal;
 
 // The bits of tiles held, m melds and then 13 - 3m tiles, and `pad` zero bits, stored from `at` on. An inner call of each writer.
 pub fn pack_held(x: Held, b: &mut [u8], at: usize, pad: usize)
@@ -51,25 +52,26 @@ fn pack_hand(h: Hand) -> [u8; 104]
     b
 }
 
-// Write: stores the hand's record at the front of the buffer and gives its length; 2 to 5 or 13 and no byte stored where it is refused.
-pub fn write(h: Hand, buf: &mut [u8]) -> Written
-    ensures value { result ≡ written_of h buf.old }
+// Stores the hand's record at the front of the buffer and gives its length; refused with 2 to 5 or 13, and then no byte is stored.
+pub fn try_write(h: Hand, buf: &mut [u8]) -> Result<usize, Refusal>
+    ensures value { written_in result ≡ written_of h buf.old }
     ensures buf_after { buf.new ≡ buffer_of h buf.old }
 {
-    let j = hand_refusals::unwritable(h);
-    if 0 < j {
-        return Written { refusal: j, len: 0 };
-    }
-    let m = h.held.m as usize;
-    let n = hand_record::LENGTHS[m];
+    hand_refusals::check_writable(h)?;
+    let n = hand_record::LENGTHS[h.held.m as usize];
     if buf.len() < n {
-        return Written {
-            refusal: 13,
-            len: 0,
-        };
+        return Err(Refusal::Buffer);
     }
     let b = pack_hand(h);
     let ew = [8u8; 13];
     bits::unpack_into(&ew[..n], &b, 0, buf);
-    Written { refusal: 0, len: n }
+    Ok(n)
+}
+
+// Write, as C is given it: 0 and the record's length, or the refusal and 0.
+pub fn write(h: Hand, buf: &mut [u8]) -> Written
+    ensures value { result ≡ written_of h buf.old }
+    ensures buf_after { buf.new ≡ buffer_of h buf.old }
+{
+    Written::from(try_write(h, buf))
 }

@@ -3,6 +3,8 @@
 #![tactic(auto)]
 
 ghost use Rattle.std.specs.Prelude.{◌≡◌, [], ◌++◌, ◌+◌, ◌≤◌, ◌<◌, length, take, drop, cond, ltb};
+ghost use Rattle.std.specs.Result.{result_unwrap_or};
+ghost use Rattle.refusals.specs.Refusal.{refusal_in};
 ghost use Rattle.hand_record.specs.Record.{read_hand_of, written_of, buffer_of};
 ghost use Rattle.score.specs.IsScore.{IsScore};
 ghost use Rattle.score.specs.Score.{score_of};
@@ -39,19 +41,22 @@ use hand_record::{ReadHand, Written};
 use log_walk::{Printed, Walk};
 use position::Position;
 use ready::Ready;
+use refusals::Refusal;
 use score::Scored;
 use score_readings::{NthReading, ReadingCount};
 use speech_score::Said;
 use waits::Waits;
 
 // What Next entry gives: an entry with its letter in `tally` and its length, header included; the log's end; or refusal 14. Else all zero.
+// stays flat, with numbers: what C is given (include/herbassolh.h)
 #[repr(C)]
-#[derive(Clone, Copy)]
+#[derive(Clone, Copy, Default)]
 pub struct NextEntry {
     pub refusal: u8,
     pub end: bool,
     pub kind: u8,
     pub argument: u8,
+    // stays a number: what C is given
     pub letter: u8,
     pub length: usize,
 }
@@ -167,58 +172,66 @@ pub fn hb_fresh_game() -> Game
     game_bookings::fresh_game()
 }
 
+// Keeps what a booking gives: the game after it, and 0; or the game as it was, and the refusal.
+fn keep(g: &mut Game, booked: Result<Game, Refusal>) -> u8
+    ensures refusal { result ≡ refusal_in booked }
+    ensures game { g.new ≡ result_unwrap_or booked g.old }
+{
+    match booked {
+        Ok(after) => {
+            *g = after;
+            0
+        }
+        Err(r) => u8::from(r),
+    }
+}
+
 // Riichi of a seat.
 pub fn hb_riichi(g: &mut Game, seat: u8) -> u8
     ensures { Books g.old (booking (Booking.riichi seat)) result g.new }
 {
-    let b = game_bookings::riichi(*g, seat);
-    *g = b.game;
-    b.refusal
+    let booked = game_bookings::riichi(*g, seat);
+    keep(g, booked)
 }
 
 // A win by a record.
 pub fn hb_win(g: &mut Game, s: &[u8]) -> u8
     ensures { Books g.old (booking (Booking.result (Booking.win s.now))) result g.new }
 {
-    let b = game_bookings::win(*g, s);
-    *g = b.game;
-    b.refusal
+    let booked = game_bookings::win(*g, s);
+    keep(g, booked)
 }
 
 // A draw, by four bits of who is ready, seat 0 first.
 pub fn hb_draw(g: &mut Game, bits: u8) -> u8
     ensures { Books g.old (booking (Booking.result (Booking.draw bits))) result g.new }
 {
-    let b = game_bookings::draw(*g, bits);
-    *g = b.game;
-    b.refusal
+    let booked = game_bookings::draw(*g, bits);
+    keep(g, booked)
 }
 
 // Chombo of a seat.
 pub fn hb_chombo(g: &mut Game, seat: u8) -> u8
     ensures { Books g.old (booking (Booking.result (Booking.chombo seat))) result g.new }
 {
-    let b = game_bookings::chombo(*g, seat);
-    *g = b.game;
-    b.refusal
+    let booked = game_bookings::chombo(*g, seat);
+    keep(g, booked)
 }
 
 // Multiple ron: one to three rons on one tile, their number, and the records end to end.
 pub fn hb_multi_ron(g: &mut Game, number: u8, records: &[u8]) -> u8
     ensures { Books g.old (booking (Booking.result (Booking.multi_ron number records.now))) result g.new }
 {
-    let b = game_bookings::multi_ron(*g, number, records);
-    *g = b.game;
-    b.refusal
+    let booked = game_bookings::multi_ron(*g, number, records);
+    keep(g, booked)
 }
 
 // Pao: the feeder of a holder's yaku, 28 or 29, named for this hand.
 pub fn hb_pao(g: &mut Game, holder: u8, feeder: u8, yaku: u8) -> u8
     ensures { Books g.old (booking (Booking.pao holder feeder yaku)) result g.new }
 {
-    let b = game_bookings::pao(*g, holder, feeder, yaku);
-    *g = b.game;
-    b.refusal
+    let booked = game_bookings::pao(*g, holder, feeder, yaku);
+    keep(g, booked)
 }
 
 // The correction of the last finished booking by a win, which is booked in the earlier position; 9 where the game is out of form, 20 where there is none
@@ -226,64 +239,58 @@ pub fn hb_pao(g: &mut Game, holder: u8, feeder: u8, yaku: u8) -> u8
 pub fn hb_correct_win(g: &mut Game, s: &[u8]) -> u8
     ensures { Books g.old (correction (Booking.win s.now)) result g.new }
 {
-    let b = game_bookings::correct_win(*g, s);
-    *g = b.game;
-    b.refusal
+    let booked = game_bookings::correct_win(*g, s);
+    keep(g, booked)
 }
 
 // The same by a draw.
 pub fn hb_correct_draw(g: &mut Game, bits: u8) -> u8
     ensures { Books g.old (correction (Booking.draw bits)) result g.new }
 {
-    let b = game_bookings::correct_draw(*g, bits);
-    *g = b.game;
-    b.refusal
+    let booked = game_bookings::correct_draw(*g, bits);
+    keep(g, booked)
 }
 
 // The same by a chombo of a seat.
 pub fn hb_correct_chombo(g: &mut Game, seat: u8) -> u8
     ensures { Books g.old (correction (Booking.chombo seat)) result g.new }
 {
-    let b = game_bookings::correct_chombo(*g, seat);
-    *g = b.game;
-    b.refusal
+    let booked = game_bookings::correct_chombo(*g, seat);
+    keep(g, booked)
 }
 
 // The same by a multiple ron.
 pub fn hb_correct_multi_ron(g: &mut Game, number: u8, records: &[u8]) -> u8
     ensures { Books g.old (correction (Booking.multi_ron number records.now)) result g.new }
 {
-    let b = game_bookings::correct_multi_ron(*g, number, records);
-    *g = b.game;
-    b.refusal
+    let booked = game_bookings::correct_multi_ron(*g, number, records);
+    keep(g, booked)
 }
 
 // Next entry of a log from an offset: its kind, argument, letter and length, header included. Where there is none all is zero but the refusal, 14, or `end`.
 pub fn hb_log_next(s: &[u8], at: usize) -> NextEntry
     ensures { result ≡ next_entry_of s.now at }
 {
-    let part = log_entry::next_entry(s, at);
-    let length = part.len();
-    if length == 0 {
-        let refusal = log_entry::refusal_at(s, at);
-        return NextEntry {
-            refusal,
-            end: refusal == 0,
-            kind: 0,
-            argument: 0,
-            letter: 0,
-            length: 0,
-        };
-    }
-    let header = part[0];
-    let kind = log_entry::kind(header);
-    NextEntry {
-        refusal: 0,
-        end: false,
-        kind,
-        argument: log_entry::argument(header),
-        letter: log_entry::letter(kind),
-        length,
+    match log_entry::next_entry(s, at) {
+        Ok(Some(part)) => {
+            let kind = log_entry::kind(part[0]);
+            NextEntry {
+                refusal: 0,
+                end: false,
+                kind,
+                argument: log_entry::argument(part[0]),
+                letter: log_entry::letter(kind),
+                length: part.len(),
+            }
+        }
+        Ok(None) => NextEntry {
+            end: true,
+            ..NextEntry::default()
+        },
+        Err(r) => NextEntry {
+            refusal: u8::from(r),
+            ..NextEntry::default()
+        },
     }
 }
 
@@ -291,9 +298,8 @@ pub fn hb_log_next(s: &[u8], at: usize) -> NextEntry
 pub fn hb_book_entry(g: &mut Game, s: &[u8]) -> u8
     ensures { BooksEntry g.old s.now result g.new }
 {
-    let b = log_walk::book_entry(*g, s);
-    *g = b.game;
-    b.refusal
+    let booked = log_walk::book_entry(*g, s);
+    keep(g, booked)
 }
 
 // A walk over a log before its first entry, with a fresh game.
@@ -314,6 +320,7 @@ pub fn hb_log_lines(w: Walk, s: &[u8], buf: &mut [u8]) -> Printed
 }
 
 // A line from a position by value.
+// stays a number, its letter: what C is given
 fn line_of(p: Position, entry: u32, letter: u8, refusal: u8, buf: &mut [u8]) -> usize
     ensures { Lined p entry letter refusal buf.old result buf.new }
 {
@@ -323,6 +330,7 @@ fn line_of(p: Position, entry: u32, letter: u8, refusal: u8, buf: &mut [u8]) -> 
 
 // A line of `tally` at the start of a buffer, or nothing where it does not fit: an entry's number, letter and refusal, and the lent position's scores and
 // sticks.
+// stays a number, its letter: what C is given
 pub fn hb_log_line(p: &Position, entry: u32, letter: u8, refusal: u8, buf: &mut [u8]) -> usize
     ensures { Lined p.now entry letter refusal buf.old result buf.new }
 {
@@ -331,6 +339,7 @@ pub fn hb_log_line(p: &Position, entry: u32, letter: u8, refusal: u8, buf: &mut 
 
 // Score, said: the clips of what a record is worth and who pays what, in a language, at the start of a buffer, and how many they are; or the refusal, and the
 // buffer as it was.
+// stays a number, its language: what C is given
 pub fn hb_say_score(language: u8, s: &[u8], dealer: u8, wind: u8, buf: &mut [u8]) -> Said
     ensures { Answers language (score_of s.now dealer wind).refusal (score_said language s.now dealer wind) buf.old result buf.new }
 {
@@ -338,6 +347,7 @@ pub fn hb_say_score(language: u8, s: &[u8], dealer: u8, wind: u8, buf: &mut [u8]
 }
 
 // The fu of a record, said: each item and the sum; or the refusal.
+// stays a number, its language: what C is given
 pub fn hb_say_fu(language: u8, s: &[u8], dealer: u8, wind: u8, buf: &mut [u8]) -> Said
     ensures { Answers language (score_of s.now dealer wind).refusal (fu_message language (score_of s.now dealer wind)) buf.old result buf.new }
 {
@@ -345,6 +355,7 @@ pub fn hb_say_fu(language: u8, s: &[u8], dealer: u8, wind: u8, buf: &mut [u8]) -
 }
 
 // The scores of a lent position, said, with its sticks and counters; or the refusal.
+// stays a number, its language: what C is given
 pub fn hb_say_scores(language: u8, p: &Position, buf: &mut [u8]) -> Said
     ensures { SaysScores language p.now buf.old result buf.new }
 {
@@ -352,6 +363,7 @@ pub fn hb_say_scores(language: u8, p: &Position, buf: &mut [u8]) -> Said
 }
 
 // A refusal, said: the clip of its sentence, or that of 0, accepted; or the refusal of this call.
+// stays a number, its language: what C is given
 pub fn hb_say_refusal(language: u8, number: u8, buf: &mut [u8]) -> Said
     ensures { Answers language (cond (ltb 22 number) 8 0) (refusal_message number) buf.old result buf.new }
 {
@@ -359,6 +371,7 @@ pub fn hb_say_refusal(language: u8, number: u8, buf: &mut [u8]) -> Said
 }
 
 // The waits of an unfinished hand, said, and furiten by a list of discards; or the refusal.
+// stays a number, its language: what C is given
 pub fn hb_say_waits(language: u8, s: &[u8], discards: &[u8], buf: &mut [u8]) -> Said
     ensures { Answers language (waits_of s.now discards.now).refusal (waits_message (waits_of s.now discards.now)) buf.old result buf.new }
 {
@@ -366,6 +379,7 @@ pub fn hb_say_waits(language: u8, s: &[u8], discards: &[u8], buf: &mut [u8]) -> 
 }
 
 // How far an unfinished hand is from ready, said; or the refusal.
+// stays a number, its language: what C is given
 pub fn hb_say_ready(language: u8, s: &[u8], buf: &mut [u8]) -> Said
     ensures { SaysReady language s.now buf.old result buf.new }
 {

@@ -287,6 +287,7 @@ pub extern "C" fn hb_log_lines(w: Walk, s: &[u8], buf: &mut [u8]) -> Printed
 
 // A line of `tally` at the start of a buffer, or nothing where it does not fit: an entry's number, letter and refusal, and the lent position's scores and
 // sticks.
+// stays a number, its letter: what C is given
 #[unsafe(no_mangle)]
 pub extern "C" fn hb_log_line(
     p: &Position,
@@ -302,6 +303,7 @@ pub extern "C" fn hb_log_line(
 
 // Score, said: the clips of what a record is worth and who pays what, in a language, at the start of a buffer, and how many they are; or the refusal, and the
 // buffer as it was.
+// stays a number, its language: what C is given
 #[unsafe(no_mangle)]
 pub extern "C" fn hb_say_score(language: u8, s: &[u8], dealer: u8, wind: u8, buf: &mut [u8]) -> Said
     ensures { Answers language (score_of s.now dealer wind).refusal (score_said language s.now dealer wind) buf.old result buf.new }
@@ -310,6 +312,7 @@ pub extern "C" fn hb_say_score(language: u8, s: &[u8], dealer: u8, wind: u8, buf
 }
 
 // The fu of a record, said: each item and the sum; or the refusal.
+// stays a number, its language: what C is given
 #[unsafe(no_mangle)]
 pub extern "C" fn hb_say_fu(language: u8, s: &[u8], dealer: u8, wind: u8, buf: &mut [u8]) -> Said
     ensures { Answers language (score_of s.now dealer wind).refusal (fu_message language (score_of s.now dealer wind)) buf.old result buf.new }
@@ -318,6 +321,7 @@ pub extern "C" fn hb_say_fu(language: u8, s: &[u8], dealer: u8, wind: u8, buf: &
 }
 
 // The scores of a lent position, said, with its sticks and counters; or the refusal.
+// stays a number, its language: what C is given
 #[unsafe(no_mangle)]
 pub extern "C" fn hb_say_scores(language: u8, p: &Position, buf: &mut [u8]) -> Said
     ensures { SaysScores language p.now buf.old result buf.new }
@@ -326,6 +330,7 @@ pub extern "C" fn hb_say_scores(language: u8, p: &Position, buf: &mut [u8]) -> S
 }
 
 // A refusal, said: the clip of its sentence, or that of 0, accepted; or the refusal of this call.
+// stays a number, its language: what C is given
 #[unsafe(no_mangle)]
 pub extern "C" fn hb_say_refusal(language: u8, number: u8, buf: &mut [u8]) -> Said
     ensures { Answers language (cond (ltb 22 number) 8 0) (refusal_message number) buf.old result buf.new }
@@ -334,6 +339,7 @@ pub extern "C" fn hb_say_refusal(language: u8, number: u8, buf: &mut [u8]) -> Sa
 }
 
 // The waits of an unfinished hand, said, and furiten by a list of discards; or the refusal.
+// stays a number, its language: what C is given
 #[unsafe(no_mangle)]
 pub extern "C" fn hb_say_waits(language: u8, s: &[u8], discards: &[u8], buf: &mut [u8]) -> Said
     ensures { Answers language (waits_of s.now discards.now).refusal (waits_message (waits_of s.now discards.now)) buf.old result buf.new }
@@ -342,6 +348,7 @@ pub extern "C" fn hb_say_waits(language: u8, s: &[u8], discards: &[u8], buf: &mu
 }
 
 // How far an unfinished hand is from ready, said; or the refusal.
+// stays a number, its language: what C is given
 #[unsafe(no_mangle)]
 pub extern "C" fn hb_say_ready(language: u8, s: &[u8], buf: &mut [u8]) -> Said
     ensures { SaysReady language s.now buf.old result buf.new }

@@ -1,26 +1,76 @@
 // The log (01, Log; 02, S-6, S-8 and S-10): the kinds of its entries, and Next entry. The public calls take all input.
 #![tactic(auto)]
 
-ghost use Rattle.std.specs.Prelude.{◌≡◌, List, ◌∷◌, ℕ, ◌+◌, ◌/◌, ◌%◌, ◌≤◌, ◌<◌};
+ghost use Rattle.std.specs.Prelude.{◌≡◌, List, ◌∷◌, ℕ, ◌+◌, ◌/◌, ◌%◌, ◌≤◌, ◌<◌, length, unwrap_or, IfSome, IfOk, IfErr};
+ghost use Rattle.refusals.specs.Refusal.{refusal_in};
 ghost use Rattle.game.specs.Game.{Entry};
+ghost use Rattle.log_entry.specs.EntryKind.{number, is_result_kind, IsKindOf};
 ghost use Rattle.log_entry.specs.Entry.{IsEntry, letter_of};
 ghost use Rattle.log_entry.specs.Log.{part_at, refusal_at};
-ghost use Rattle.log_entry.specs.search.Lengths.{records_length, with_header, win_length, multi_ron_length, pao_length, length_by, correction_length, entry_length};
+ghost use Rattle.log_entry.specs.Part.{part_given};
+ghost use Rattle.log_entry.specs.search.Lengths.{records_length, win_length, multi_ron_length, pao_length, length_by, correction_length, entry_length};
+ghost use Rattle.log_entry.specs.search.Found.{letter_by};
 
-// The kinds by their numbers. Each one's letter stands in `letter`, its length in `length_by`.
-pub const RIICHI: u8 = 0;
+use refusals::Refusal;
 
-pub const WIN: u8 = 1;
+// The kinds of entries, by the numbers that headers have. Each one's letter stands in `letter`, its length in `length_by`.
+#[derive(Clone, Copy, Debug, PartialEq, Eq)]
+pub enum EntryKind {
+    Riichi = 0,
+    Win = 1,
+    Draw = 2,
+    Chombo = 3,
+    MultiRon = 4,
+    Pao = 5,
+    Correction = 6,
+}
 
-pub const DRAW: u8 = 2;
+// The kind of a number; 14 where no entry has it.
+impl TryFrom<u8> for EntryKind {
+    type Error = Refusal;
 
-pub const CHOMBO: u8 = 3;
+    ghost try_from_gives = { IsKindOf };
 
-pub const MULTI_RON: u8 = 4;
+    fn try_from(number: u8) -> Result<Self, Refusal> {
+        match number {
+            0 => Ok(EntryKind::Riichi),
+            1 => Ok(EntryKind::Win),
+            2 => Ok(EntryKind::Draw),
+            3 => Ok(EntryKind::Chombo),
+            4 => Ok(EntryKind::MultiRon),
+            5 => Ok(EntryKind::Pao),
+            6 => Ok(EntryKind::Correction),
+            _ => Err(Refusal::Entry),
+        }
+    }
+}
 
-pub const PAO: u8 = 5;
+impl EntryKind {
+    // The letter that `tally` prints for an entry of the kind.
+    pub fn letter(self) -> u8
+        ensures { result ≡ letter_by (number self) }
+    {
+        match self {
+            EntryKind::Riichi => b'R',
+            EntryKind::Win => b'W',
+            EntryKind::Draw => b'D',
+            EntryKind::Chombo => b'C',
+            EntryKind::MultiRon => b'M',
+            EntryKind::Pao => b'P',
+            EntryKind::Correction => b'X',
+        }
+    }
 
-pub const CORRECTION: u8 = 6;
+    // A result, which a correction can carry.
+    fn is_result(self) -> bool
+        ensures { result ≡ is_result_kind (number self) }
+    {
+        matches!(
+            self,
+            EntryKind::Win | EntryKind::Draw | EntryKind::Chombo | EntryKind::MultiRon
+        )
+    }
+}
 
 // The kind that a header byte names.
 pub fn kind(header: u8) -> u8
@@ -58,182 +108,126 @@ pub fn yaku(byte: u8) -> u8
 }
 
 // The letter that `tally` prints for a kind: that of every entry whose header names it; 0 for a kind that no entry has.
+// stays a number for a kind, and 0 for none: what C is given (include/herbassolh.h, HbNextEntry)
 pub fn letter(kind: u8) -> u8
     ensures by_index { (header : ℕ) (rest : List ℕ) (e : Entry) → IsEntry (header ∷ rest) e → kind ≡ header / 16 → result ≡ letter_of e }
     ensures value { 6 < kind → result ≡ 0 }
 {
-    if kind == RIICHI {
-        return b'R';
+    match EntryKind::try_from(kind) {
+        Ok(k) => k.letter(),
+        Err(_) => 0,
     }
-    if kind == WIN {
-        return b'W';
-    }
-    if kind == DRAW {
-        return b'D';
-    }
-    if kind == CHOMBO {
-        return b'C';
-    }
-    if kind == MULTI_RON {
-        return b'M';
-    }
-    if kind == PAO {
-        return b'P';
-    }
-    if kind == CORRECTION {
-        return b'X';
-    }
-    0
 }
 
-// How many bytes n records have that lie end to end from the start of bytes, 0 where one is broken.
-fn records_length(n: u8, s: &[u8]) -> usize
-    ensures { result ≡ records_length n s.now }
+// How many bytes n records have that lie end to end from the start of bytes; none where one is broken.
+fn records_length(n: u8, s: &[u8]) -> Option<usize>
+    ensures value { unwrap_or result 0 ≡ records_length n s.now }
+    ensures some { IfSome result (λ k. n ≤ k) }
 {
-    let mut at: usize = 0;
-    let mut left = n;
-    while 0 < left {
-        let k = hand_record::record_length(&s[at..]);
-        if k == 0 {
-            return 0;
-        }
-        at += k;
-        left -= 1;
+    let mut at = 0usize;
+    // stays a range: so many records, each found where the one before it ends
+    for _ in 0..n {
+        at += hand_record::record_length(&s[at..])?;
     }
-    at
+    Some(at)
 }
 
-// A header and the bytes that follow it; 0 stays 0.
-fn with_header(n: usize) -> usize
-    requires { n ≤ 40 }
-    ensures { result ≡ with_header n }
-{
-    if n == 0 {
-        return 0;
-    }
-    n + 1
-}
-
-// How many bytes a win has, its header included, by its argument and the bytes after the header; 0 where it is bad.
-fn win_length(argument: u8, rest: &[u8]) -> usize
-    ensures { result ≡ win_length argument rest.now }
+// How many bytes a win has, its header included, by its argument and the bytes after the header; none where it is bad.
+fn win_length(argument: u8, rest: &[u8]) -> Option<usize>
+    ensures value { unwrap_or result 0 ≡ win_length argument rest.now }
+    ensures some { IfSome result (λ n. 0 < n) }
 {
     if argument != 0 {
-        return 0;
+        return None;
     }
-    with_header(hand_record::record_length(rest))
+    Some(hand_record::record_length(rest)? + 1)
 }
 
 // The same of one to three rons on one tile: so many records follow.
-fn multi_ron_length(argument: u8, rest: &[u8]) -> usize
-    ensures { result ≡ multi_ron_length argument rest.now }
+fn multi_ron_length(argument: u8, rest: &[u8]) -> Option<usize>
+    ensures value { unwrap_or result 0 ≡ multi_ron_length argument rest.now }
+    ensures some { IfSome result (λ n. 0 < n) }
 {
-    if argument == 0 {
-        return 0;
+    let few = 0 < argument && argument <= 3;
+    if !few {
+        return None;
     }
-    let over = 3 < argument;
-    if over {
-        return 0;
-    }
-    with_header(records_length(argument, rest))
+    Some(records_length(argument, rest)? + 1)
 }
 
 // The same of a pao: one byte follows, with its last three bits zero.
-fn pao_length(argument: u8, rest: &[u8]) -> usize
-    ensures { result ≡ pao_length argument rest.now }
+fn pao_length(argument: u8, rest: &[u8]) -> Option<usize>
+    ensures value { unwrap_or result 0 ≡ pao_length argument rest.now }
+    ensures some { IfSome result (λ n. 0 < n) }
 {
     if 0 < argument {
-        return 0;
+        return None;
     }
-    if rest.len() < 1 {
-        return 0;
+    let byte = *rest.first()?;
+    if 0 < byte % 8 {
+        return None;
     }
-    if 0 < rest[0] % 8 {
-        return 0;
-    }
-    2
+    Some(2)
 }
 
-// The same of a kind that carries no other entry.
-fn length_by(kind: u8, argument: u8, rest: &[u8]) -> usize
-    ensures { result ≡ length_by kind argument rest.now }
+// The same of a kind that carries no other entry; of one that does, none.
+#[tactic(auto, unfolding(crate::specs::search::Lengths::length_by))]
+fn length_by(kind: EntryKind, argument: u8, rest: &[u8]) -> Option<usize>
+    ensures value { unwrap_or result 0 ≡ length_by (number kind) argument rest.now }
+    ensures some { IfSome result (λ n. 0 < n) }
 {
-    if kind == WIN {
-        return win_length(argument, rest);
+    match kind {
+        EntryKind::Riichi | EntryKind::Draw | EntryKind::Chombo => Some(1),
+        EntryKind::Win => win_length(argument, rest),
+        EntryKind::MultiRon => multi_ron_length(argument, rest),
+        EntryKind::Pao => pao_length(argument, rest),
+        EntryKind::Correction => None,
     }
-    if kind == MULTI_RON {
-        return multi_ron_length(argument, rest);
-    }
-    if kind == PAO {
-        return pao_length(argument, rest);
-    }
-    let above = CHOMBO < kind;
-    if above {
-        return 0;
-    }
-    1
 }
 
 // The same of a correction: the replacing entry follows, a win, a draw, a chombo or a multiple ron.
-fn correction_length(argument: u8, rest: &[u8]) -> usize
-    ensures { result ≡ correction_length argument rest.now }
+fn correction_length(outer: u8, rest: &[u8]) -> Option<usize>
+    ensures value { unwrap_or result 0 ≡ correction_length outer rest.now }
+    ensures some { IfSome result (λ n. 0 < n) }
 {
-    if argument != 0 {
-        return 0;
+    if outer != 0 {
+        return None;
     }
-    if rest.len() == 0 {
-        return 0;
+    let (&header, inner) = rest.split_first()?;
+    let k = EntryKind::try_from(kind(header)).ok()?;
+    if !k.is_result() {
+        return None;
     }
-    let header = rest[0];
-    let k = kind(header);
-    if k < WIN {
-        return 0;
-    }
-    let above = MULTI_RON < k;
-    if above {
-        return 0;
-    }
-    with_header(length_by(k, header % 16, &rest[1..]))
+    Some(length_by(k, argument(header), inner)? + 1)
 }
 
-// How many bytes the entry has that bytes start with, 0 where there is none.
-fn entry_length(s: &[u8]) -> usize
-    ensures { result ≡ entry_length s.now }
+// How many bytes the entry has that bytes start with; none where they start with none.
+#[tactic(auto, unfolding(crate::specs::search::Lengths::entry_length, crate::specs::search::Lengths::length_by))]
+fn entry_length(s: &[u8]) -> Option<usize>
+    ensures value { unwrap_or result 0 ≡ entry_length s.now }
+    ensures some { IfSome result (λ n. 0 < n) }
 {
-    if s.len() == 0 {
-        return 0;
+    let (&header, rest) = s.split_first()?;
+    match EntryKind::try_from(kind(header)).ok()? {
+        EntryKind::Correction => correction_length(argument(header), rest),
+        k => length_by(k, argument(header), rest),
     }
-    let header = s[0];
-    let k = kind(header);
-    if k == CORRECTION {
-        return correction_length(argument(header), &s[1..]);
-    }
-    length_by(k, argument(header), &s[1..])
 }
 
-// Next entry: the part of the log that the entry at an offset takes, its header first. The part is empty where there is no entry;
-// `refusal_at` then tells 14 from the log's end.
-pub fn next_entry(log: &[u8], at: usize) -> &[u8]
-    ensures { result.now ≡ part_at log.now at }
+// Next entry: the part of the log that the entry at an offset takes, its header first. Past the log's end there is none; where bytes are left and they
+// start with no entry it is refused with 14.
+pub fn next_entry(log: &[u8], at: usize) -> Result<Option<&[u8]>, Refusal>
+    ensures part { part_given result ≡ part_at log.now at }
+    ensures refusal { refusal_in result ≡ refusal_at log.now at }
+    ensures some { IfOk result (λ given. IfSome given (λ p. 0 < length p.now)) }
+    ensures err { IfErr result (λ r. r ≡ Refusal.Entry) }
 {
     if log.len() <= at {
-        return &log[..0];
+        return Ok(None);
     }
-    let n = entry_length(&log[at..]);
+    let Some(n) = entry_length(&log[at..]) else {
+        return Err(Refusal::Entry);
+    };
     let end = at + n;
-    &log[at..end]
-}
-
-// 14 where bytes are left at an offset and they start with no entry; 0 at an entry and at the log's end.
-pub fn refusal_at(log: &[u8], at: usize) -> u8
-    ensures { result ≡ refusal_at log.now at }
-{
-    if at >= log.len() {
-        return 0;
-    }
-    let n = entry_length(&log[at..]);
-    if n == 0 {
-        return 14;
-    }
-    0
+    Ok(Some(&log[at..end]))
 }

@@ -7,6 +7,7 @@ ghost use Rattle.log_walk.specs.Walk.{printed_text};
 use std::io;
 
 // Prints bytes, unless the output has failed before.
+// stays beside the length, not in its place: what `tally` promises of the length holds where the output fails too
 fn put<R: Print>(rt: &R, before: io::Result<()>, bytes: &[u8]) -> io::Result<()> {
     before?;
     rt.write_all(bytes)
@@ -21,6 +22,7 @@ fn print_log<R: Print>(rt: &R, s: &[u8]) -> (usize, io::Result<()>)
     let mut w = log_walk::start();
     let mut printed = 0usize;
     let mut written = Ok(());
+    // stays a loop: a buffer is seen to be the last one when it is filled
     loop {
         let r = log_text::lines(w, s, &mut page);
         let n = r.written;
@@ -29,8 +31,7 @@ fn print_log<R: Print>(rt: &R, s: &[u8]) -> (usize, io::Result<()>)
         }
         written = put(rt, written, &page[..n]);
         printed += n;
-        let v = r.walk;
-        w = v;
+        w = r.walk;
     }
 }
 

@@ -1,5 +1,8 @@
 -- A log booked in a game (01, Log): one of its entries booked, and the text that program `tally` prints.
-use Rattle.std.specs.Prelude.{◌≡◌, ◌||◌, cond, List, [], ◌∷◌, ◌++◌, ℕ, ◌+◌, ltb, eqb, length, take, drop}
+use Rattle.std.specs.Prelude.{◌≡◌, ◌||◌, cond, List, [], ◌∷◌, ◌++◌, ℕ, ◌+◌, ltb, eqb, length, take, drop, Option, None, Some, Result, Ok, Err}
+use Rattle.std.specs.Result.{result_unwrap_or}
+use Rattle.refusals.specs.declared.Refusal.{Refusal}
+use Rattle.refusals.specs.Refusal.{number, refusal_in}
 use Rattle.position.specs.declared.Position.{Position}
 use Rattle.game.specs.declared.Game.{Game}
 use Rattle.game.specs.Game.{fresh_game, game_refusal, game_after}
@@ -7,11 +10,18 @@ use Rattle.log_entry.specs.Entry.{letter_of}
 use Rattle.log_entry.specs.Next.{LogEntry, Next, end, entry, bad}
 use Rattle.log_entry.specs.Log.{next_of, entries_of}
 use Rattle.text.specs.Text.{line_of}
-use Rattle.log_walk.specs.declared.Step.{Step}
+use Rattle.log_walk.specs.declared.Step.{Step as StepInCode}
 use Rattle.log_walk.specs.declared.Walk.{Walk}
 use Rattle.log_walk.specs.declared.Printed.{Printed}
 
 -- ---- an entry booked
+
+-- its refusal, its letter, its length, header included, and the game after it; without an entry the letter and the length are 0
+pub record Step : Type 0 where
+  pub refusal : ℕ
+  pub letter : ℕ
+  pub len : ℕ
+  pub game : Game
 
 -- no entry: 0 at "end", or 14, and the game as it was
 abbrev pub no_entry : ℕ → Game → Step
@@ -28,6 +38,12 @@ step_by g bad = no_entry 14 g
 -- the entry at an offset, booked
 unfoldable pub step_of : Game → List ℕ → ℕ → Step
 step_of g log at = step_by g (next_of log at)
+
+-- what the code gives for game g says: none at the log's end, an entry, or 14
+abbrev pub told : Game → Result (Option StepInCode) Refusal → Step
+told g (Ok None) = no_entry 0 g
+told g (Ok (Some t)) = record { refusal = refusal_in t.booked; letter = t.letter; len = t.len; game = result_unwrap_or t.booked g }
+told g (Err r) = no_entry (number r) g
 
 -- the entry that bytes start with, booked as a part by itself: its refusal and the game after it; "Refusal 14" and the game as it was where they start with
 -- none

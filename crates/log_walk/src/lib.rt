@@ -1,160 +1,103 @@
 // A log booked in a game, entry by entry, and where a walk over it stands (01, Log; 02, S-6, S-8 and S-10). The public calls take all input.
 #![tactic(auto)]
 
-ghost use Rattle.std.specs.Prelude.{◌≡◌, ◌≤◌, ◌<◌, length, get_or, drop};
+ghost use Rattle.std.specs.Prelude.{◌≡◌, ◌<◌, IfOk, IfErr, IfSome};
+ghost use Rattle.std.specs.Result.{result_unwrap_or};
+ghost use Rattle.refusals.specs.Refusal.{refusal_in};
 ghost use Rattle.position.specs.Booking as Booking;
-ghost use Rattle.game.specs.Game.{booking, correction};
+ghost use Rattle.position.specs.Ledger.{Moves};
+ghost use Rattle.game.specs.Game.{booking};
 ghost use Rattle.game.specs.Runs.{Books};
-ghost use Rattle.log_entry.specs.search.Lengths.{correction_kind, kind_in, holder_in, feeder_in, yaku_in};
-ghost use Rattle.log_entry.specs.search.Found.{result_by, booking_by, entry_of};
-ghost use Rattle.log_walk.specs.Walk.{no_entry, step_of, BooksEntry, started};
+ghost use Rattle.log_entry.specs.EntryKind.{number};
+ghost use Rattle.log_entry.specs.Entry.{IsEntry};
+ghost use Rattle.log_entry.specs.search.Lengths.{holder_in, feeder_in, yaku_in};
+ghost use Rattle.log_entry.specs.search.Found.{result_by, entry_of};
+ghost use Rattle.log_walk.specs.Walk.{told, step_of, BooksEntry, started};
 
 use game::Game;
-use game_bookings::Booked;
+use log_entry::EntryKind;
+use position::Position;
+use refusals::Refusal;
 
-// An entry booked: its refusal, its letter, its length, header included, and the game after it. Where there is no entry the letter and the length are 0,
-// the refusal is 0 at the log's end and 14 otherwise, and the game is as it was.
+// An entry booked: its letter, its length, header included, and the game after it or its refusal.
+// stays a byte, its letter: it is printed
 #[derive(Clone, Copy)]
 pub struct Step {
-    pub refusal: u8,
     pub letter: u8,
     pub len: usize,
-    pub game: Game,
-}
-
-// The first of some bytes, 0 where there is none.
-fn first(s: &[u8]) -> u8
-    ensures { result ≡ get_or s.now 0 0 }
-{
-    if s.len() == 0 {
-        return 0;
-    }
-    s[0]
+    pub booked: Result<Game, Refusal>,
 }
 
 // Pao, by the byte after the header.
-fn book_pao(g: Game, s: &[u8]) -> Booked
-    ensures { Books g (booking (Booking.pao (holder_in s.now) (feeder_in s.now) (yaku_in s.now))) result.refusal result.game }
+fn book_pao(g: Game, s: &[u8]) -> Result<Game, Refusal>
+    ensures { Books g (booking (Booking.pao (holder_in s.now) (feeder_in s.now) (yaku_in s.now))) (refusal_in result) (result_unwrap_or result g) }
 {
-    let b = first(s);
-    let holder = log_entry::holder(b);
-    let feeder = log_entry::feeder(b);
-    let yaku = log_entry::yaku(b);
-    game_bookings::pao(g, holder, feeder, yaku)
+    let byte = s.first().copied().unwrap_or(0);
+    let holder = log_entry::holder(byte);
+    let feeder = log_entry::feeder(byte);
+    game_bookings::pao(g, holder, feeder, log_entry::yaku(byte))
 }
 
-// The result of a kind, by its argument and the bytes after the header. These are a win's record, or all records of a multiple ron.
-fn book_result(g: Game, kind: u8, argument: u8, s: &[u8]) -> Booked
-    ensures { Books g (booking (Booking.result (result_by kind argument s.now))) result.refusal result.game }
+// The result of a kind in a position, by its argument and the bytes after the header. These are a win's record, or all records of a multiple ron.
+fn book_result(p: Position, kind: EntryKind, argument: u8, s: &[u8]) -> Result<Position, Refusal>
+    ensures { Moves p (Booking.result (result_by (number kind) argument s.now)) (refusal_in result) (result_unwrap_or result p) }
 {
-    if kind == log_entry::WIN {
-        return game_bookings::win(g, s);
+    match kind {
+        EntryKind::Win => position_win::win(p, s),
+        EntryKind::Draw => position_bookings::draw(p, argument),
+        EntryKind::MultiRon => position_multi_ron::multi_ron(p, argument, s),
+        _ => position_bookings::chombo(p, argument),
     }
-    if kind == log_entry::DRAW {
-        return game_bookings::draw(g, argument);
-    }
-    if kind == log_entry::MULTI_RON {
-        return game_bookings::multi_ron(g, argument, s);
-    }
-    game_bookings::chombo(g, argument)
-}
-
-// The booking of a kind: riichi, pao or a result.
-fn book_booking(g: Game, kind: u8, argument: u8, s: &[u8]) -> Booked
-    ensures { Books g (booking (booking_by kind argument s.now)) result.refusal result.game }
-{
-    if kind == log_entry::RIICHI {
-        return game_bookings::riichi(g, argument);
-    }
-    if kind == log_entry::PAO {
-        return book_pao(g, s);
-    }
-    book_result(g, kind, argument, s)
-}
-
-// The correction by the result of a kind.
-fn book_correction(g: Game, kind: u8, argument: u8, s: &[u8]) -> Booked
-    ensures { Books g (correction (result_by kind argument s.now)) result.refusal result.game }
-{
-    if kind == log_entry::WIN {
-        return game_bookings::correct_win(g, s);
-    }
-    if kind == log_entry::DRAW {
-        return game_bookings::correct_draw(g, argument);
-    }
-    if kind == log_entry::MULTI_RON {
-        return game_bookings::correct_multi_ron(g, argument, s);
-    }
-    game_bookings::correct_chombo(g, argument)
 }
 
 // An entry's bytes, booked. A correction's result stands in the entry after its header.
-fn book_part(g: Game, part: &[u8]) -> Booked
-    requires { (0 < length part.now) × (kind_in part.now ≡ correction_kind → 0 < length (drop 1 part.now)) }
-    ensures { Books g (entry_of part.now) result.refusal result.game }
+fn book_part(g: Game, part: &[u8]) -> Result<Game, Refusal>
+    requires { IsEntry part.now (entry_of part.now) }
+    ensures { Books g (entry_of part.now) (refusal_in result) (result_unwrap_or result g) }
 {
-    let end = part.len();
     let header = part[0];
-    let kind = log_entry::kind(header);
-    if kind == log_entry::CORRECTION {
-        let inner = part[1];
-        return book_correction(
-            g,
-            log_entry::kind(inner),
-            log_entry::argument(inner),
-            &part[2..end],
-        );
-    }
-    book_booking(g, kind, log_entry::argument(header), &part[1..end])
-}
-
-// No entry: the game stays.
-fn no_entry(g: Game, refusal: u8) -> Step
-    ensures { result ≡ no_entry refusal g }
-{
-    Step {
-        refusal,
-        letter: 0,
-        len: 0,
-        game: g,
+    let kind = EntryKind::try_from(log_entry::kind(header))?;
+    match kind {
+        EntryKind::Riichi => game_bookings::riichi(g, log_entry::argument(header)),
+        EntryKind::Pao => book_pao(g, &part[1..]),
+        EntryKind::Correction => {
+            let inner = part[1];
+            let kind = EntryKind::try_from(log_entry::kind(inner))?;
+            let argument = log_entry::argument(inner);
+            let rest = &part[2..];
+            game_bookings::correct(g, |p| book_result(p, kind, argument, rest))
+        }
+        _ => {
+            let argument = log_entry::argument(header);
+            let rest = &part[1..];
+            game_bookings::finish(g, |p| book_result(p, kind, argument, rest))
+        }
     }
 }
 
-// Books the entry at an offset of a log.
-pub fn book_at(g: Game, s: &[u8], at: usize) -> Step
-    ensures { result ≡ step_of g s.now at }
+// Books the entry at an offset of a log. Past the log's end there is none; where bytes are left and they start with no entry it is refused with 14.
+pub fn book_at(g: Game, s: &[u8], at: usize) -> Result<Option<Step>, Refusal>
+    ensures value { told g result ≡ step_of g s.now at }
+    ensures some { IfOk result (λ step. IfSome step (λ t. 0 < t.len)) }
+    ensures err { IfErr result (λ r. r ≡ Refusal.Entry) }
 {
-    let part = log_entry::next_entry(s, at);
-    let end = part.len();
-    if end == 0 {
-        return no_entry(g, log_entry::refusal_at(s, at));
-    }
-    let header = part[0];
-    let b = book_part(g, part);
-    let after = b.game;
-    Step {
-        refusal: b.refusal,
-        letter: log_entry::letter(log_entry::kind(header)),
-        len: end,
-        game: after,
-    }
+    let Some(part) = log_entry::next_entry(s, at)? else {
+        return Ok(None);
+    };
+    Ok(Some(Step {
+        letter: log_entry::letter(log_entry::kind(part[0])),
+        len: part.len(),
+        booked: book_part(g, part),
+    }))
 }
 
 // Books the entry that bytes start with, as a part that Next entry hands back; 14 where they start with none.
-pub fn book_entry(g: Game, s: &[u8]) -> Booked
-    ensures { BooksEntry g s.now result.refusal result.game }
+pub fn book_entry(g: Game, s: &[u8]) -> Result<Game, Refusal>
+    ensures { BooksEntry g s.now (refusal_in result) (result_unwrap_or result g) }
 {
-    let t = book_at(g, s, 0);
-    let after = t.game;
-    if t.len == 0 {
-        return Booked {
-            refusal: 14,
-            game: after,
-        };
-    }
-    Booked {
-        refusal: t.refusal,
-        game: after,
+    match book_at(g, s, 0)? {
+        Some(step) => step.booked,
+        None => Err(Refusal::Entry),
     }
 }
 
@@ -171,9 +114,8 @@ pub struct Walk {
 pub fn start() -> Walk
     ensures { result ≡ started }
 {
-    let game = game_bookings::fresh_game();
     Walk {
-        game,
+        game: game_bookings::fresh_game(),
         entry: 1,
         at: 0,
     }

@@ -7,6 +7,9 @@ ghost use Rattle.points.specs.Points.{pays as pays_of, gain as gain_of, changes 
 
 use units::{Fu, Han, Points};
 
+// The seats in turn order.
+const SEATS: [u8; 4] = [0, 1, 2, 3];
+
 // Who won, who deals, and who discarded the winning tile.
 #[derive(Clone, Copy)]
 pub struct Seats {
@@ -15,60 +18,44 @@ pub struct Seats {
     pub discarder: u8,
 }
 
-// Han as a number to shift by.
-fn wide_han(h: Han) -> u32
-    ensures { result ≡ h.0 }
-{
-    h.0 as u32
-}
-
-// Fu as a number that is shifted.
-fn wide_fu(f: Fu) -> u32
-    ensures value { result ≡ f.0 }
-    ensures upper_bound { result < 256 }
-{
-    f.0 as u32
-}
-
 // Fu times 2 to the (h + 2).
+#[tactic(auto, unfolding(crate::specs::Points::plain))]
 fn plain(h: Han, f: Fu) -> Points
     requires { h.0 < 5 }
     ensures { result.0 ≡ plain_of h.0 f.0 }
 {
-    let n = wide_han(h);
-    Points(wide_fu(f) << (n + 2))
+    Points(u32::from(f.0) << (h.0 + 2))
 }
 
 // What A is where h is 5 or more, or A exceeds 2,000.
+#[tactic(auto, unfolding(crate::specs::Points::limit))]
 fn limit(h: Han) -> Points
     ensures result_value { result.0 ≡ limit_of h.0 }
     ensures result_bound { result.0 ≤ 6000 }
 {
-    if h.0 <= 5 {
-        Points(2000)
-    } else if h.0 <= 7 {
-        Points(3000)
-    } else if h.0 <= 10 {
-        Points(4000)
-    } else {
-        Points(6000)
-    }
+    Points(match h.0 {
+        0..=5 => 2000,
+        6..=7 => 3000,
+        8..=10 => 4000,
+        _ => 6000,
+    })
 }
 
 // A without a yakuman.
+#[tactic(auto, unfolding(crate::specs::Points::ordinary))]
 fn ordinary(h: Han, f: Fu) -> Points
     ensures result_value { result.0 ≡ ordinary_of h.0 f.0 }
     ensures result_bound { result.0 ≤ 6000 }
 {
-    let n = h.0;
-    if 5 <= n {
+    if 5 <= h.0 {
         return limit(h);
     }
-    let a = plain(h, f).0;
-    if 2000 < a { limit(h) } else { Points(a) }
+    let a = plain(h, f);
+    if 2000 < a.0 { limit(h) } else { a }
 }
 
 // The basic points A that payments are multiples of: by h and fu up to the limits, 8,000 with a yakuman.
+#[tactic(auto, unfolding(crate::specs::Points::basic))]
 pub fn basic(yakuman: bool, h: Han, f: Fu) -> Points
     ensures result_value { result.0 ≡ basic_of yakuman h.0 f.0 }
     ensures result_bound { result.0 ≤ 8000 }
@@ -81,6 +68,7 @@ pub fn basic(yakuman: bool, h: Han, f: Fu) -> Points
 }
 
 // A payment rounded up to hundreds.
+#[tactic(auto, unfolding(crate::specs::Points::hundreds))]
 fn hundreds(p: Points) -> Points
     requires { p.0 ≤ 48000 }
     ensures result_value { result.0 ≡ hundreds_of p.0 }
@@ -90,22 +78,23 @@ fn hundreds(p: Points) -> Points
 }
 
 // How many times A a seat pays.
+#[tactic(auto, unfolding(crate::specs::Points::times_a))]
 fn times_a(s: Seats, ron: bool, seat: u8) -> u32
     ensures value { result ≡ times_a s ron seat }
     ensures upper_bound { result ≤ 6 }
 {
-    let winner = s.winner;
-    let dealer = s.dealer;
-    let discarder = s.discarder;
-    if winner == seat {
+    let by_dealer = s.winner == s.dealer;
+    if s.winner == seat {
         0
     } else if ron {
-        if discarder == seat {
-            if winner == dealer { 6 } else { 4 }
-        } else {
+        if s.discarder != seat {
             0
+        } else if by_dealer {
+            6
+        } else {
+            4
         }
-    } else if (winner == dealer) | (dealer == seat) {
+    } else if by_dealer | (s.dealer == seat) {
         2
     } else {
         1
@@ -113,25 +102,23 @@ fn times_a(s: Seats, ron: bool, seat: u8) -> u32
 }
 
 // What a seat pays for a win of basic points a.
+#[tactic(auto, unfolding(crate::specs::Points::pays))]
 fn pays(s: Seats, ron: bool, a: Points, seat: u8) -> Points
     requires { a.0 ≤ 8000 }
     ensures result_value { result.0 ≡ pays_of s ron a.0 seat }
     ensures result_bound { result.0 ≤ 48000 }
 {
-    let n = a.0;
-    hundreds(Points(times_a(s, ron, seat) * n))
+    hundreds(Points(times_a(s, ron, seat) * a.0))
 }
 
 // What the winner gains for basic points a: all that the other seats pay.
+#[tactic(auto, unfolding(crate::specs::Points::gain))]
 pub fn gain(s: Seats, ron: bool, a: Points) -> Points
     requires { a.0 ≤ 8000 }
     ensures result_value { result.0 ≡ gain_of s ron a.0 }
     ensures result_bound { result.0 ≤ 192000 }
 {
-    let p0 = pays(s, ron, a, 0).0;
-    let p1 = pays(s, ron, a, 1).0;
-    let p2 = pays(s, ron, a, 2).0;
-    let p3 = pays(s, ron, a, 3).0;
+    let [p0, p1, p2, p3] = SEATS.map(|seat| pays(s, ron, a, seat).0);
     Points(p0 + p1 + p2 + p3)
 }
 
@@ -144,15 +131,11 @@ fn change(wins: bool, got: Points, paid: Points) -> i32
 }
 
 // What seats 0 to 3 get or pay for basic points a; a loss is negative, so these are no `Points`.
+#[tactic(auto, unfolding(crate::specs::Points::changes, crate::specs::Points::change))]
 pub fn changes(s: Seats, ron: bool, a: Points) -> [i32; 4]
     requires { a.0 ≤ 8000 }
     ensures { result ≡ changes_of s ron a.0 }
 {
-    let winner = s.winner;
     let got = gain(s, ron, a);
-    let c0 = change(winner == 0, got, pays(s, ron, a, 0));
-    let c1 = change(winner == 1, got, pays(s, ron, a, 1));
-    let c2 = change(winner == 2, got, pays(s, ron, a, 2));
-    let c3 = change(winner == 3, got, pays(s, ron, a, 3));
-    [c0, c1, c2, c3]
+    SEATS.map(|seat| change(s.winner == seat, got, pays(s, ron, a, seat)))
 }

@@ -24,38 +24,33 @@ pub struct Items {
 }
 
 // The fu of a triplet of simples, by its way.
+#[tactic(auto, unfolding(crate::specs::Fu::triplet_fu))]
 fn triplet_fu(way: u8) -> Fu
     ensures result_value { result.0 ≡ triplet_fu way }
     ensures result_bound { result.0 ≤ 16 }
 {
-    if way == 0 {
-        Fu(4)
-    } else if way == 1 {
-        Fu(2)
-    } else if way == 2 {
-        Fu(8)
-    } else {
-        Fu(16)
-    }
+    Fu(match way {
+        0 => 4,
+        1 => 2,
+        2 => 8,
+        _ => 16,
+    })
 }
 
 // The fu of a group: twice that for yaochu, none for a run.
+#[tactic(auto, unfolding(crate::specs::Fu::group_fu))]
 fn group_fu(c: u8, way: u8) -> Fu
     ensures value { result ≡ fu (group_fu c way) }
     ensures result_bound { result.0 ≤ 32 }
 {
-    if c < 34 {
+    if !(34..68).contains(&c) {
         return Fu(0);
     }
     let n = triplet_fu(way);
-    if c < 68 {
-        if tiles::is_yaochu(c - 34) {
-            Fu(2 * n.0)
-        } else {
-            n
-        }
+    if tiles::is_yaochu(c - 34) {
+        Fu(2 * n.0)
     } else {
-        Fu(0)
+        n
     }
 }
 
@@ -71,12 +66,11 @@ fn fu_if(b: bool, n: Fu) -> Fu
 pub fn base_alone(n: Fu) -> Items
     ensures { result ≡ base_alone n.0 }
 {
-    let group = [Fu(0); 4];
     Items {
         base: n,
         ron: Fu(0),
         pair: Fu(0),
-        group,
+        group: [Fu(0); 4],
         wait: Fu(0),
         tsumo: Fu(0),
         rounding: Fu(0),
@@ -87,12 +81,7 @@ pub fn base_alone(n: Fu) -> Items
 pub fn group_items(g: [u8; 4], ways: [u8; 4]) -> [Fu; 4]
     ensures { result ≡ items_by g ways }
 {
-    [
-        group_fu(g[0], ways[0]),
-        group_fu(g[1], ways[1]),
-        group_fu(g[2], ways[2]),
-        group_fu(g[3], ways[3]),
-    ]
+    std::array::from_fn(|i| group_fu(g[i], ways[i]))
 }
 
 // What each group earns. `all` is what they earn by their ways alone; by ron the group that the winning tile completes, at `place`, is open.
@@ -101,8 +90,7 @@ pub fn items_at(all: [Fu; 4], g: [u8; 4], ways: [u8; 4], ron: bool, place: u8) -
     ensures { result ≡ items_by g (ways_at ways ron place) }
 {
     let mut u = all;
-    if ron & (0 < place) {
-        let i = (place - 1) as usize;
+    if let Some(i) = yaku_basics::opened_by_ron(ron, place) {
         u[i] = group_fu(g[i], 1);
     }
     u
@@ -130,7 +118,8 @@ fn earned(w: Won, k: GroupTests, q: PlaceTests, p: FullReading, group: [Fu; 4]) 
     }
 }
 
-// The fu of a reading: the sum of its items.
+// The fu of a reading: the sum of its items, written out: each has its name, and a sum over the four groups alone would be no plainer.
+#[tactic(auto, unfolding(crate::specs::Fu::added))]
 pub fn added(i: Items) -> Fu
     requires { added_of i ≤ 255 }
     ensures { result.0 ≡ added_of i }
@@ -151,6 +140,7 @@ pub fn added(i: Items) -> Fu
 }
 
 // Up to tens, and an open 20 to 30.
+#[tactic(auto, unfolding(crate::specs::Fu::rounded))]
 fn rounded(closed: bool, f: Fu) -> Fu
     requires { f.0 ≤ 164 }
     ensures result_value { result.0 ≡ rounded_of closed f.0 }

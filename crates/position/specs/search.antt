@@ -3,3 +3,4 @@ pub mod Form
 pub mod After
 pub mod First
 pub mod Fines
+pub mod Feeder

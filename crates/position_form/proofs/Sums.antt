@@ -7,7 +7,7 @@ use lib.Dec.{eqb}
 use lib.IntN.{ℤ, pos, negsuc, ◌+ℤ◌, ◌*ℤ◌}
 use mir.Syntax.{w64}
 use mir.Val.{SFits, to_z, of_z}
-use mir.Facts.{to_z-of_z, to_z_pos}
+use mir.Facts.{to_z-of_z}
 use Rattle.score.proofs.laws.Z.{Within, within_add, parts_mag}
 use Rattle.position.specs.Ledger.{points_in_play, eq_z}
 use Rattle.position.proofs.laws.Form.{same_leb, sum_of}
@@ -63,8 +63,11 @@ module _ (a b c d : ℤ) (k : ℕ) (wa : Within a 2147483648) (wb : Within b 214
   fk : SFits w64 (pos (1000 * k))
   fk = record { sfits = omega arith }
 
-  k_is : to_z w64 k ≡ pos k
-  k_is = to_z_pos w64 (omega arith)
+  one_k : SFits w64 (pos k)
+  one_k = record { sfits = omega arith }
+
+  k_is : B (pos k) ≡ pos k
+  k_is = to_z-of_z one_k
 
   pub sum2 : SFits w64 (B a +ℤ B b)
   sum2 = rw (to_z-of_z fa, to_z-of_z fb) f2
@@ -75,14 +78,11 @@ module _ (a b c d : ℤ) (k : ℕ) (wa : Within a 2147483648) (wb : Within b 214
   pub sum_4 : SFits w64 (B (B (B a +ℤ B b) +ℤ B c) +ℤ B d)
   sum_4 = rw (to_z-of_z fa, to_z-of_z fb, to_z-of_z f2, to_z-of_z fc, to_z-of_z f3, to_z-of_z fd) f4
 
-  pub prod : SFits w64 (pos 1000 *ℤ to_z w64 k)
-  prod = rw k_is fk
-
-  all : B (B (B (B a +ℤ B b) +ℤ B c) +ℤ B d) +ℤ B (pos 1000 *ℤ to_z w64 k) ≡ sum_of a b c d k
+  all : B (B (B (B a +ℤ B b) +ℤ B c) +ℤ B d) +ℤ B (pos 1000 *ℤ B (pos k)) ≡ sum_of a b c d k
   all = rw (to_z-of_z fa, to_z-of_z fb, to_z-of_z f2, to_z-of_z fc, to_z-of_z f3, to_z-of_z fd, to_z-of_z f4, k_is, to_z-of_z fk)
 
-  pub sum_5 : SFits w64 (B (B (B (B a +ℤ B b) +ℤ B c) +ℤ B d) +ℤ B (pos 1000 *ℤ to_z w64 k))
+  pub sum_5 : SFits w64 (B (B (B (B a +ℤ B b) +ℤ B c) +ℤ B d) +ℤ B (pos 1000 *ℤ B (pos k)))
   sum_5 = rw all f5
 
-  pub test : eqb (of_z w64 (B (B (B (B a +ℤ B b) +ℤ B c) +ℤ B d) +ℤ B (pos 1000 *ℤ to_z w64 k))) 120000 ≡ eq_z (sum_of a b c d k) points_in_play
+  pub test : eqb (of_z w64 (B (B (B (B a +ℤ B b) +ℤ B c) +ℤ B d) +ℤ B (pos 1000 *ℤ B (pos k)))) 120000 ≡ eq_z (sum_of a b c d k) points_in_play
   test = rw all (eqb_eq_z (sum_of a b c d k) 120000 f5 (omega arith))

@@ -12,18 +12,14 @@ ghost use Rattle.position.specs.search.Amounts.{Small, paid};
 ghost use Rattle.position_moves.specs.search.Finished.{finished};
 
 use position::{LAST_HAND, Position};
-use position_form::{count_true, mark, set_marks};
+use position_form::{count_true, each_seat, feeder_index, set_marks};
 
 // The scores with what each seat is given; also what two wins give each seat.
 pub fn pay(s: [i32; 4], by: [i32; 4]) -> [i32; 4]
     requires { Small s × Small by }
     ensures { result ≡ paid s by }
 {
-    let a0 = s[0] + by[0];
-    let a1 = s[1] + by[1];
-    let a2 = s[2] + by[2];
-    let a3 = s[3] + by[3];
-    [a0, a1, a2, a3]
+    each_seat(|i| s[i] + by[i])
 }
 
 // The deal is South's seat 3's: the last of the game.
@@ -57,21 +53,17 @@ pub fn finish(p: Position, by: [i32; 4], sticks: u32, passes: bool, counter: u32
     requires { Open p × Small by }
     ensures { result ≡ finished p by sticks passes counter }
 {
-    let s = p.scores;
-    let scores = pay(s, by);
-    let declared = [0u8, 0, 0, 0];
-    let feeders = [0u8, 0, 0, 0, 0, 0, 0, 0];
     let hands = p.hands + 1;
     Position {
-        scores,
+        scores: pay(p.scores, by),
         sticks,
-        declared,
+        declared: [0; 4],
         dealer: next_dealer(p, passes),
         wind: next_wind(p, passes),
         hands,
-        over: mark((passes & is_last(p)) | (hands == LAST_HAND)),
+        over: u8::from((passes & is_last(p)) | (hands == LAST_HAND)),
         counter,
-        feeders,
+        feeders: [0; 8],
     }
 }
 
@@ -80,8 +72,7 @@ pub fn penalise(p: Position, f: [bool; 4]) -> Position
     requires { Open p }
     ensures { result ≡ applied p (chombo_of p (λ i. get_or f i false)) }
 {
-    let d = p.declared;
-    let b = set_marks(d);
+    let b = set_marks(p.declared);
     let by = position_payments::penalties(f, b);
     finish(p, by, p.sticks - count_true(b), false, p.counter)
 }
@@ -90,12 +81,7 @@ pub fn penalise(p: Position, f: [bool; 4]) -> Position
 fn declare(d: [u8; 4], seat: u8) -> [u8; 4]
     ensures { result ≡ tabulate 4 0 (λ i. mark (eqb i seat || is_set (get_or d i 0))) }
 {
-    [
-        mark((0 == seat) | (0 < d[0])),
-        mark((1 == seat) | (0 < d[1])),
-        mark((2 == seat) | (0 < d[2])),
-        mark((3 == seat) | (0 < d[3])),
-    ]
+    each_seat(|i| u8::from((i == usize::from(seat)) | (0 < d[i])))
 }
 
 // The seat declares, and puts a stick on the table.
@@ -103,21 +89,12 @@ pub fn put_stick(p: Position, seat: u8) -> Position
     requires { Open p }
     ensures { result ≡ applied p (effect_of p (Booking.riichi seat)) }
 {
-    let s = p.scores;
-    let scores = pay(s, position_payments::stakes(seat));
-    let d = p.declared;
-    let declared = declare(d, seat);
-    let feeders = p.feeders;
     Position {
-        scores,
+        scores: pay(p.scores, position_payments::stakes(seat)),
         sticks: p.sticks + 1,
-        declared,
-        dealer: p.dealer,
-        wind: p.wind,
-        hands: p.hands,
+        declared: declare(p.declared, seat),
         over: 0,
-        counter: p.counter,
-        feeders,
+        ..p
     }
 }
 
@@ -125,45 +102,31 @@ pub fn put_stick(p: Position, seat: u8) -> Position
 fn marks(d: [u8; 4]) -> [u8; 4]
     ensures { result ≡ tabulate 4 0 (λ i. mark (is_set (get_or d i 0))) }
 {
-    [
-        mark(0 < d[0]),
-        mark(0 < d[1]),
-        mark(0 < d[2]),
-        mark(0 < d[3]),
-    ]
+    each_seat(|i| u8::from(0 < d[i]))
 }
 
 // The feeders with the one of the holder's yaku set.
+// stays numbers: a booking names seats and yaku so, and has tested them
 fn named(f: [u8; 8], holder: u8, feeder: u8, yaku: u8) -> [u8; 8]
     requires { (holder ≤ 3) × (feeder ≤ 3) × (28 ≤ yaku) × (yaku ≤ 29) }
     ensures { result ≡ set f (feeder_index holder yaku) (1 + feeder) }
 {
     let mut n = f;
-    let i = (4 * (yaku - 28) + holder) as usize;
-    n[i] = 1 + feeder;
+    n[feeder_index(holder, yaku)] = 1 + feeder;
     n
 }
 
 // The holder's yaku has a feeder from now on.
+// stays numbers: a booking names seats and yaku so, and has tested them
 pub fn name_feeder(p: Position, holder: u8, feeder: u8, yaku: u8) -> Position
     requires { Open p × (holder ≤ 3) × (feeder ≤ 3) × (28 ≤ yaku) × (yaku ≤ 29) }
     ensures { result ≡ applied p (effect_of p (Booking.pao holder feeder yaku)) }
 {
-    let s = p.scores;
-    let scores = pay(s, [0i32, 0, 0, 0]);
-    let d = p.declared;
-    let declared = marks(d);
-    let f = p.feeders;
-    let feeders = named(f, holder, feeder, yaku);
     Position {
-        scores,
-        sticks: p.sticks,
-        declared,
-        dealer: p.dealer,
-        wind: p.wind,
-        hands: p.hands,
+        scores: pay(p.scores, [0; 4]),
+        declared: marks(p.declared),
         over: 0,
-        counter: p.counter,
-        feeders,
+        feeders: named(p.feeders, holder, feeder, yaku),
+        ..p
     }
 }

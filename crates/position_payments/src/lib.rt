@@ -1,16 +1,20 @@
 // What a riichi, a draw, a chombo and a win give each of the four seats, or take (01, Ledger; 02, S-5, S-7 and S-8). No sum wraps.
 #![tactic(auto)]
 
-ghost use Rattle.std.specs.Prelude.{◌≡◌, true, false, ◌||◌, cond, ◌+◌, ◌-◌, ◌*◌, ◌/◌, ◌≤◌, eqb, pos, neg_ℤ, ◌+ℤ◌, get_or};
+ghost use Rattle.std.specs.Prelude.{◌≡◌, false, ◌||◌, cond, Some, is_some, unwrap_or, ◌+◌, ◌-◌, ◌*◌, ◌/◌, ◌≤◌, eqb, pos, neg_ℤ, ◌+ℤ◌, get_or};
+ghost use Rattle.std.specs.Option.{ForSome};
 ghost use Rattle.tiles.specs.Below.{count, tabulate};
 ghost use Rattle.score.specs.search.Parts.{Within};
-ghost use Rattle.position.specs.Ledger.{last_hand, is_set, paid_by_others, whole_of, share_of, fine_of};
+ghost use Rattle.position.specs.Ledger.{last_hand, paid_by_others, whole_of, share_of, fine_of};
 ghost use Rattle.position.specs.search.Amounts.{amount, most_change, most_sticks, most_gift, Small, Changes, Gifts};
 ghost use Rattle.position.specs.search.Fines.{fined_by};
 ghost use Rattle.position_payments.specs.search.Parts.{pao_pays, repeat_pays};
 
+mod parties;
+
+pub use parties::Parties;
 use points::Seats;
-use position_form::count_true;
+use position_form::{count_true, each_seat};
 use units::Points;
 
 // Points that a seat gets.
@@ -40,12 +44,7 @@ fn stake(pays: bool) -> i32
 pub fn stakes(seat: u8) -> [i32; 4]
     ensures { (result ≡ tabulate 4 0 (λ i. cond (eqb i seat) (neg_ℤ (pos 1000)) (pos 0))) × Small result }
 {
-    [
-        stake(0 == seat),
-        stake(1 == seat),
-        stake(2 == seat),
-        stake(3 == seat),
-    ]
+    each_seat(|i| stake(i == usize::from(seat)))
 }
 
 // What a draw with n seats ready gives a seat that is ready, or is not.
@@ -68,12 +67,7 @@ pub fn shares(b: [bool; 4]) -> [i32; 4]
     ensures { (result ≡ tabulate 4 0 (λ i. share_of (count 4 (λ j. get_or b j false)) (get_or b i false))) × Small result }
 {
     let n = count_true(b);
-    [
-        share(n, b[0]),
-        share(n, b[1]),
-        share(n, b[2]),
-        share(n, b[3]),
-    ]
+    each_seat(|i| share(n, b[i]))
 }
 
 // What a chombo of n seats gives a seat that is one of them, or is not.
@@ -108,12 +102,7 @@ pub fn penalties(f: [bool; 4], d: [bool; 4]) -> [i32; 4]
     ensures { (result ≡ tabulate 4 0 (λ i. fine_of (λ j. get_or f j false) i +ℤ cond (get_or d i false) (pos 1000) (pos 0))) × Small result }
 {
     let n = count_true(f);
-    [
-        penalty(n, f[0], d[0]),
-        penalty(n, f[1], d[1]),
-        penalty(n, f[2], d[2]),
-        penalty(n, f[3], d[3]),
-    ]
+    each_seat(|i| penalty(n, f[i], d[i]))
 }
 
 // The amount where the seat owes it, else none.
@@ -138,16 +127,14 @@ fn addition(wins: bool, alone: bool, pays: bool, n: u32) -> i32
 }
 
 // What n repeat counters give each seat at a win: the payer alone, or all others, pay more, and the winner gets it.
-fn additions(winner: u8, payer: u8, alone: bool, n: u32) -> [i32; 4]
-    requires { (winner ≤ 3) × (payer ≤ 3) × (alone ≡ true → winner ≡ payer → ⊥) × (n ≤ last_hand) }
-    ensures { (result ≡ tabulate 4 0 (paid_by_others winner (repeat_pays payer alone n))) × Changes result }
+// stays numbers: what it pays goes by no other field of the parties
+pub fn additions(winner: u8, payer: Option<u8>, n: u32) -> [i32; 4]
+    requires { (winner ≤ 3) × ForSome payer (λ x. (x ≤ 3) × (winner ≡ x → ⊥)) × (n ≤ last_hand) }
+    ensures { (result ≡ tabulate 4 0 (paid_by_others winner (repeat_pays (unwrap_or payer 0) (is_some payer) n))) × Changes result }
 {
-    [
-        addition(0 == winner, alone, 0 == payer, n),
-        addition(1 == winner, alone, 1 == payer, n),
-        addition(2 == winner, alone, 2 == payer, n),
-        addition(3 == winner, alone, 3 == payer, n),
-    ]
+    let alone = payer.is_some();
+    let payer = usize::from(payer.unwrap_or(0));
+    each_seat(|i| addition(i == usize::from(winner), alone, i == payer, n))
 }
 
 // What a yakuman gives the winner, the dealer or a child.
@@ -183,53 +170,56 @@ fn pao_given(wins: bool, owes: Points, whole: Points) -> i32
 }
 
 // What article 67 gives each seat, by ron or not: feeder and discarder pay the winner the whole.
-fn pao_gives(s: Seats, ron: bool, feeder: u8) -> [i32; 4]
-    requires { (s.winner ≤ 3) × (s.discarder ≤ 3) × (ron ≡ true → s.winner ≡ s.discarder → ⊥) × (feeder ≤ 3) × (s.winner ≡ feeder → ⊥) }
-    ensures { (result ≡ tabulate 4 0 (paid_by_others s.winner (pao_pays s.discarder feeder ron (whole_of (eqb s.winner s.dealer))))) × Changes result }
+// stays a number: the feeder, taken out of the parties
+fn pao_gives(p: Parties, feeder: u8) -> [i32; 4]
+    requires { (feeder ≤ 3) × (p.seats.winner ≡ feeder → ⊥) }
+    ensures { (result ≡ tabulate 4 0 (paid_by_others p.seats.winner (pao_pays p.seats.discarder feeder p.ron (whole_of (eqb p.seats.winner p.seats.dealer))))) × Changes result }
 {
-    let w = s.winner;
-    let d = s.discarder;
-    let whole = whole_of(w == s.dealer);
-    [
-        pao_given(0 == w, owed(ron, 0 == feeder, 0 == d, whole), whole),
-        pao_given(1 == w, owed(ron, 1 == feeder, 1 == d, whole), whole),
-        pao_given(2 == w, owed(ron, 2 == feeder, 2 == d, whole), whole),
-        pao_given(3 == w, owed(ron, 3 == feeder, 3 == d, whole), whole),
-    ]
+    let Seats {
+        winner,
+        dealer,
+        discarder,
+    } = p.seats;
+    let whole = whole_of(winner == dealer);
+    each_seat(|i| {
+        let feeds = i == usize::from(feeder);
+        let discards = i == usize::from(discarder);
+        pao_given(
+            i == usize::from(winner),
+            owed(p.ron, feeds, discards, whole),
+            whole,
+        )
+    })
 }
 
-// What each seat gets or pays of the winner's gain: the changes c, or by article 67 with pao; liable is 0, or 1 + the feeder.
-pub fn won(s: Seats, ron: bool, c: [i32; 4], liable: u8) -> [i32; 4]
-    requires { (s.winner ≤ 3) × (s.discarder ≤ 3) × (ron ≡ true → s.winner ≡ s.discarder → ⊥) × (liable ≤ 4) × (liable ≡ 1 + s.winner → ⊥) × Changes c }
-    ensures { (result ≡ cond (is_set liable) (tabulate 4 0 (paid_by_others s.winner (pao_pays s.discarder (liable - 1) ron (whole_of (eqb s.winner s.dealer))))) c) × Changes result }
+// What each seat gets or pays of the winner's gain: the changes c, or by article 67 with pao.
+pub fn won(p: Parties, c: [i32; 4]) -> [i32; 4]
+    requires { Changes c }
+    ensures { (result ≡ cond (is_some p.feeder) (tabulate 4 0 (paid_by_others p.seats.winner (pao_pays p.seats.discarder (unwrap_or p.feeder 0) p.ron (whole_of (eqb p.seats.winner p.seats.dealer))))) c) × Changes result }
 {
-    if 0 < liable {
-        return pao_gives(s, ron, liable - 1);
+    match p.feeder {
+        Some(feeder) => pao_gives(p, feeder),
+        None => c,
     }
-    c
-}
-
-// The feeder that liable names, 0 where it names none.
-fn feeder_of(liable: u8) -> u8
-    ensures { result ≡ liable - 1 }
-{
-    if 0 < liable { liable - 1 } else { 0 }
 }
 
 // Who pays the counters, where one seat does: the discarder on ron, else the feeder.
-fn payer_of(ron: bool, discarder: u8, feeder: u8) -> u8
-    ensures { result ≡ cond ron discarder feeder }
+fn payer_of(p: Parties) -> Option<u8>
+    ensures { result ≡ cond p.ron (Some p.seats.discarder) p.feeder }
 {
-    if ron { discarder } else { feeder }
+    if p.ron {
+        Some(p.seats.discarder)
+    } else {
+        p.feeder
+    }
 }
 
 // What n repeat counters give each seat at a win: all others pay them on tsumo, the discarder alone on ron, and the feeder alone on tsumo with pao.
-pub fn added(s: Seats, ron: bool, liable: u8, n: u32) -> [i32; 4]
-    requires { (s.winner ≤ 3) × (s.discarder ≤ 3) × (ron ≡ true → s.winner ≡ s.discarder → ⊥) × (liable ≤ 4) × (liable ≡ 1 + s.winner → ⊥) × (n ≤ last_hand) }
-    ensures { (result ≡ tabulate 4 0 (paid_by_others s.winner (repeat_pays (cond ron s.discarder (liable - 1)) (ron || is_set liable) n))) × Changes result }
+pub fn added(p: Parties, n: u32) -> [i32; 4]
+    requires { n ≤ last_hand }
+    ensures { (result ≡ tabulate 4 0 (paid_by_others p.seats.winner (repeat_pays (cond p.ron p.seats.discarder (unwrap_or p.feeder 0)) (p.ron || is_some p.feeder) n))) × Changes result }
 {
-    let payer = payer_of(ron, s.discarder, feeder_of(liable));
-    additions(s.winner, payer, ron | (0 < liable), n)
+    additions(p.seats.winner, payer_of(p), n)
 }
 
 // What a win gives a seat: its change, what the counters add, and the sticks if it wins.
@@ -250,10 +240,5 @@ pub fn winnings(c: [i32; 4], a: [i32; 4], winner: u8, sticks: u32) -> [i32; 4]
     requires { Changes c × Changes a × (sticks ≤ most_sticks) }
     ensures { (result ≡ tabulate 4 0 (λ i. get_or c i (pos 0) +ℤ get_or a i (pos 0) +ℤ cond (eqb i winner) (pos (1000 * sticks)) (pos 0))) × Gifts result }
 {
-    [
-        winning(c[0], a[0], 0 == winner, sticks),
-        winning(c[1], a[1], 1 == winner, sticks),
-        winning(c[2], a[2], 2 == winner, sticks),
-        winning(c[3], a[3], 3 == winner, sticks),
-    ]
+    each_seat(|i| winning(c[i], a[i], i == usize::from(winner), sticks))
 }

@@ -6,7 +6,8 @@ ghost use Rattle.reading.specs.Reading.{of_shape};
 
 // A reading: shape 0 regular, 1 seven pairs, 2 thirteen orphans. groups: the 4 - m codes in order, then 68 in each place that a meld takes.
 // A shape without a pair has pair 34; place 0 is the pair, i + 1 the group at i.
-#[derive(Clone, Copy)]
+// All four stay numbers: `key_of` and `IsReading` of specs/ hold them, and C is given them (include/herbassolh.h).
+#[derive(Clone, Copy, PartialEq, Eq)]
 pub struct Reading {
     pub shape: u8,
     pub pair: u8,

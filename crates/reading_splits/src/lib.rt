@@ -5,21 +5,6 @@ ghost use Rattle.std.specs.Prelude.{◌≡◌, true, false, ◌↔◌, suc, ◌-
 ghost use Rattle.reading_splits.specs.Splits.{Splits};
 ghost use Rattle.reading_splits.specs.search.SplitsInto.{lowest as lowest_of, splits_into};
 
-// The lowest kind, not below `from`, that the tally has, or 34.
-fn lowest(t: &[u8; 34], from: u8) -> u8
-    requires { (from ≤ 34) × (length t.now ≡ 34) }
-    ensures { (result ≡ lowest_of (34 - from) from t.now) × (result ≤ 34) }
-{
-    let mut k = from;
-    while k < 34 {
-        if t[k as usize] != 0 {
-            return k;
-        }
-        k += 1;
-    }
-    k
-}
-
 // The tally is so many groups. The lowest tile, which is not below `from`, is in a triplet where there are three of it, else in a run.
 fn is_groups(t: [u8; 34], from: u8, pieces: usize) -> bool
     requires { (from ≤ 34) × (lowest_of (34 - from) from t ≡ lowest_of 34 0 t) }
@@ -28,10 +13,9 @@ fn is_groups(t: [u8; 34], from: u8, pieces: usize) -> bool
     if pieces == 0 {
         return reading_steps::is_empty(t);
     }
-    let k = lowest(&t, from);
-    if k == 34 {
+    let Some(k) = reading_steps::next_kind(&t, from) else {
         return false;
-    }
+    };
     let three = 3 <= t[k as usize];
     if three {
         return is_groups(reading_steps::without(t, 34 + k), k, pieces - 1);
@@ -47,15 +31,12 @@ pub fn splits(t: [u8; 34], n: u8) -> bool
     ensures variant { (result ≡ true) ↔ Splits n (λ k. get_or t k 0) }
     ensures value { result ≡ splits_into (suc n) true t }
 {
-    let p = reading_steps::pairs_in(&t);
-    let mut k = p.first;
-    while k <= p.last {
-        if 2 <= t[k as usize] {
-            if is_groups(reading_steps::without_pair(t, k as usize), 0, n as usize) {
-                return true;
-            }
+    for k in reading_steps::pairs_in(&t) {
+        let k = k as usize;
+        let held = 2 <= t[k];
+        if held && is_groups(reading_steps::without_pair(t, k), 0, n as usize) {
+            return true;
         }
-        k += 3;
     }
     false
 }

@@ -2,23 +2,21 @@
 // A tally is handed over whole, and each removal gives a new one.
 #![tactic(auto)]
 
-ghost use Rattle.std.specs.Prelude.{◌≡◌, true, false, ℕ, ◌+◌, ◌*◌, ◌<◌, ◌≤◌, length, get_or};
+ghost use Rattle.std.specs.Prelude.{◌≡◌, true, false, ℕ, ◌+◌, ◌*◌, ◌-◌, ◌<◌, ◌≤◌, length, get_or, MatchOption};
 ghost use Rattle.tiles.specs.Below.{sum};
 ghost use Rattle.tiles.specs.Groups.{is_group};
 ghost use Rattle.reading.specs.Reading.{holds as holds_of, is_seven_pairs, is_orphans};
-ghost use Rattle.reading.specs.search.Readings.{is_empty, less, fits as fits_of, without as without_of, passes as passes_of};
+ghost use Rattle.std.specs.Iterator.{at_most};
+ghost use Rattle.reading.specs.search.Readings.{is_empty, less, fits as fits_of, without as without_of, passes as passes_of, NoneFrom, PassedOver};
 ghost use Rattle.reading.specs.search.Pairs.{OnlyPairs, weighed};
+
+use reading::Reading;
 
 // No tile is left.
 pub fn is_empty(t: [u8; 34]) -> bool
     ensures { result ≡ is_empty t }
 {
-    for k in 0..34 {
-        if t[k] != 0 {
-            return false;
-        }
-    }
-    true
+    t.iter().all(|&n| n == 0)
 }
 
 // The code is a group's: a run from its lowest kind, or a triplet.
@@ -80,36 +78,30 @@ pub fn passes(t: [u8; 34], code: u8) -> bool
     }
 }
 
-// The first kind from k on that has a tile, 34 where none has.
-fn next_kind(t: &[u8; 34], k: usize) -> usize
-    requires { k ≤ 34 }
-    ensures { (k ≤ result) × (result ≤ 34) × ((j : ℕ) → k ≤ j → j < result → get_or t.now j 0 ≡ 0) }
+// The first kind from k on that has a tile.
+pub fn next_kind(t: &[u8; 34], k: u8) -> Option<u8>
+    ensures { MatchOption result (NoneFrom t.now k 34) (λ i. (k ≤ i) × (i < 34) × (get_or t.now i 0 ≡ 0 → ⊥) × NoneFrom t.now k i) }
 {
-    let mut i = k;
-    while i < 34 {
-        if t[i] != 0 {
-            return i;
+    // stays a loop: with `find` Score takes 1% more
+    for i in k..34 {
+        if t[i as usize] != 0 {
+            return Some(i);
         }
-        i += 1;
     }
-    i
+    None
 }
 
-// The first code, from `code` on, whose lowest kind has a tile; 68 where no code below 68 has one. The codes passed over do not fit.
-pub fn next_code(t: &[u8; 34], code: u8) -> u8
-    ensures { (code ≤ result) × ((c : ℕ) → code ≤ c → c < result → (c < 68) × (fits_of t.now c ≡ false) × (passes_of t.now c ≡ true)) }
+// The first code, from `code` on, whose lowest kind has a tile. The codes passed over do not fit.
+pub fn next_code(t: &[u8; 34], code: u8) -> Option<u8>
+    ensures { MatchOption result (PassedOver t.now code 68) (λ c. (code ≤ c) × (c < 68) × PassedOver t.now code c) }
 {
-    if 68 <= code {
-        return code;
+    if code < 34 {
+        if let Some(k) = next_kind(t, code) {
+            return Some(k);
+        }
     }
-    if 34 <= code {
-        return (34 + next_kind(t, (code - 34) as usize)) as u8;
-    }
-    let k = next_kind(t, code as usize);
-    if k < 34 {
-        return k as u8;
-    }
-    (34 + next_kind(t, 0)) as u8
+    let k = next_kind(t, code.saturating_sub(34))?;
+    Some(34 + k)
 }
 
 // The tally without a pair.
@@ -122,17 +114,30 @@ pub fn without_pair(t: [u8; 34], k: usize) -> [u8; 34]
     u
 }
 
-fn wide(x: u8) -> u32
-    ensures { (result ≡ x) × (result < 256) }
-{
-    x as u32
-}
-
-// Kinds that may be the pair: first, first + 3, .. up to last; none where last is below first.
-#[derive(Clone, Copy)]
+// The kinds that may be the pair, one after the other: first, first + 3, .. up to last; none where last is below first.
+#[derive(Drop)]
 pub struct Pairs {
     pub first: u8,
     pub last: u8,
+}
+
+impl Iterator for Pairs {
+    type Item = u8;
+
+    ghost can_next = { λ s. s.last < 34 };
+
+    ghost next_gives = { λ s r t. MatchOption r (s.last < s.first) (λ k. (k ≡ s.first) × (k ≤ s.last) × (t.first ≡ k + 3) × (t.last ≡ s.last)) };
+
+    ghost remaining = { λ s. at_most (34 - s.first) };
+
+    fn next(&mut self) -> Option<u8> {
+        if self.last < self.first {
+            return None;
+        }
+        let k = self.first;
+        self.first += 3;
+        Some(k)
+    }
 }
 
 // The tiles of a suit, and their sum with the weights 9 to 1.
@@ -143,19 +148,20 @@ struct Suit {
 }
 
 // The tiles of a suit and their weight, the sum of the sums up to each kind.
-fn in_suit(t: &[u8; 34], s: usize) -> Suit
-    requires { s < 3 }
-    ensures { (result.tiles ≡ sum 9 (λ i. get_or t.now (9 * s + i) 0)) × (result.weight ≡ weighed (λ i. get_or t.now (9 * s + i) 0)) }
+fn in_suit(suit: &[u8]) -> Suit
+    requires { length suit.now ≡ 9 }
+    ensures { (result.tiles ≡ sum 9 (λ i. get_or suit.now i 0)) × (result.weight ≡ weighed (λ i. get_or suit.now i 0)) }
 {
-    let mut tiles: u32 = 0;
-    let mut weight: u32 = 0;
-    for i in 0..9 {
-        tiles += wide(t[9 * s + i]);
+    let mut tiles = 0;
+    let mut weight = 0;
+    for &n in suit {
+        tiles += u32::from(n);
         weight += tiles;
     }
     Suit { tiles, weight }
 }
 
+// `first` is 34 where p is still none, and 35 where none are left: an iterator that may be empty needs no Option beside it.
 // A suit or honour has `over` tiles over threes. With none over, p, the kinds so far, stay. With two, and p still none, q are the kinds. Else none are left.
 fn joined(p: Pairs, over: u32, q: Pairs) -> Pairs
     ensures { (over ≡ 0 → result ≡ p) × (over ≡ 2 → p.first ≡ 34 → result ≡ q) × (p.last < 34 → q.last < 34 → result.last < 34) }
@@ -176,7 +182,7 @@ pub fn pairs_in(t: &[u8; 34]) -> Pairs
 {
     let mut p = Pairs { first: 34, last: 0 };
     for s in 0..3 {
-        let n = in_suit(t, s);
+        let n = in_suit(&t[9 * s..9 * s + 9]);
         let first = (9 * s) as u8 + (n.weight % 3) as u8;
         let q = Pairs {
             first,
@@ -189,7 +195,7 @@ pub fn pairs_in(t: &[u8; 34]) -> Pairs
             first: k as u8,
             last: k as u8,
         };
-        p = joined(p, wide(t[k]) % 3, q);
+        p = joined(p, u32::from(t[k]) % 3, q);
     }
     p
 }
@@ -198,10 +204,10 @@ pub fn pairs_in(t: &[u8; 34]) -> Pairs
 pub fn is_seven_pairs(t: [u8; 34]) -> bool
     ensures { result ≡ is_seven_pairs t }
 {
-    let mut kinds: u8 = 0;
-    for k in 0..34 {
-        if t[k] != 0 {
-            let no_pair = t[k] != 2;
+    let mut kinds = 0u8;
+    for n in t {
+        if n != 0 {
+            let no_pair = n != 2;
             if no_pair {
                 return false;
             }
@@ -215,31 +221,26 @@ pub fn is_seven_pairs(t: [u8; 34]) -> bool
 pub fn is_orphans(t: [u8; 34]) -> bool
     ensures { result ≡ is_orphans t }
 {
-    let mut twice: u8 = 0;
-    for k in 0..34 {
-        let n = t[k];
-        if tiles::is_yaochu(k as u8) {
-            if n == 2 {
-                twice += 1;
-            } else if n != 1 {
-                return false;
-            }
-        } else if n != 0 {
-            return false;
+    let mut twice = 0u8;
+    for (k, n) in t.iter().enumerate() {
+        match (tiles::is_yaochu(k as u8), *n) {
+            (true, 2) => twice += 1,
+            (true, 1) | (false, 0) => {}
+            _ => return false,
         }
     }
     twice == 1
 }
 
-// The pair or group at a place has a tile of the kind.
-pub fn holds(pair: u8, groups: [u8; 4], place: u8, win: u8) -> bool
-    requires { place ≤ 4 }
-    ensures { result ≡ holds_of pair groups place win }
+// The pair or group at a reading's place has a tile of the kind.
+pub fn holds(r: Reading, win: u8) -> bool
+    requires { r.place ≤ 4 }
+    ensures { result ≡ holds_of r.pair r.groups r.place win }
 {
-    if place == 0 {
-        return win == pair;
+    if r.place == 0 {
+        return win == r.pair;
     }
-    let g = groups[(place - 1) as usize];
+    let g = r.groups[(r.place - 1) as usize];
     if g < 34 {
         (g == win) | (g + 1 == win) | (g + 2 == win)
     } else {

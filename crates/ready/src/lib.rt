@@ -16,6 +16,7 @@ use hand::Held;
 #[repr(C)]
 #[derive(Clone, Copy)]
 pub struct Ready {
+    // stays a byte: what C is given (include/herbassolh.h)
     pub refusal: u8,
     pub swaps: u8,
     pub hand: [u8; 13],
@@ -25,38 +26,34 @@ pub struct Ready {
 fn melds_tally(x: Held) -> [u8; 34]
     ensures { result ≡ tally_of (in_melds x) }
 {
-    let t = hand::others_tally(x);
-    let w = hand::held_tally(x);
-    let mut d = [0u8; 34];
-    for k in 0..34 {
-        d[k] = w[k] - t[k];
+    let others = hand::others_tally(x);
+    let mut melds = hand::held_tally(x);
+    for (k, n) in melds.iter_mut().enumerate() {
+        *n -= others[k];
     }
-    d
+    melds
 }
 
 // A tally as tiles in order, zeros after them.
-fn written(u: [u8; 34]) -> [u8; 13]
-    requires { sum_below 34 (λ k. get_or u k 0) ≤ 13 }
-    ensures { Written u 34 0 (sum_below 34 (λ k. get_or u k 0)) result }
+fn written(tally: [u8; 34]) -> [u8; 13]
+    requires { sum_below 34 (λ k. get_or tally k 0) ≤ 13 }
+    ensures { Written tally 34 0 (sum_below 34 (λ k. get_or tally k 0)) result }
 {
-    let mut r = [0u8; 13];
-    let mut k: usize = 0;
-    let mut j: u8 = 0;
-    let mut i: usize = 0;
-    while k < 34 {
-        if j < u[k] {
-            r[i] = k as u8;
+    let mut tiles = [0u8; 13];
+    let mut i = 0;
+    // stays a range: the number of the kind is what is written
+    for k in 0..34u8 {
+        // stays a range: a tile for each number below how many there are
+        for j in 0..tally[usize::from(k)] {
+            tiles[i] = k;
             i += 1;
-            j += 1;
-            continue;
         }
-        k += 1;
-        j = 0;
     }
-    r
+    tiles
 }
 
 // The nearest ready hand of tiles held that are not refused.
+// stays with its bound of m: a Held is what C is given and has no invariant
 fn nearest_to(x: Held) -> Ready
     requires { (x.m ≤ 4) × SameMelds x x }
     ensures { (result.refusal ≡ 0) × IsNearest x result.swaps (same_melds_with x result.hand) }
@@ -75,13 +72,12 @@ pub fn find(s: &[u8]) -> Ready
     ensures refusal_value { (result.refusal ≡ refusal_of s.now) × (result.swaps ≡ fewest_swaps s.now) }
     ensures answer { IsAnswer s.now result }
 {
-    let u = unfinished::read(s);
-    if u.refusal != 0 {
-        return Ready {
-            refusal: u.refusal,
+    match unfinished::read(s) {
+        Ok(held) => nearest_to(held),
+        Err(r) => Ready {
+            refusal: u8::from(r),
             swaps: 0,
             hand: [0u8; 13],
-        };
+        },
     }
-    nearest_to(u.held)
 }

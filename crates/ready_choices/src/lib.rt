@@ -1,10 +1,14 @@
 // A complete hand is made kind by kind: a state says what is begun and what is left to do, and each choice at a kind leads to another.
 #![tactic(auto)]
 
-ghost use Rattle.std.specs.Prelude.{◌≡◌, ℕ, ◌+◌, ◌-◌, ◌<◌, ◌≤◌, min};
+ghost use Rattle.std.specs.Prelude.{◌≡◌, ℕ, ◌+◌, ◌-◌, ◌<◌, ◌≤◌, ◌%◌};
 ghost use Rattle.ready_choices.specs.search.Moves.{choices as choices_of, tetra as tetra_of, triangle as triangle_of};
-ghost use Rattle.ready_choices.specs.search.Moves.{x_of, y_of, z_of, state as state_of, live as live_of};
-ghost use Rattle.ready_choices.specs.search.Made.{tries_of, Parted, takes, Makes, value_of};
+ghost use Rattle.ready_choices.specs.search.Moves.{a_of, b_of, g_of, state as state_of, live as live_of};
+
+// The first states of seven pairs and of thirteen orphans, in which nothing is left to do. Those of a regular hand stand before them.
+pub const NO_PAIR_LEFT: u8 = 70;
+
+pub const NO_ORPHAN_LEFT: u8 = 78;
 
 // The states of a regular hand: a + 5b + 25g of the runs begun at the kind before (a) and at the one before that (b) and the groups left to begin (g).
 const BEGUN: [u8; 35] = [
@@ -12,52 +16,22 @@ const BEGUN: [u8; 35] = [
     52, 40, 36, 32, 28, 20, 16, 12, 8, 4,
 ];
 
-// What the state of a regular hand has: runs begun at the kind before and at the one before that, groups and pairs left to begin.
-#[derive(Clone, Copy)]
-pub struct Begun {
-    pub a: u8,
-    pub b: u8,
-    pub g: u8,
-    pub p: u8,
-}
+// The choices at a kind of a regular hand, in the order of the groups that they begin: runs begun, triplets, pairs.
+const CHOICES: [[u8; 3]; 10] = [
+    [0, 0, 0],
+    [0, 0, 1],
+    [0, 1, 0],
+    [1, 0, 0],
+    [1, 0, 1],
+    [2, 0, 0],
+    [2, 0, 1],
+    [1, 1, 0],
+    [3, 0, 0],
+    [4, 0, 0],
+];
 
-// What a choice does: whether it can be made, the state after it, and the tiles that it takes.
-#[derive(Clone, Copy)]
-pub struct Move {
-    pub fine: bool,
-    pub to: u8,
-    pub tiles: u8,
-}
-
-// The smaller of two numbers.
-fn least(a: u8, b: u8) -> u8
-    ensures { result ≡ min a b }
-{
-    if a < b { a } else { b }
-}
-
-// The parts of a state: of a regular hand, else none.
-pub fn begun_in(s: u8) -> Begun
-    ensures { Parted s result }
-{
-    if s < 70 {
-        let v = BEGUN[(s / 2) as usize];
-        return Begun {
-            a: v % 5,
-            b: v / 5 % 5,
-            g: v / 25,
-            p: s % 2,
-        };
-    }
-    Begun {
-        a: 0,
-        b: 0,
-        g: 0,
-        p: 0,
-    }
-}
-
-// How many triples a, b, g have a sum under n.
+// How many triples of numbers have a sum under n.
+// stays beside `triangle`: another formula
 fn tetra(n: u8) -> u8
     requires { n ≤ 4 }
     ensures { (result ≡ tetra_of n) × (result ≤ 20) }
@@ -65,7 +39,8 @@ fn tetra(n: u8) -> u8
     n * (n + 1) * (n + 2) / 6
 }
 
-// How many pairs a, b have a sum under n.
+// How many pairs of numbers have a sum under n.
+// stays beside `tetra`: another formula
 fn triangle(n: u8) -> u8
     requires { n ≤ 4 }
     ensures { (result ≡ triangle_of n) × (result ≤ 10) }
@@ -73,7 +48,7 @@ fn triangle(n: u8) -> u8
     n * (n + 1) / 2
 }
 
-// How many triples a, b, g have a sum under n - y. Every choice in a state takes it from the same two numbers, those of n.
+// How many triples of numbers have a sum under n - y. Every choice in a state takes it from the same two numbers, those of n.
 fn smaller(n: u8, y: u8) -> u8
     requires { (n ≤ 4) × (y ≤ n) × (y ≤ 1) }
     ensures { (result ≡ tetra_of (n - y)) × (result ≤ 20) }
@@ -92,177 +67,182 @@ pub fn state(a: u8, b: u8, n: u8, y: u8, p: u8) -> u8
     2 * (smaller(n, y) + triangle(a + b) + a) + p
 }
 
-// The parts of a choice at a kind of a regular hand: runs begun, triplets, pairs.
-fn runs(e: u8) -> u8
-    requires { e < 10 }
-    ensures { (result ≡ x_of e) × (result ≤ 4) }
-{
-    if e < 3 {
-        0
-    } else if e < 5 {
-        1
-    } else if e < 7 {
-        2
-    } else if e == 7 {
-        1
-    } else {
-        e - 5
-    }
-}
-
-fn triplets(e: u8) -> u8
-    ensures { (result ≡ y_of e) × (result ≤ 1) }
-{
-    if (e == 2) | (e == 7) { 1 } else { 0 }
-}
-
-fn pair(e: u8) -> u8
-    ensures { (result ≡ z_of e) × (result ≤ 1) }
-{
-    if (e == 1) | (e == 4) | (e == 6) { 1 } else { 0 }
-}
-
-// A hand can be in the state s at the kind k; q are the parts of s.
-pub fn live(k: u8, s: u8, q: Begun) -> bool
-    requires { Parted s q }
-    ensures { result ≡ live_of k s }
-{
-    if s < 70 {
-        return ((q.a == 0) | ((k < 27) & (1 <= k % 9) & (k % 9 <= 7)))
-            & ((q.b == 0) | ((k < 27) & (2 <= k % 9)));
-    }
-    true
-}
-
-// The choice of x runs, y triplets and z pairs in a state with the parts q, which has so many left to begin.
-pub fn taking(q: Begun, x: u8, y: u8, z: u8) -> Move
-    requires { (q.a + q.b + q.g ≤ 4) × (x + y ≤ q.g) × (y ≤ 1) × (z ≤ q.p) × (q.p ≤ 1) }
-    ensures { result ≡ takes q x y z }
-{
-    Move {
-        fine: true,
-        to: state(x, q.a, q.a + q.g, y, q.p - z),
-        tiles: q.a + q.b + x + 3 * y + 2 * z,
-    }
-}
-
-// The choice e at the kind k in the state s of a regular hand of the parts q.
-fn regular(k: u8, s: u8, q: Begun, e: u8) -> Move
-    requires { (s < 70) × (e < 10) × Parted s q }
-    ensures { Makes k s e result }
-{
-    let x = runs(e);
-    let y = triplets(e);
-    let z = pair(e);
-    if (x + y <= q.g) & (z <= q.p) & ((x == 0) | tiles::is_run_start(k)) {
-        return taking(q, x, y, z);
-    }
-    Move {
-        fine: false,
-        to: 0,
-        tiles: 0,
-    }
-}
-
-// The same of seven pairs: a pair of the kind, or none.
-fn pairs(s: u8, e: u8, k: u8) -> Move
-    requires { (70 ≤ s) × (s < 78) }
-    ensures { Makes k s e result }
-{
-    if (e <= 1) & (e <= s - 70) {
-        return Move {
-            fine: true,
-            to: s - e,
-            tiles: 2 * e,
-        };
-    }
-    Move {
-        fine: false,
-        to: 0,
-        tiles: 0,
-    }
-}
-
-// The same of thirteen orphans: a tile of a terminal's or an honour's kind, or two.
-fn orphans(k: u8, s: u8, e: u8) -> Move
-    requires { (78 ≤ s) × (s < 80) }
-    ensures { Makes k s e result }
-{
-    let y = tiles::is_yaochu(k);
-    if (e <= 1) & (e <= s - 78) & ((e == 0) | y) {
-        if y {
-            return Move {
-                fine: true,
-                to: s - e,
-                tiles: 1 + e,
-            };
-        }
-        return Move {
-            fine: true,
-            to: s - e,
-            tiles: 0,
-        };
-    }
-    Move {
-        fine: false,
-        to: 0,
-        tiles: 0,
-    }
-}
-
-// The choice e at the kind k in any state. q are its parts, where the state is one of a regular hand.
-pub fn made(k: u8, s: u8, q: Begun, e: u8) -> Move
-    requires { (s < 80) × (e < 10) × Parted s q }
-    ensures { Makes k s e result }
-{
-    if s < 70 {
-        return regular(k, s, q, e);
-    }
-    if s < 78 {
-        return pairs(s, e, k);
-    }
-    orphans(k, s, e)
-}
-
-// What a move is worth; `later` is the value of the state after it.
-pub fn value(m: Move, later: u8, have: u8, room: u8) -> u8
-    requires { (later ≤ 200) × (have ≤ 4) }
-    ensures { result ≡ value_of m later have room }
-{
-    let possible = m.fine & (m.tiles <= room) & (later != 0);
-    if possible {
-        return later + least(have, m.tiles);
-    }
-    0
-}
-
-// The choices that begin g groups at most.
+// How many choices begin g groups at most.
+// stays five numbers: no formula gives them
+#[tactic(auto, unfolding(crate::specs::search::Moves::choices))]
 fn choices(g: u8) -> u8
     ensures { (result ≡ choices_of g) × (result ≤ 10) }
 {
-    if g == 0 {
-        2
-    } else if g == 1 {
-        5
-    } else if g == 2 {
-        8
-    } else if g == 3 {
-        9
-    } else {
-        10
+    match g {
+        0 => 2,
+        1 => 5,
+        2 => 8,
+        3 => 9,
+        _ => 10,
     }
 }
 
-// How many choices are worth a try at the kind k in the state s with g groups left.
-pub fn tries(k: u8, s: u8, g: u8) -> u8
-    ensures { (result ≡ tries_of k s g) × (result ≤ 10) }
-{
-    if 70 <= s {
-        return 2;
+// What a choice does: the state after it, and the tiles that it takes.
+#[derive(Clone, Copy)]
+pub struct Move {
+    pub to: u8,
+    pub tiles: u8,
+}
+
+impl Move {
+    ghost use Rattle.ready_choices.specs.search.Made.{value_of};
+
+    // What a move is worth; `later` is the value of the state after it.
+    pub fn value(self, later: u8, have: u8, room: u8) -> u8
+        requires { (later ≤ 200) × (have ≤ 4) }
+        ensures { result ≡ value_of self later have room }
+    {
+        let possible = (self.tiles <= room) & (later != 0);
+        if possible {
+            later + have.min(self.tiles)
+        } else {
+            0
+        }
     }
-    let n = choices(g);
-    if tiles::is_run_start(k) {
-        return n;
+}
+
+// A state, and what that of a regular hand has: runs begun at the kind before and at the one before that, groups and pairs left to begin.
+#[derive(Clone, Copy)]
+pub struct Begun {
+    pub state: u8,
+    pub last: u8,
+    pub earlier: u8,
+    pub groups: u8,
+    pub pairs: u8,
+    ghost sum: { last + earlier + groups ≤ 4 },
+    ghost one: { pairs ≤ 1 },
+    ghost runs_a: { state < 70 → last ≡ a_of state },
+    ghost runs_b: { state < 70 → earlier ≡ b_of state },
+    ghost left: { state < 70 → groups ≡ g_of state },
+    ghost pair: { state < 70 → pairs ≡ state % 2 },
+}
+
+impl Begun {
+    ghost use Rattle.ready_choices.specs.search.Made.{tries_of, takes, Makes};
+
+    // What a state has: one of a regular hand, else nothing.
+    pub fn in_state(state: u8) -> Begun
+        ensures { result.state ≡ state }
+    {
+        if state < NO_PAIR_LEFT {
+            let v = BEGUN[usize::from(state / 2)];
+            return Begun {
+                state,
+                last: v % 5,
+                earlier: v / 5 % 5,
+                groups: v / 25,
+                pairs: state % 2,
+            };
+        }
+        Begun {
+            state,
+            last: 0,
+            earlier: 0,
+            groups: 0,
+            pairs: 0,
+        }
     }
-    least(3, n)
+
+    // A hand can be in the state at the kind k.
+    pub fn is_live(self, k: u8) -> bool
+        ensures { result ≡ live_of k self.state }
+    {
+        if self.state < NO_PAIR_LEFT {
+            return ((self.last == 0) | ((k < 27) & (1 <= k % 9) & (k % 9 <= 7)))
+                & ((self.earlier == 0) | ((k < 27) & (2 <= k % 9)));
+        }
+        true
+    }
+
+    // The choice of x runs, y triplets and z pairs in a state that has so many left to begin.
+    pub fn taking(self, x: u8, y: u8, z: u8) -> Move
+        requires { (x + y ≤ self.groups) × (y ≤ 1) × (z ≤ self.pairs) }
+        ensures { result ≡ takes self x y z }
+    {
+        Move {
+            to: state(x, self.last, self.last + self.groups, y, self.pairs - z),
+            tiles: self.last + self.earlier + x + 3 * y + 2 * z,
+        }
+    }
+
+    // The choice e at the kind k of a regular hand, if it can be made.
+    fn regular(self, k: u8, e: u8) -> Option<Move>
+        requires { (self.state < 70) × (e < 10) }
+        ensures { Makes k self.state e result }
+    {
+        let [x, y, z] = CHOICES[usize::from(e)];
+        let possible = (x + y <= self.groups)
+            & (z <= self.pairs)
+            & ((x == 0) | tiles::is_run_start(k));
+        if possible {
+            Some(self.taking(x, y, z))
+        } else {
+            None
+        }
+    }
+
+    // The same of seven pairs: a pair of the kind, or none.
+    fn pairs(self, k: u8, e: u8) -> Option<Move>
+        requires { (70 ≤ self.state) × (self.state < 78) }
+        ensures { Makes k self.state e result }
+    {
+        let left = self.state - NO_PAIR_LEFT;
+        let possible = (e <= 1) & (e <= left);
+        if possible {
+            Some(Move {
+                to: self.state - e,
+                tiles: 2 * e,
+            })
+        } else {
+            None
+        }
+    }
+
+    // The same of thirteen orphans: a tile of a terminal's or an honour's kind, or two.
+    fn orphans(self, k: u8, e: u8) -> Option<Move>
+        requires { (78 ≤ self.state) × (self.state < 80) }
+        ensures { Makes k self.state e result }
+    {
+        let left = self.state - NO_ORPHAN_LEFT;
+        let yaochu = tiles::is_yaochu(k);
+        let possible = (e <= 1) & (e <= left) & ((e == 0) | yaochu);
+        if possible {
+            Some(Move {
+                to: self.state - e,
+                tiles: if yaochu { 1 + e } else { 0 },
+            })
+        } else {
+            None
+        }
+    }
+
+    // The choice e at the kind k, if it can be made.
+    pub fn made(self, k: u8, e: u8) -> Option<Move>
+        requires { (self.state < 80) × (e < 10) }
+        ensures { Makes k self.state e result }
+    {
+        if self.state < NO_PAIR_LEFT {
+            self.regular(k, e)
+        } else if self.state < NO_ORPHAN_LEFT {
+            self.pairs(k, e)
+        } else {
+            self.orphans(k, e)
+        }
+    }
+
+    // How many choices are worth a try at the kind k.
+    pub fn tries(self, k: u8) -> u8
+        ensures { (result ≡ tries_of k self.state self.groups) × (result ≤ 10) }
+    {
+        if NO_PAIR_LEFT <= self.state {
+            return 2;
+        }
+        let n = choices(self.groups);
+        if tiles::is_run_start(k) { n } else { n.min(3) }
+    }
 }

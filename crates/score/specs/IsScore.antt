@@ -1,7 +1,7 @@
 -- What Score answers, for every record, dealer and round wind (01, Score). Nothing here says how it is found; `Score` has the one such answer.
 use Rattle.std.specs.Prelude.{List, ◌⊎◌, ◌≡◌, ℕ, ◌<◌, ◌≤◌}
 use Rattle.hand.specs.declared.Fields.{Fields}
-use Rattle.hand_record.specs.declared.Answer.TheVariants.{Sound, Refused}
+use Rattle.hand_record.specs.Record.{Sound, Refused}
 use Rattle.hand_record.specs.Record.{hand_of, read_of}
 use Rattle.score.specs.declared.Scored.{Scored}
 use Rattle.score.specs.Named.{refused_with, Named}

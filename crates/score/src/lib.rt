@@ -14,7 +14,6 @@ ghost use Rattle.score.specs.IsScore.{IsScore};
 ghost use Rattle.score.specs.Score.{score_of};
 
 use hand::Hand;
-use hand_record::Answer;
 use points::Seats;
 use points_fu::Items;
 use points_value::Value;
@@ -211,8 +210,8 @@ pub fn score(s: &[u8], dealer: u8, wind: u8) -> Scored
     }
     let r = hand_record::read(s);
     let a = r.answer;
-    let Answer::Sound(f) = a else {
-        return refused(hand_record::refusal(a));
+    let Ok(f) = a else {
+        return refused(refusals::number(a));
     };
     let held = r.held;
     let h = Hand { fields: f, held };

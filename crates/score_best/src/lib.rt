@@ -2,10 +2,10 @@
 // reading held against it.
 #![tactic(auto)]
 
-ghost use Rattle.std.specs.Prelude.{◌≡◌, false, cond, ◌≤◌, eqb};
+ghost use Rattle.std.specs.Prelude.{◌≡◌, false, ◌≤◌};
 ghost use Rattle.yaku.specs.Yaku.{is_yakuman, has_yaku};
 ghost use Rattle.score_best.specs.search.HandCommon.{joined as joined_of, full_reading_in, worth_in, IsHandCommon, IsCommonIn};
-ghost use Rattle.score_best.specs.search.Best.{beats as beats_of, counted as counted_of, none_of, keep_of, keep_better};
+ghost use Rattle.score_best.specs.search.Best.{beats as beats_of, none_of, keep_of, keep_better};
 
 use points::Seats;
 use points_value::{Common, Value, Worth};
@@ -27,7 +27,8 @@ pub struct HandCommon {
 
 // What the search keeps. `valued` says that a reading had a yaku; `value` and `reading` are the best of those. `done` says that the last reading had a
 // yakuman, which ends the search; `tried` is how many were tried. Where `wanted` is not 0, it is the number, from 1, of the reading to keep: then `valued`
-// says that it was reached, and nothing ends the search.
+// says that it was reached, and nothing ends the search. These stay fields and a number: `none_of`, `taking` and `passing` of specs/search, and the
+// theorems over them, speak of each.
 #[derive(Clone, Copy)]
 pub struct Best {
     pub valued: bool,
@@ -40,23 +41,17 @@ pub struct Best {
 
 // ---- what a reading is worth
 
-// The group of a reading or, where it has none, of the melds.
-fn pick(g: u8, c: u8) -> u8
-    ensures { result ≡ cond (eqb g 68) c g }
+// The groups of a reading and, in the places where it has none, those of the melds.
+fn joined(groups: [u8; 4], melds: [u8; 4]) -> [u8; 4]
+    ensures { result ≡ joined_of groups melds }
 {
-    if g == 68 { c } else { g }
-}
-
-// The groups of a reading and of the melds, in four places.
-fn joined(g: [u8; 4], c: [u8; 4]) -> [u8; 4]
-    ensures { result ≡ joined_of g c }
-{
-    [
-        pick(g[0], c[0]),
-        pick(g[1], c[1]),
-        pick(g[2], c[2]),
-        pick(g[3], c[3]),
-    ]
+    let mut out = melds;
+    for (place, &code) in groups.iter().enumerate() {
+        if code != 68 {
+            out[place] = code;
+        }
+    }
+    out
 }
 
 // What the pair and groups of a reading have at each place, to be made once for all of them.
@@ -137,20 +132,13 @@ pub fn none(wanted: u32) -> Best
     }
 }
 
-// One more is tried.
-fn counted(n: u32) -> u32
-    ensures { result ≡ counted_of n }
-{
-    if n < 4294967295 { n + 1 } else { n }
-}
-
 // The better of what is kept and a reading of worth v; of equals what is kept. Where one is wanted by its number: that one, whatever it is worth.
 fn keep(b: Best, r: Reading, v: Worth) -> Best
     ensures { result ≡ keep_of b r v }
 {
     let kept = b.value;
     let worth = v.value;
-    let tried = counted(b.tried);
+    let tried = b.tried.saturating_add(1);
     let best = b.wanted == 0;
     let mut x = b;
     x.done = best & v.yakuman;

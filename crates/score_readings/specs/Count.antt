@@ -1,7 +1,6 @@
 -- How many readings a record's tiles have.
 use Rattle.std.specs.Prelude.{◌||◌, cond, List, ℕ, ltb, length}
-use Rattle.hand_record.specs.declared.Answer.{Answer}
-use Rattle.hand_record.specs.declared.Answer.TheVariants.{Sound, Refused}
+use Rattle.hand_record.specs.Record.{Answer, Sound, Refused}
 use Rattle.hand_record.specs.Record.{hand_of, read_of}
 use Rattle.score.specs.Readings.{readings_of}
 use Rattle.score_readings.specs.declared.ReadingCount.{ReadingCount}

@@ -1,7 +1,7 @@
 -- What is answered for a record, dealer, round wind and the number of a reading. Nothing here says how it is found; `NthOf` has the one such answer.
 use Rattle.std.specs.Prelude.{Bool, true, false, List, ◌⊎◌, ◌↔◌, ◌≡◌, ℕ, ◌<◌, ◌≤◌, pos, length, replicate}
 use Rattle.hand.specs.declared.Fields.{Fields}
-use Rattle.hand_record.specs.declared.Answer.TheVariants.{Sound, Refused}
+use Rattle.hand_record.specs.Record.{Sound, Refused}
 use Rattle.hand_record.specs.Record.{hand_of, read_of}
 use Rattle.points_fu.specs.Fu.{fu, base_alone}
 use Rattle.points_value.specs.Han.{han}

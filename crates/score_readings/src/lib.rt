@@ -11,14 +11,12 @@ ghost use Rattle.score_readings.specs.Shown.{paid_of};
 ghost use Rattle.score_readings.specs.IsNth.{refused_with, IsNth};
 ghost use Rattle.score_readings.specs.Count.{count_of};
 ghost use Rattle.score_readings.specs.NthOf.{nth_of};
-ghost use Rattle.score_readings.specs.search.Found.{same_reading, shown_by, hand_nth_of};
+ghost use Rattle.score_readings.specs.search.Found.{shown_by, hand_nth_of};
 
 use hand::Hand;
-use hand_record::Answer;
 use points::Seats;
 use points_fu::Items;
 use points_value::Value;
-use reading::Reading;
 use score_best::{Best, HandCommon};
 use units::{Fu, Han, Points};
 
@@ -91,21 +89,6 @@ fn refused(n: u8) -> NthReading
         items,
         yaku,
     }
-}
-
-// Two readings are the same.
-fn same(a: Reading, b: Reading) -> bool
-    ensures { result ≡ same_reading a b }
-{
-    let g = a.groups;
-    let k = b.groups;
-    (a.shape == b.shape)
-        & (a.pair == b.pair)
-        & (a.place == b.place)
-        & (g[0] == k[0])
-        & (g[1] == k[1])
-        & (g[2] == k[2])
-        & (g[3] == k[3])
 }
 
 // What a reading with a yaku pays; one without a yaku cannot win.
@@ -202,7 +185,7 @@ fn nth_hand(h: Hand, dealer: u8, wind: u8, n: u32) -> NthReading
         let x = score_search::search_for(t, c, h.held.m, h.fields.winning, 0);
         let best = x.reading;
         let r = b.reading;
-        return shown(t, b, x.valued & same(best, r));
+        return shown(t, b, x.valued & (best == r));
     }
     refused(8)
 }
@@ -230,8 +213,8 @@ pub fn nth(s: &[u8], dealer: u8, wind: u8, n: u32) -> NthReading
     }
     let r = hand_record::read(s);
     let a = r.answer;
-    let Answer::Sound(f) = a else {
-        return refused(hand_record::refusal(a));
+    let Ok(f) = a else {
+        return refused(refusals::number(a));
     };
     let held = r.held;
     let h = Hand { fields: f, held };
@@ -250,10 +233,10 @@ pub fn count(s: &[u8], dealer: u8, wind: u8) -> ReadingCount
     }
     let r = hand_record::read(s);
     let a = r.answer;
-    let Answer::Sound(f) = a else {
+    let Ok(f) = a else {
         return ReadingCount {
             count: 0,
-            refusal: hand_record::refusal(a),
+            refusal: refusals::number(a),
         };
     };
     let held = r.held;

@@ -2,106 +2,116 @@
 // the reading with a number, and how many there are.
 #![tactic(auto)]
 
-ghost use Rattle.std.specs.Prelude.{◌≡◌, false, [], ◌+◌, ◌≤◌, length, get_or};
+ghost use Rattle.std.specs.Prelude.{◌≡◌, false, List, [], ◌∷◌, ◌++◌, ℕ, ◌+◌, ◌<◌, ◌≤◌, length, get_or, take};
 ghost use Rattle.reading.specs.search.Readings.{placed, shaped};
 ghost use Rattle.reading.specs.search.Folded.{folded, ranged};
-ghost use Rattle.reading.specs.search.Stored.{Stored, behind};
+ghost use Rattle.reading.specs.search.Stored.{behind};
 ghost use Rattle.score_best.specs.search.HandCommon.{worth_in, IsHandCommon};
 ghost use Rattle.score_best.specs.search.Best.{keep_better, search_for};
 
 use reading::Reading;
 use score_best::{Best, HandCommon};
+use std::marker::Model;
 
-// Each place of a pair and groups that holds the winning kind.
-fn places(h: HandCommon, pair: u8, groups: [u8; 4], size: u8, win: u8, best: Best) -> Best
-    requires { IsHandCommon h × (size ≤ 4) × (best.done ≡ false) }
-    ensures { result ≡ folded (keep_better (worth_in h)) best (placed size win pair groups) }
+// Each place of a pair and groups, among the pair and the first `size` groups, that holds the winning kind.
+fn places(h: HandCommon, r: Reading, size: u8, win: u8, best: Best) -> Best
+    requires { IsHandCommon h × (size ≤ 4) × (best.done ≡ false) × (r.shape ≡ 0) }
+    ensures { result ≡ folded (keep_better (worth_in h)) best (placed size win r.pair r.groups) }
 {
-    let k = score_best::common_of(
-        h,
-        Reading {
-            shape: 0,
-            pair,
-            groups,
-            place: 0,
-        },
-    );
+    let k = score_best::common_of(h, r);
     let mut b = best;
-    let mut p: u8 = 0;
-    while p <= size {
-        if reading_steps::holds(pair, groups, p, win) {
-            b = score_best::keep_better_at(
-                h,
-                k,
-                b,
-                Reading {
-                    shape: 0,
-                    pair,
-                    groups,
-                    place: p,
-                },
-            );
+    for place in 0..size + 1 {
+        let r = Reading { place, ..r };
+        if reading_steps::holds(r, win) {
+            b = score_best::keep_better_at(h, k, b, r);
             if b.done {
                 return b;
             }
         }
-        p += 1;
     }
     b
 }
 
-// Finds each splitting of t into `left` groups with codes from `code` on, and stores it behind `prefix`, from place n on. Gives how many are stored then.
-fn split(
-    t: [u8; 34],
-    code: u8,
-    left: usize,
-    prefix: [u8; 4],
-    size: usize,
-    n: usize,
-    out: &mut [[u8; 4]; 3],
-) -> usize
-    requires { (left ≤ size) × (size ≤ 4) × (n + length (behind size prefix left code t) ≤ 3) }
-    ensures { Stored out.old n (behind size prefix left code t) out.new result }
+// The splittings of a tally into groups that are found, at most three.
+#[derive(Drop)]
+struct Splittings {
+    found: [[u8; 4]; 3],
+    count: usize,
+}
+
+impl Model for Splittings {
+    ghost Value = { List (List ℕ) };
+
+    ghost view = { λ s. take s.count s.found };
+
+    ghost invariant = { λ s. s.count ≤ 3 };
+}
+
+impl Splittings {
+    fn none() -> Self
+        ensures { result ≡ [] }
+    {
+        Splittings {
+            found: [[68; 4]; 3],
+            count: 0,
+        }
+    }
+
+    fn push(&mut self, groups: [u8; 4])
+        requires { length self.old < 3 }
+        ensures { self.new ≡ self.old ++ groups ∷ [] }
+    {
+        self.found[self.count] = groups;
+        self.count += 1;
+    }
+
+    fn all(&self) -> &[[u8; 4]]
+        ensures { result.now ≡ self.now }
+    {
+        &self.found[..self.count]
+    }
+}
+
+// Finds each splitting of t into `left` groups with codes from `code` on, and puts it, behind the first groups of `prefix`, at the end of `out`.
+fn split(t: [u8; 34], code: u8, left: usize, prefix: [u8; 4], size: usize, out: &mut Splittings)
+    requires { (left ≤ size) × (size ≤ 4) × (length out.old + length (behind size prefix left code t) ≤ 3) }
+    ensures { out.new ≡ out.old ++ behind size prefix left code t }
 {
     if left == 0 {
         if reading_steps::is_empty(t) {
-            out[n] = prefix;
-            return n + 1;
+            out.push(prefix);
         }
-        return n;
+        return;
     }
-    let mut found = n;
-    let mut c = reading_steps::next_code(&t, code);
-    while c < 68 {
-        if reading_steps::fits(t, c) {
+    let mut from = code;
+    while let Some(c) = reading_steps::next_code(&t, from) {
+        let taken = reading_steps::fits(t, c);
+        if taken {
             let mut groups = prefix;
             groups[size - left] = c;
-            found = split(
-                reading_steps::without(t, c),
-                c,
-                left - 1,
-                groups,
-                size,
-                found,
-                out,
-            );
+            split(reading_steps::without(t, c), c, left - 1, groups, size, out);
         }
         if !reading_steps::passes(t, c) {
-            return found;
+            return;
         }
-        c = reading_steps::next_code(&t, c + 1);
+        from = c + 1;
     }
-    found
 }
 
-// Each place of a pair and the first n splittings.
-fn each(h: HandCommon, pair: u8, out: [[u8; 4]; 3], n: usize, size: u8, win: u8, best: Best) -> Best
-    requires { IsHandCommon h × (n ≤ 3) × (size ≤ 4) × (best.done ≡ false) }
-    ensures { result ≡ ranged (keep_better (worth_in h)) (λ i. placed size win pair (get_or out i [])) n 0 best }
+// Each place of a pair and the splittings that are found.
+fn each(h: HandCommon, pair: u8, found: &[[u8; 4]], size: u8, win: u8, best: Best) -> Best
+    requires { IsHandCommon h × (size ≤ 4) × (best.done ≡ false) }
+    ensures { result ≡ ranged (keep_better (worth_in h)) (λ i. placed size win pair (get_or found.now i [])) (length found.now) 0 best }
 {
     let mut b = best;
-    for i in 0..n {
-        b = places(h, pair, out[i], size, win, b);
+    for &groups in found {
+        let r = Reading {
+            shape: 0,
+            pair,
+            groups,
+            place: 0,
+        };
+        b = places(h, r, size, win, b);
         if b.done {
             return b;
         }
@@ -136,27 +146,19 @@ pub fn search_for(h: HandCommon, t: [u8; 34], m: u8, win: u8, wanted: u32) -> Be
     requires { IsHandCommon h × (m ≤ 4) }
     ensures { result ≡ search_for (worth_in h) wanted t m win }
 {
-    let p = reading_steps::pairs_in(&t);
     let mut b = score_best::none(wanted);
-    let mut k = p.first;
-    while k <= p.last {
-        if 2 <= t[k as usize] {
-            let mut out = [[68u8; 4]; 3];
-            let n = split(
-                reading_steps::without_pair(t, k as usize),
-                0,
-                (4 - m) as usize,
-                [68, 68, 68, 68],
-                (4 - m) as usize,
-                0,
-                &mut out,
-            );
-            b = each(h, k, out, n, 4 - m, win, b);
+    let size = 4 - m;
+    for k in reading_steps::pairs_in(&t) {
+        let held = 2 <= t[k as usize];
+        if held {
+            let mut found = Splittings::none();
+            let rest = reading_steps::without_pair(t, k as usize);
+            split(rest, 0, size as usize, [68; 4], size as usize, &mut found);
+            b = each(h, k, found.all(), size, win, b);
             if b.done {
                 return b;
             }
         }
-        k += 3;
     }
     shapes(h, t, m, b)
 }

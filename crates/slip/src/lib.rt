@@ -20,11 +20,7 @@ fn blank(line: &mut [u8])
     requires { length line.old ≡ 25 }
     ensures { line.new ≡ spaces 24 ++ (10 ∷ []) }
 {
-    let mut i = 0;
-    while i < 24 {
-        line[i] = b' ';
-        i += 1;
-    }
+    line[..24].fill(b' ');
     line[24] = b'\n';
 }
 
@@ -45,9 +41,7 @@ fn put_number(line: &mut [u8], label: &[u8], n: i32)
     requires { (length line.old ≡ 25) × (length label.now ≤ 10) }
     ensures { line.new ≡ slip_line label.now (signed_of n) }
 {
-    let mut text = [0u8; 11];
-    let e = text::signed(&mut text, 0, n);
-    put_line(line, label, &text[..e]);
+    put_line(line, label, text::signed(n).as_slice());
 }
 
 // Writes the first line: HAN and h, or the word YAKUMAN.
@@ -59,7 +53,7 @@ fn put_han(line: &mut [u8], h: Han, yakuman: bool)
         put_line(line, b"HAN", b"YAKUMAN");
         return;
     }
-    put_number(line, b"HAN", h.0 as i32);
+    put_number(line, b"HAN", i32::from(h.0));
 }
 
 // Writes the second line: FU and fu.
@@ -67,7 +61,7 @@ fn put_fu(line: &mut [u8], fu: Fu)
     requires { length line.old ≡ 25 }
     ensures { line.new ≡ slip_line (get_or labels 1 []) (digits_of fu.0) }
 {
-    put_number(line, b"FU", fu.0 as i32);
+    put_number(line, b"FU", i32::from(fu.0));
 }
 
 // Writes the line of a seat: SEAT with its number, and its change of the four.
@@ -86,17 +80,11 @@ fn put_line_at(line: &mut [u8], k: usize, a: Scored)
     requires fu_value { is_yakuman a.yaku ≡ true → a.fu.0 ≡ 0 }
     ensures { line.new ≡ line_at a k }
 {
-    if k == 0 {
-        let y = a.yaku;
-        put_han(line, a.h, yaku::is_yakuman(y));
-        return;
+    match k {
+        0 => put_han(line, a.h, yaku::is_yakuman(a.yaku)),
+        1 => put_fu(line, a.fu),
+        _ => put_seat(line, k - 2, a.changes),
     }
-    if k == 1 {
-        put_fu(line, a.fu);
-        return;
-    }
-    let c = a.changes;
-    put_seat(line, k - 2, c);
 }
 
 // Writes the six lines of a score, each into its own part of the page, and leaves what stands after them.
@@ -105,16 +93,15 @@ fn put_lines(page: &mut [u8], a: Scored)
     requires fu_value { is_yakuman a.yaku ≡ true → a.fu.0 ≡ 0 }
     ensures { page.new ≡ slip_text a ++ drop 150 page.old }
 {
-    let mut k = 0;
-    while k < 6 {
+    for k in 0..6 {
         put_line_at(&mut page[25 * k..25 * k + 25], k, a);
-        k += 1;
     }
 }
 
 // ---- the slip
 
 // The slip of a record's score, for a dealer and a round wind, at the start of a page; or the refusal, and the page as it was.
+// stays a number: Score's refusal is handed on as C is given it (`Scored`), and 16 beside it
 pub fn slip(s: &[u8], dealer: u8, wind: u8, page: &mut [u8]) -> u8
     ensures value { result ≡ slip_refusal (score_of s.now dealer wind) page.old }
     ensures page_after { page.new ≡ slip_page (score_of s.now dealer wind) page.old }

@@ -1,83 +1,47 @@
 // What the handset says of the fu of a record (SPEECH, Messages and Calls). `say_fu` takes all input.
 #![tactic(auto)]
 
-ghost use Rattle.std.specs.Prelude.{◌++◌, ◌+◌, ◌≤◌, length};
-ghost use Rattle.text.specs.Put.{Put};
-ghost use Rattle.speech_told.specs.Phrases.{counted_clips};
+ghost use Rattle.std.specs.Prelude.{◌≡◌, ◌++◌, ◌+◌, ◌≤◌, length};
 ghost use Rattle.score.specs.Score.{score_of};
 ghost use Rattle.speech_score.specs.Said.{Answers};
-ghost use Rattle.speech_told.specs.Messages.{group_at, items_clips, fu_message};
+ghost use Rattle.speech_told.specs.Messages.{items_clips, fu_message};
 
 use points_fu::Items;
 use score::Scored;
 use speech_score::Said;
-use units::Fu;
+use text::Bytes;
 
-// An item of fu and its clip, or nothing where it is 0.
-fn put_item(buf: &mut [u8], at: usize, language: u8, clip: u8, x: Fu) -> usize
-    requires { at + 28 ≤ length buf.old }
-    ensures { Put buf.old at (counted_clips language clip x.0) buf.new result × (result ≤ at + 14) }
+// The items of fu that are not 0, in document 02's order, the clip of the first being 84.
+fn put_items(clips: &mut Bytes<192>, language: u8, x: Items)
+    requires { length clips.old + 154 ≤ 192 }
+    ensures added { clips.new ≡ clips.old ++ items_clips language x }
+    ensures few { length clips.new ≤ length clips.old + 140 }
 {
-    speech_phrases::put_counted(buf, at, language, clip, x.0 as u32)
-}
-
-// The items before the groups, at the start of a buffer.
-fn put_first(buf: &mut [u8], language: u8, x: Items) -> usize
-    requires { 192 ≤ length buf.old }
-    ensures { Put buf.old 0 (counted_clips language 84 x.base.0 ++ (counted_clips language 85 x.ron.0 ++ counted_clips language 86 x.pair.0)) buf.new result × (result ≤ 42) }
-{
-    let i = put_item(buf, 0, language, 84, x.base);
-    let j = put_item(buf, i, language, 85, x.ron);
-    put_item(buf, j, language, 86, x.pair)
-}
-
-// The items of the groups.
-fn put_groups(buf: &mut [u8], at: usize, language: u8, g: [Fu; 4]) -> usize
-    requires { at + 70 ≤ length buf.old }
-    ensures { Put buf.old at (counted_clips language 87 (group_at g 0) ++ (counted_clips language 88 (group_at g 1) ++ (counted_clips language 89 (group_at g 2) ++ counted_clips language 90 (group_at g 3)))) buf.new result × (result ≤ at + 56) }
-{
-    let i = put_item(buf, at, language, 87, g[0]);
-    let j = put_item(buf, i, language, 88, g[1]);
-    let k = put_item(buf, j, language, 89, g[2]);
-    put_item(buf, k, language, 90, g[3])
-}
-
-// The items after the groups.
-fn put_last(buf: &mut [u8], at: usize, language: u8, x: Items) -> usize
-    requires { at + 56 ≤ length buf.old }
-    ensures { Put buf.old at (counted_clips language 91 x.wait.0 ++ (counted_clips language 92 x.tsumo.0 ++ counted_clips language 93 x.rounding.0)) buf.new result × (result ≤ at + 42) }
-{
-    let i = put_item(buf, at, language, 91, x.wait);
-    let j = put_item(buf, i, language, 92, x.tsumo);
-    put_item(buf, j, language, 93, x.rounding)
-}
-
-// The items of fu that are not 0, in a buffer with room for the work.
-fn put_items(buf: &mut [u8], language: u8, x: Items) -> usize
-    requires { 192 ≤ length buf.old }
-    ensures { Put buf.old 0 (items_clips language x) buf.new result × (result ≤ 140) }
-{
-    let g = x.group;
-    let i = put_first(buf, language, x);
-    let j = put_groups(buf, i, language, g);
-    put_last(buf, j, language, x)
-}
-
-// The message of a score's fu, in a buffer with room for the work.
-fn put_fu(buf: &mut [u8], language: u8, a: Scored) -> usize
-    requires { 192 ≤ length buf.old }
-    ensures { Put buf.old 0 (fu_message language a) buf.new result × (result ≤ 155) }
-{
-    let y = a.yaku;
-    let x = a.items;
-    let fu = a.fu.0 as u32;
-    if yaku::is_yakuman(y) {
-        return speech_phrases::put_clip(buf, 0, 75);
+    let items = [
+        x.base, x.ron, x.pair, x.group[0], x.group[1], x.group[2], x.group[3], x.wait, x.tsumo,
+        x.rounding,
+    ];
+    for (k, item) in items.iter().enumerate() {
+        speech_phrases::put_counted(clips, language, 84 + k as u8, u32::from(item.0));
     }
-    let i = put_items(buf, language, x);
-    let j = speech_phrases::put_clip(buf, i, 94);
-    let k = speech_numerals::number(buf, j, language, fu);
-    speech_phrases::put_clip(buf, k, 70)
+}
+
+// The message of a score's fu.
+#[tactic(auto, unfolding(speech_told::specs::Messages::fu_message))]
+fn message(language: u8, a: Scored) -> Bytes<192>
+    ensures value { result ≡ fu_message language a }
+    ensures few { length result ≤ 155 }
+{
+    let mut clips = Bytes::new();
+    if yaku::is_yakuman(a.yaku) {
+        clips.push(75);
+        return clips;
+    }
+    put_items(&mut clips, language, a.items);
+    clips.push(94);
+    speech_numerals::number(&mut clips, language, u32::from(a.fu.0));
+    clips.push(70);
+    clips
 }
 
 // The fu of a record, said: each item and the sum, or the refusal.
@@ -91,7 +55,5 @@ pub fn say_fu(language: u8, s: &[u8], dealer: u8, wind: u8, buf: &mut [u8]) -> S
     if 0 < a.refusal {
         return speech_score::refused(a.refusal);
     }
-    let mut work = [0u8; 192];
-    let n = put_fu(&mut work, language, a);
-    speech_score::give(buf, &work[..n])
+    speech_score::give(buf, message(language, a).as_slice())
 }

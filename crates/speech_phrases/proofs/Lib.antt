@@ -1,3 +1,2 @@
--- laws  how the parts of a message are written
+-- laws  where a limit is paid, and clips chosen from a row
 pub mod laws
-pub mod Written

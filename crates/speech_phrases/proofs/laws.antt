@@ -1,2 +1,3 @@
 pub mod Limit
-pub mod Put
+pub mod Chosen
+pub mod Seats

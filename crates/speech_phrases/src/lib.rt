@@ -1,22 +1,13 @@
-// The parts of what the handset says, written one after the other into a buffer with room for the work (SPEECH, Messages).
+// The parts of what the handset says, added one after the other to clips with room for the work (SPEECH, Messages).
 #![tactic(auto)]
 
-ghost use Rattle.std.specs.Prelude.{◌≡◌, [], ◌∷◌, ◌+◌, ◌≤◌, length};
-ghost use Rattle.text.specs.Put.{Put};
-ghost use Rattle.speech_told.specs.Phrases.{player as player_of, yaku_clips, limit_clips, worth_clips, amount_clips, pays_clips, payments_clips, counted_clips};
-ghost use Rattle.speech_told.specs.Phrases.{score_clips, tile_clips};
+ghost use Rattle.std.specs.Prelude.{◌≡◌, false, [], ◌∷◌, ◌++◌, ◌+◌, ◌≤◌, length, get_or};
+ghost use Rattle.speech_told.specs.Phrases.{player as player_of, chosen, yaku_clips, limit_clips, worth_clips, amount_clips, pays_clips, payments_clips};
+ghost use Rattle.speech_told.specs.Phrases.{counted_clips, score_clips, tile_clips};
 ghost use Rattle.speech_told.specs.Phrases.{is_limit, limit_clip};
 
+use text::Bytes;
 use units::{Fu, Han};
-
-// One clip.
-pub fn put_clip(buf: &mut [u8], at: usize, clip: u8) -> usize
-    requires { at + 1 ≤ length buf.old }
-    ensures { Put buf.old at (clip ∷ []) buf.new result × (result ≤ at + 1) }
-{
-    buf[at] = clip;
-    at + 1
-}
 
 // The clip of a player, by the seat's wind.
 pub fn player(dealer: u8, seat: u8) -> u8
@@ -27,171 +18,164 @@ pub fn player(dealer: u8, seat: u8) -> u8
 }
 
 // A player, a verb, a number and points.
-pub fn put_amount(buf: &mut [u8], at: usize, language: u8, who: u8, verb: u8, n: u32) -> usize
-    requires { at + 30 ≤ length buf.old }
-    ensures { Put buf.old at (amount_clips language who verb n) buf.new result × (result ≤ at + 16) }
+#[tactic(auto, unfolding(speech_told::specs::Phrases::amount_clips))]
+pub fn put_amount<const N: usize>(clips: &mut Bytes<N>, language: u8, who: u8, verb: u8, n: u32)
+    requires { length clips.old + 30 ≤ N }
+    ensures added { clips.new ≡ clips.old ++ amount_clips language who verb n }
+    ensures few { length clips.new ≤ length clips.old + 16 }
 {
-    let i = put_clip(buf, at, who);
-    let j = put_clip(buf, i, verb);
-    let k = speech_numerals::number(buf, j, language, n);
-    put_clip(buf, k, 68)
+    clips.push(who);
+    clips.push(verb);
+    speech_numerals::number(clips, language, n);
+    clips.push(68);
 }
 
 // What a seat pays, or nothing where it pays nothing.
-fn put_pays(buf: &mut [u8], at: usize, language: u8, dealer: u8, seat: u8, change: i32) -> usize
-    requires { (at + 30 ≤ length buf.old) × (seat ≤ 3) }
-    ensures { Put buf.old at (pays_clips language dealer seat change) buf.new result × (result ≤ at + 16) }
+#[tactic(auto, unfolding(speech_told::specs::Phrases::pays_clips))]
+fn put_pays<const N: usize>(clips: &mut Bytes<N>, language: u8, dealer: u8, seat: u8, change: i32)
+    requires { (length clips.old + 30 ≤ N) × (seat ≤ 3) }
+    ensures added { clips.new ≡ clips.old ++ pays_clips language dealer seat change }
+    ensures few { length clips.new ≤ length clips.old + 16 }
 {
-    let n = text::absolute(change);
-    let who = player(dealer, seat);
     if change < 0 {
-        return put_amount(buf, at, language, who, 66, n);
+        put_amount(
+            clips,
+            language,
+            player(dealer, seat),
+            66,
+            change.unsigned_abs(),
+        );
     }
-    at
 }
 
 // What seats 0 to 3 pay.
-pub fn put_payments(buf: &mut [u8], at: usize, language: u8, dealer: u8, c: [i32; 4]) -> usize
-    requires { at + 78 ≤ length buf.old }
-    ensures { Put buf.old at (payments_clips language dealer c) buf.new result × (result ≤ at + 64) }
+pub fn put_payments<const N: usize>(
+    clips: &mut Bytes<N>,
+    language: u8,
+    dealer: u8,
+    changes: [i32; 4],
+)
+    requires { length clips.old + 78 ≤ N }
+    ensures added { clips.new ≡ clips.old ++ payments_clips language dealer changes }
+    ensures few { length clips.new ≤ length clips.old + 64 }
 {
-    let i = put_pays(buf, at, language, dealer, 0, c[0]);
-    let j = put_pays(buf, i, language, dealer, 1, c[1]);
-    let k = put_pays(buf, j, language, dealer, 2, c[2]);
-    put_pays(buf, k, language, dealer, 3, c[3])
+    for (seat, &change) in changes.iter().enumerate() {
+        put_pays(clips, language, dealer, seat as u8, change);
+    }
+}
+
+// The clips of what a set holds, ascending: the first of them is that of its first place.
+#[tactic(auto, unfolding(speech_told::specs::Phrases::chosen))]
+fn put_set<const N: usize>(clips: &mut Bytes<N>, first: u8, set: &[bool])
+    requires room { length clips.old + length set.now ≤ N }
+    requires clip_fits { first + length set.now ≤ 256 }
+    ensures added { clips.new ≡ clips.old ++ chosen first (λ k. get_or set.now k false) (length set.now) }
+    ensures few { length clips.new ≤ length clips.old + length set.now }
+{
+    for (k, &held) in set.iter().enumerate() {
+        if held {
+            clips.push(first + k as u8);
+        }
+    }
 }
 
 // The yaku of a set, ascending.
-pub fn put_yaku(buf: &mut [u8], at: usize, y: [bool; 37]) -> usize
-    requires { at + 36 ≤ length buf.old }
-    ensures { Put buf.old at (yaku_clips y) buf.new result × (result ≤ at + 36) }
+#[tactic(auto, unfolding(speech_told::specs::Phrases::yaku_clips))]
+pub fn put_yaku<const N: usize>(clips: &mut Bytes<N>, yaku: [bool; 37])
+    requires { length clips.old + 36 ≤ N }
+    ensures added { clips.new ≡ clips.old ++ yaku_clips yaku }
+    ensures few { length clips.new ≤ length clips.old + 36 }
 {
-    let mut e = at;
-    let mut k: usize = 0;
-    while k < 36 {
-        if y[k + 1] {
-            buf[e] = 141 + (k as u8);
-            e += 1;
-            k += 1;
-            continue;
-        }
-        k += 1;
-    }
-    e
+    put_set(clips, 141, &yaku[1..]);
+}
+
+// The tiles of a set of kinds, ascending.
+#[tactic(auto, unfolding(speech_told::specs::Phrases::tile_clips))]
+pub fn put_tiles<const N: usize>(clips: &mut Bytes<N>, kinds: [bool; 34])
+    requires { length clips.old + 34 ≤ N }
+    ensures added { clips.new ≡ clips.old ++ tile_clips kinds }
+    ensures few { length clips.new ≤ length clips.old + 34 }
+{
+    put_set(clips, 100, &kinds);
 }
 
 // A limit is paid.
 fn is_limit(h: Han, fu: Fu) -> bool
     ensures { result ≡ is_limit h.0 fu.0 }
 {
-    let n = h.0;
-    let f = fu.0;
-    if 5 <= n {
-        return true;
+    match h.0 {
+        0 => false,
+        1 => 250 < fu.0,
+        2 => 125 < fu.0,
+        3 => 62 < fu.0,
+        4 => 31 < fu.0,
+        _ => true,
     }
-    if n == 4 {
-        return 31 < f;
-    }
-    if n == 3 {
-        return 62 < f;
-    }
-    if n == 2 {
-        return 125 < f;
-    }
-    if n == 1 {
-        return 250 < f;
-    }
-    false
 }
 
 // The clip of a limit's name.
+#[tactic(auto, unfolding(speech_told::specs::Phrases::limit_clip))]
 fn limit_clip(h: Han) -> u8
     ensures { result ≡ limit_clip h.0 }
 {
-    let n = h.0;
-    if n <= 5 {
-        return 71;
+    match h.0 {
+        0..=5 => 71,
+        6..=7 => 72,
+        8..=10 => 73,
+        _ => 74,
     }
-    if n <= 7 {
-        return 72;
-    }
-    if n <= 10 {
-        return 73;
-    }
-    74
-}
-
-// A limit's name where one is paid.
-fn put_limit(buf: &mut [u8], at: usize, h: Han, fu: Fu) -> usize
-    requires { at + 1 ≤ length buf.old }
-    ensures { Put buf.old at (limit_clips h.0 fu.0) buf.new result × (result ≤ at + 1) }
-{
-    let paid = is_limit(h, fu);
-    let clip = limit_clip(h);
-    if paid {
-        return put_clip(buf, at, clip);
-    }
-    at
 }
 
 // With a yakuman its name; otherwise han and fu, and a limit's name where one is paid.
-pub fn put_worth(buf: &mut [u8], at: usize, language: u8, yakuman: bool, h: Han, fu: Fu) -> usize
-    requires { at + 43 ≤ length buf.old }
-    ensures { Put buf.old at (worth_clips language yakuman h.0 fu.0) buf.new result × (result ≤ at + 29) }
+#[tactic(auto, unfolding(speech_told::specs::Phrases::worth_clips, speech_told::specs::Phrases::limit_clips))]
+pub fn put_worth<const N: usize>(clips: &mut Bytes<N>, language: u8, yakuman: bool, h: Han, fu: Fu)
+    requires { length clips.old + 43 ≤ N }
+    ensures added { clips.new ≡ clips.old ++ worth_clips language yakuman h.0 fu.0 }
+    ensures few { length clips.new ≤ length clips.old + 29 }
 {
     if yakuman {
-        return put_clip(buf, at, 75);
+        clips.push(75);
+        return;
     }
-    let i = speech_numerals::number(buf, at, language, h.0 as u32);
-    let j = put_clip(buf, i, 69);
-    let k = speech_numerals::number(buf, j, language, fu.0 as u32);
-    let e = put_clip(buf, k, 70);
-    put_limit(buf, e, h, fu)
+    speech_numerals::number(clips, language, u32::from(h.0));
+    clips.push(69);
+    speech_numerals::number(clips, language, u32::from(fu.0));
+    clips.push(70);
+    if is_limit(h, fu) {
+        clips.push(limit_clip(h));
+    }
 }
 
 // A clip and a number, or nothing where the number is 0.
-pub fn put_counted(buf: &mut [u8], at: usize, language: u8, clip: u8, n: u32) -> usize
-    requires { at + 28 ≤ length buf.old }
-    ensures { Put buf.old at (counted_clips language clip n) buf.new result × (result ≤ at + 14) }
+#[tactic(auto, unfolding(speech_told::specs::Phrases::counted_clips))]
+pub fn put_counted<const N: usize>(clips: &mut Bytes<N>, language: u8, clip: u8, n: u32)
+    requires { length clips.old + 28 ≤ N }
+    ensures added { clips.new ≡ clips.old ++ counted_clips language clip n }
+    ensures few { length clips.new ≤ length clips.old + 14 }
 {
-    if n == 0 {
-        return at;
+    if 0 < n {
+        clips.push(clip);
+        speech_numerals::number(clips, language, n);
     }
-    let i = put_clip(buf, at, clip);
-    speech_numerals::number(buf, i, language, n)
 }
 
 // A player and a score, with minus where it is negative.
-pub fn put_score(buf: &mut [u8], at: usize, language: u8, dealer: u8, seat: u8, score: i32) -> usize
-    requires { (at + 30 ≤ length buf.old) × (seat ≤ 3) }
-    ensures { Put buf.old at (score_clips language dealer seat score) buf.new result × (result ≤ at + 16) }
+#[tactic(auto, unfolding(speech_told::specs::Phrases::score_clips))]
+pub fn put_score<const N: usize>(
+    clips: &mut Bytes<N>,
+    language: u8,
+    dealer: u8,
+    seat: u8,
+    score: i32,
+)
+    requires { (length clips.old + 30 ≤ N) × (seat ≤ 3) }
+    ensures added { clips.new ≡ clips.old ++ score_clips language dealer seat score }
+    ensures few { length clips.new ≤ length clips.old + 16 }
 {
-    let n = text::absolute(score);
-    let i = put_clip(buf, at, player(dealer, seat));
+    clips.push(player(dealer, seat));
     if score < 0 {
-        let j = put_clip(buf, i, 76);
-        let k = speech_numerals::number(buf, j, language, n);
-        return put_clip(buf, k, 68);
+        clips.push(76);
     }
-    let e = speech_numerals::number(buf, i, language, n);
-    put_clip(buf, e, 68)
-}
-
-// The tiles of a set of kinds, ascending.
-pub fn put_tiles(buf: &mut [u8], at: usize, w: [bool; 34]) -> usize
-    requires { at + 34 ≤ length buf.old }
-    ensures { Put buf.old at (tile_clips w) buf.new result × (result ≤ at + 34) }
-{
-    let mut e = at;
-    let mut k: usize = 0;
-    while k < 34 {
-        if w[k] {
-            buf[e] = 100 + (k as u8);
-            e += 1;
-            k += 1;
-            continue;
-        }
-        k += 1;
-    }
-    e
+    speech_numerals::number(clips, language, score.unsigned_abs());
+    clips.push(68);
 }

@@ -3,13 +3,12 @@
 #![tactic(auto)]
 
 ghost use Rattle.std.specs.Prelude.{◌≡◌, cond, ◌∷◌, ◌≤◌, ltb, pos, nat_abs, length, get_or};
-ghost use Rattle.text.specs.Put.{Put};
-ghost use Rattle.speech_told.specs.Phrases.{yaku_clips};
 ghost use Rattle.score.specs.Score.{score_of};
 ghost use Rattle.speech_score.specs.Said.{refused_with, given_of, buffer_of, is_known, Answers};
 ghost use Rattle.speech_told.specs.Messages.{score_message, score_said, refusal_message};
 
 use score::Scored;
+use text::Bytes;
 
 // What a call gives: 0 and how many clips, or the refusal and 0; two numbers of 16 bits, so that there is no padding.
 #[repr(C)]
@@ -20,11 +19,12 @@ pub struct Said {
 }
 
 // A refusal, and no clips.
+// stays a number: those of Score, Waits and Ready are handed on as C is given them, and this struct is C's
 pub fn refused(n: u8) -> Said
     ensures { result ≡ refused_with n }
 {
     Said {
-        refusal: n as u16,
+        refusal: u16::from(n),
         len: 0,
     }
 }
@@ -33,7 +33,7 @@ pub fn refused(n: u8) -> Said
 pub fn is_known(language: u8) -> bool
     ensures { result ≡ is_known language }
 {
-    (0 < language) & (language <= 4)
+    (1..=4).contains(&language)
 }
 
 // Clips at the start of a buffer, or a refusal where it is too short.
@@ -61,39 +61,31 @@ fn way(ron: bool) -> u8
 }
 
 // What the winner gets.
-fn gain_of(c: [i32; 4], winner: u8) -> u32
+fn gain_of(changes: [i32; 4], winner: u8) -> u32
     requires { winner ≤ 3 }
-    ensures { result ≡ nat_abs (get_or c winner (pos 0)) }
+    ensures { result ≡ nat_abs (get_or changes winner (pos 0)) }
 {
-    text::absolute(c[winner as usize])
+    changes[winner as usize].unsigned_abs()
 }
 
-// The winner, the way of winning and the yaku, at the start of a buffer.
-fn put_won(buf: &mut [u8], who: u8, ron: bool, y: [bool; 37]) -> usize
-    requires { 192 ≤ length buf.old }
-    ensures { Put buf.old 0 (who ∷ cond ron 64 65 ∷ yaku_clips y) buf.new result × (result ≤ 38) }
+// The message of a score.
+#[tactic(auto, unfolding(speech_told::specs::Messages::score_message))]
+fn message(language: u8, dealer: u8, winner: u8, ron: bool, a: Scored) -> Bytes<192>
+    requires { winner ≤ 3 }
+    ensures value { result ≡ score_message language dealer winner ron a }
+    ensures few { length result ≤ 147 }
 {
-    let i = speech_phrases::put_clip(buf, 0, who);
-    let j = speech_phrases::put_clip(buf, i, way(ron));
-    speech_phrases::put_yaku(buf, j, y)
-}
-
-// The message of a score, in a buffer with room for the work.
-fn put_scored(buf: &mut [u8], language: u8, dealer: u8, winner: u8, ron: bool, a: Scored) -> usize
-    requires { (192 ≤ length buf.old) × (winner ≤ 3) }
-    ensures { Put buf.old 0 (score_message language dealer winner ron a) buf.new result × (result ≤ 147) }
-{
-    let y = a.yaku;
-    let c = a.changes;
-    let h = a.h;
-    let fu = a.fu;
-    let gain = gain_of(c, winner);
     let who = speech_phrases::player(dealer, winner);
-    let yakuman = yaku::is_yakuman(y);
-    let i = put_won(buf, who, ron, y);
-    let j = speech_phrases::put_worth(buf, i, language, yakuman, h, fu);
-    let k = speech_phrases::put_payments(buf, j, language, dealer, c);
-    speech_phrases::put_amount(buf, k, language, who, 67, gain)
+    let gain = gain_of(a.changes, winner);
+    let yakuman = yaku::is_yakuman(a.yaku);
+    let mut clips = Bytes::new();
+    clips.push(who);
+    clips.push(way(ron));
+    speech_phrases::put_yaku(&mut clips, a.yaku);
+    speech_phrases::put_worth(&mut clips, language, yakuman, a.h, a.fu);
+    speech_phrases::put_payments(&mut clips, language, dealer, a.changes);
+    speech_phrases::put_amount(&mut clips, language, who, 67, gain);
+    clips
 }
 
 // Score, said: the clips of what a record is worth and who pays what, in a language, or the refusal.
@@ -107,12 +99,9 @@ pub fn say_score(language: u8, s: &[u8], dealer: u8, wind: u8, buf: &mut [u8]) -
     if 0 < a.refusal {
         return refused(a.refusal);
     }
-    let r = hand_record::read_hand(s);
-    let h = r.hand;
-    let f = h.fields;
-    let mut work = [0u8; 192];
-    let n = put_scored(&mut work, language, dealer, f.winner, f.how == 1, a);
-    give(buf, &work[..n])
+    let f = hand_record::read_hand(s).hand.fields;
+    let clips = message(language, dealer, f.winner, f.how == 1, a);
+    give(buf, clips.as_slice())
 }
 
 // A refusal, said: the clip of its sentence; a number that is no refusal's is refused.
@@ -126,6 +115,5 @@ pub fn say_refusal(language: u8, number: u8, buf: &mut [u8]) -> Said
     if unknown {
         return refused(8);
     }
-    let clips = [200 + number];
-    give(buf, &clips)
+    give(buf, &[200 + number])
 }

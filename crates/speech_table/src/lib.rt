@@ -1,37 +1,39 @@
 // What the handset says of a game's scores, of waits and of readiness (SPEECH, Messages and Calls). The public calls take all input.
 #![tactic(auto)]
 
-ghost use Rattle.std.specs.Prelude.{◌≡◌, false, ◌≤◌, length, get_or};
+ghost use Rattle.std.specs.Prelude.{◌≡◌, false, ◌++◌, ◌+◌, ◌≤◌, length, get_or};
 ghost use Rattle.tiles.specs.Below.{any_below};
-ghost use Rattle.text.specs.Put.{Put};
 ghost use Rattle.waits.specs.Answer.{waits_of};
 ghost use Rattle.speech_score.specs.Said.{Answers};
 ghost use Rattle.speech_table.specs.Messages.{four_scores, scores_message, waits_message, ready_message, SaysReady, SaysScores};
 
 use position::Position;
 use speech_score::Said;
+use text::Bytes;
 use waits::Waits;
 
-// The scores of the four seats, at the start of a buffer.
-fn put_four(buf: &mut [u8], language: u8, dealer: u8, s: [i32; 4]) -> usize
-    requires { 192 ≤ length buf.old }
-    ensures { Put buf.old 0 (four_scores language dealer s) buf.new result × (result ≤ 64) }
+// The scores of the four seats.
+fn put_four(clips: &mut Bytes<192>, language: u8, dealer: u8, scores: [i32; 4])
+    requires { length clips.old + 78 ≤ 192 }
+    ensures added { clips.new ≡ clips.old ++ four_scores language dealer scores }
+    ensures few { length clips.new ≤ length clips.old + 64 }
 {
-    let i = speech_phrases::put_score(buf, 0, language, dealer, 0, s[0]);
-    let j = speech_phrases::put_score(buf, i, language, dealer, 1, s[1]);
-    let k = speech_phrases::put_score(buf, j, language, dealer, 2, s[2]);
-    speech_phrases::put_score(buf, k, language, dealer, 3, s[3])
+    for (seat, &score) in scores.iter().enumerate() {
+        speech_phrases::put_score(clips, language, dealer, seat as u8, score);
+    }
 }
 
-// The message of a game's scores, in a buffer with room for the work.
-fn put_scores(buf: &mut [u8], language: u8, g: Position) -> usize
-    requires { 192 ≤ length buf.old }
-    ensures { Put buf.old 0 (scores_message language g) buf.new result × (result ≤ 92) }
+// The message of a game's scores.
+#[tactic(auto, unfolding(crate::specs::Messages::scores_message))]
+fn scores_clips(language: u8, g: Position) -> Bytes<192>
+    ensures value { result ≡ scores_message language g }
+    ensures few { length result ≤ 92 }
 {
-    let s = g.scores;
-    let i = put_four(buf, language, g.dealer, s);
-    let j = speech_phrases::put_counted(buf, i, language, 77, g.sticks);
-    speech_phrases::put_counted(buf, j, language, 78, g.counter)
+    let mut clips = Bytes::new();
+    put_four(&mut clips, language, g.dealer, g.scores);
+    speech_phrases::put_counted(&mut clips, language, 77, g.sticks);
+    speech_phrases::put_counted(&mut clips, language, 78, g.counter);
+    clips
 }
 
 // A game's scores, said; any value of the game may be given.
@@ -41,45 +43,33 @@ pub fn say_scores(language: u8, g: Position, buf: &mut [u8]) -> Said
     if !speech_score::is_known(language) {
         return speech_score::refused(8);
     }
-    let mut work = [0u8; 192];
-    let n = put_scores(&mut work, language, g);
-    speech_score::give(buf, &work[..n])
+    speech_score::give(buf, scores_clips(language, g).as_slice())
 }
 
 // There is a wait.
-fn any_wait(w: [bool; 34]) -> bool
-    ensures { result ≡ any_below 34 (λ k. get_or w k false) }
+fn any_wait(waits: [bool; 34]) -> bool
+    ensures { result ≡ any_below 34 (λ k. get_or waits k false) }
 {
-    let mut k: usize = 0;
-    while k < 34 {
-        if w[k] {
-            return true;
-        }
-        k += 1;
-    }
-    false
+    waits.contains(&true)
 }
 
-// The message of waits, in a buffer with room for the work.
-fn put_waits(buf: &mut [u8], w: Waits) -> usize
-    requires { 192 ≤ length buf.old }
-    ensures { Put buf.old 0 (waits_message w) buf.new result × (result ≤ 36) }
+// The message of waits.
+#[tactic(auto, unfolding(crate::specs::Messages::waits_message))]
+fn waits_clips(w: Waits) -> Bytes<192>
+    ensures value { result ≡ waits_message w }
+    ensures few { length result ≤ 36 }
 {
-    let set = w.waits;
-    let furiten = w.furiten;
-    if any_wait(set) {
-        let i = speech_phrases::put_clip(buf, 0, 79);
-        let j = speech_phrases::put_tiles(buf, i, set);
-        if furiten {
-            return speech_phrases::put_clip(buf, j, 81);
-        }
-        return j;
+    let mut clips = Bytes::new();
+    if any_wait(w.waits) {
+        clips.push(79);
+        speech_phrases::put_tiles(&mut clips, w.waits);
+    } else {
+        clips.push(80);
     }
-    let k = speech_phrases::put_clip(buf, 0, 80);
-    if furiten {
-        return speech_phrases::put_clip(buf, k, 81);
+    if w.furiten {
+        clips.push(81);
     }
-    k
+    clips
 }
 
 // The waits of an unfinished hand, said, and furiten; or the refusal.
@@ -93,22 +83,24 @@ pub fn say_waits(language: u8, s: &[u8], discards: &[u8], buf: &mut [u8]) -> Sai
     if 0 < a.refusal {
         return speech_score::refused(a.refusal);
     }
-    let mut work = [0u8; 192];
-    let n = put_waits(&mut work, a);
-    speech_score::give(buf, &work[..n])
+    speech_score::give(buf, waits_clips(a).as_slice())
 }
 
-// The message of readiness, in a buffer with room for the work.
-fn put_ready(buf: &mut [u8], language: u8, swaps: u8) -> usize
-    requires { 192 ≤ length buf.old }
-    ensures { Put buf.old 0 (ready_message language swaps) buf.new result × (result ≤ 14) }
+// The message of readiness.
+#[tactic(auto, unfolding(crate::specs::Messages::ready_message))]
+fn ready_clips(language: u8, swaps: u8) -> Bytes<192>
+    ensures value { result ≡ ready_message language swaps }
+    ensures few { length result ≤ 14 }
 {
+    let mut clips = Bytes::new();
     let none = swaps == 0;
     if none {
-        return speech_phrases::put_clip(buf, 0, 82);
+        clips.push(82);
+    } else {
+        speech_numerals::number(&mut clips, language, u32::from(swaps));
+        clips.push(83);
     }
-    let i = speech_numerals::number(buf, 0, language, swaps as u32);
-    speech_phrases::put_clip(buf, i, 83)
+    clips
 }
 
 // How far an unfinished hand is from ready, said; or the refusal.
@@ -122,7 +114,5 @@ pub fn say_ready(language: u8, s: &[u8], buf: &mut [u8]) -> Said
     if 0 < a.refusal {
         return speech_score::refused(a.refusal);
     }
-    let mut work = [0u8; 192];
-    let n = put_ready(&mut work, language, a.swaps);
-    speech_score::give(buf, &work[..n])
+    speech_score::give(buf, ready_clips(language, a.swaps).as_slice())
 }

@@ -4,6 +4,7 @@
 use std::io;
 use std::io::Read;
 
+// stays in both programs: the gate runs a program on one input, and a function of a library that reads input could promise nothing
 fn main(rt: HostRuntime) -> io::Result<()> {
     let mut s = Vec::new(rt.alloc());
     rt.reader().take(65536).read_to_end(&mut s)?;

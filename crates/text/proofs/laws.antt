@@ -1,5 +1,5 @@
 pub mod Digits
 pub mod Back
 pub mod Put
-pub mod Absolute
+pub mod Line
 pub mod Examples

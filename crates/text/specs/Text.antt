@@ -25,10 +25,6 @@ spaced (f ∷ g ∷ fs) = f ++ (32 ∷ spaced (g ∷ fs))
 abbrev pub score_text : List ℤ → ℕ → List ℕ
 score_text scores seat = signed_of (get_or scores seat (pos 0))
 
--- the four scores, a space after each
-unfoldable pub scores_text : List ℤ → List ℕ
-scores_text s = (score_text s 0 ++ (32 ∷ [])) ++ ((score_text s 1 ++ (32 ∷ [])) ++ ((score_text s 2 ++ (32 ∷ [])) ++ (score_text s 3 ++ (32 ∷ []))))
-
 -- "entry from 1, letter R W D C, refusal (0 accepted), scores of seats 0 to 3, sticks"
 unfoldable pub line_of : ℕ → ℕ → ℕ → List ℤ → ℕ → List ℕ
 line_of entry letter refusal scores sticks =

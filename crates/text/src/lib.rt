@@ -1,105 +1,59 @@
 // Numbers as text and a line of `tally` (01, Log). `line` takes all input.
 #![tactic(auto)]
 
-ghost use Rattle.std.specs.Prelude.{◌≡◌, [], ◌∷◌, ◌++◌, ◌+◌, ◌≤◌, min, length, take, drop, nat_abs};
-ghost use Rattle.text.specs.Text.{digits_of, signed_of, line_of, length_in, buffer_with, scores_text};
-ghost use Rattle.text.specs.Put.{Put};
+ghost use Rattle.std.specs.Prelude.{◌≡◌, [], ◌∷◌, ◌++◌, ◌+◌, ◌<◌, ◌≤◌, min, length, take, drop};
+ghost use Rattle.text.specs.Text.{digits_of, signed_of, line_of, length_in, buffer_with};
 
-// Writes the digits of n from `at` on, those of its tenth first, and returns the place after them.
-fn digits(buf: &mut [u8], at: usize, n: u32) -> usize
-    requires { at + length (digits_of n) ≤ length buf.old }
-    ensures { Put buf.old at (digits_of n) buf.new result }
+mod bytes;
+
+pub use bytes::Bytes;
+
+// The digits of n, those of its tenth first.
+#[tactic(auto, using(crate::proofs::laws::Digits::by_tenths))]
+fn digits(n: u32) -> Bytes<10>
+    ensures value { result ≡ digits_of n }
+    ensures few { length result ≤ 10 }
 {
-    if n < 10 {
-        buf[at] = b'0' + (n as u8);
-        return at + 1;
-    }
-    let e = digits(buf, at, n / 10);
-    buf[e] = b'0' + ((n % 10) as u8);
-    e + 1
+    let mut text = if n < 10 { Bytes::new() } else { digits(n / 10) };
+    text.push(b'0' + (n % 10) as u8);
+    text
 }
 
-// How far n is from zero.
-pub fn absolute(n: i32) -> u32
-    ensures { result ≡ nat_abs n }
+// The digits of n, with a minus before those of a negative one.
+pub fn signed(n: i32) -> Bytes<11>
+    ensures value { result ≡ signed_of n }
+    ensures few { length result ≤ 11 }
 {
+    let mut text = Bytes::new();
     if n < 0 {
-        return (0 - (n as i64)) as u32;
+        text.push(b'-');
     }
-    n as u32
+    text.extend(digits(n.unsigned_abs()).as_slice());
+    text
 }
 
-// Writes n, with a minus before a negative one.
-pub fn signed(buf: &mut [u8], at: usize, n: i32) -> usize
-    requires { at + length (signed_of n) ≤ length buf.old }
-    ensures { Put buf.old at (signed_of n) buf.new result }
+// Writes a field of a line and the byte that stands after it.
+fn put_field(text: &mut Bytes<83>, field: &[u8], after: u8)
+    requires { length text.old + length field.now < 83 }
+    ensures { text.new ≡ text.old ++ (field.now ++ (after ∷ [])) }
 {
-    let m = absolute(n);
-    if n < 0 {
-        buf[at] = b'-';
-        return digits(buf, at + 1, m);
+    text.extend(field);
+    text.push(after);
+}
+
+// A line. It fits in 83 bytes: 11 for each number and 12 for each score with the byte after it, 2 for the letter.
+fn written(entry: u32, letter: u8, refusal: u8, scores: [i32; 4], sticks: u32) -> Bytes<83>
+    ensures { result ≡ line_of entry letter refusal scores sticks }
+{
+    let mut text = Bytes::new();
+    put_field(&mut text, digits(entry).as_slice(), b' ');
+    put_field(&mut text, &[letter], b' ');
+    put_field(&mut text, digits(u32::from(refusal)).as_slice(), b' ');
+    for score in scores {
+        put_field(&mut text, signed(score).as_slice(), b' ');
     }
-    digits(buf, at, m)
-}
-
-// Writes n and the byte that stands after it.
-fn number(buf: &mut [u8], at: usize, n: u32, after: u8) -> usize
-    requires { at + 11 ≤ length buf.old }
-    ensures { Put buf.old at (digits_of n ++ (after ∷ [])) buf.new result × (result ≤ at + 11) }
-{
-    let e = digits(buf, at, n);
-    buf[e] = after;
-    e + 1
-}
-
-// Writes a score and the space after it.
-fn score(buf: &mut [u8], at: usize, n: i32) -> usize
-    requires { at + 12 ≤ length buf.old }
-    ensures { Put buf.old at (signed_of n ++ (32 ∷ [])) buf.new result × (result ≤ at + 12) }
-{
-    let e = signed(buf, at, n);
-    buf[e] = b' ';
-    e + 1
-}
-
-// Writes a letter and the space after it.
-fn put_letter(buf: &mut [u8], at: usize, letter: u8) -> usize
-    requires { at + 2 ≤ length buf.old }
-    ensures { Put buf.old at (letter ∷ 32 ∷ []) buf.new result × (result ≤ at + 2) }
-{
-    buf[at] = letter;
-    buf[at + 1] = b' ';
-    at + 2
-}
-
-// Writes the four scores, a space after each.
-fn put_scores(buf: &mut [u8], at: usize, s: [i32; 4]) -> usize
-    requires { at + 48 ≤ length buf.old }
-    ensures { Put buf.old at (scores_text s) buf.new result × (result ≤ at + 48) }
-{
-    let a = score(buf, at, s[0]);
-    let b = score(buf, a, s[1]);
-    let c = score(buf, b, s[2]);
-    score(buf, c, s[3])
-}
-
-// Writes a line. It fits in 83 bytes: 11 for each number and 12 for each score with the byte after it, 2 for the letter.
-fn put_line(
-    buf: &mut [u8],
-    entry: u32,
-    letter: u8,
-    refusal: u8,
-    scores: [i32; 4],
-    sticks: u32,
-) -> usize
-    requires { 83 ≤ length buf.old }
-    ensures { Put buf.old 0 (line_of entry letter refusal scores sticks) buf.new result × (result ≤ 83) }
-{
-    let a = number(buf, 0, entry, b' ');
-    let b = put_letter(buf, a, letter);
-    let c = number(buf, b, refusal as u32, b' ');
-    let d = put_scores(buf, c, scores);
-    number(buf, d, sticks, b'\n')
+    put_field(&mut text, digits(sticks).as_slice(), b'\n');
+    text
 }
 
 // Copies bytes to the start of a buffer, as many as fit, and returns how many.
@@ -107,11 +61,7 @@ pub fn copy(from: &[u8], to: &mut [u8]) -> usize
     ensures count { result ≡ min (length from.now) (length to.old) }
     ensures copied { to.new ≡ take result from.now ++ drop result to.old }
 {
-    let n = if from.len() < to.len() {
-        from.len()
-    } else {
-        to.len()
-    };
+    let n = from.len().min(to.len());
     to[..n].copy_from_slice(&from[..n]);
     n
 }
@@ -129,10 +79,9 @@ pub fn line(
     ensures buf_after { buf.new ≡ buffer_with buf.old (line_of entry letter refusal scores sticks) }
     ensures sticks_len_bound { length (line_of entry letter refusal scores sticks) ≤ 83 }
 {
-    let mut text = [0u8; 83];
-    let n = put_line(&mut text, entry, letter, refusal, scores, sticks);
-    if buf.len() < n {
+    let text = written(entry, letter, refusal, scores, sticks);
+    if buf.len() < text.len() {
         return 0;
     }
-    copy(&text[..n], buf)
+    copy(text.as_slice(), buf)
 }

@@ -1,10 +1,11 @@
 -- An unfinished hand as bytes (02, S-1): its bits, and what its reader refuses. What the tiles held are refused for is `hand`'s.
-use Rattle.std.specs.Prelude.{◌≡◌, Bool, false, ◌||◌, cond, not, List, [], ◌∷◌, ℕ, ◌+◌, ◌*◌, ◌-◌, ltb, eqb, length, get_or}
+use Rattle.std.specs.Prelude.{◌≡◌, Bool, false, ◌||◌, cond, not, Result, Ok, Err, List, [], ◌∷◌, ℕ, ◌+◌, ◌*◌, ◌-◌, ltb, eqb, length, get_or}
 use Rattle.bits.specs.Bits.{unpack, bits_of}
 use Rattle.hand.specs.declared.Held.{Held}
 use Rattle.hand.specs.Held.{in_held, wrong_held, descends, over_four}
 use Rattle.hand_record.specs.Record.{held_widths, held_by, none_held}
-use Rattle.unfinished.specs.declared.Unfinished.{Unfinished}
+use Rattle.refusals.specs.declared.Refusal.{Refusal}
+use Rattle.refusals.specs.Refusal.{number}
 
 -- ---- the layout
 
@@ -53,9 +54,19 @@ pub record IsSound (s : List ℕ) : Type 0 where
   pub order : descends (held_of s) ≡ false
   pub four : over_four (in_held (held_of s)) ≡ false
 
+-- what its reader gives: 0 and the tiles held, or the refusal and none
+pub record Unfinished : Type 0 where
+  pub refusal : ℕ
+  pub held : Held
+
 -- a refused input: "all else zero" (01)
 abbrev pub refused_with : ℕ → Unfinished
 refused_with n = record { refusal = n; held = none_held }
+
+-- what the code's answer says: "a definition gives this paper's number and values for each of its cases" (01, The form each place takes)
+abbrev pub numbered : Result Held Refusal → Unfinished
+numbered (Ok x) = record { refusal = 0; held = x }
+numbered (Err r) = refused_with (number r)
 
 -- the tiles held, or why they are refused
 unfoldable pub given_by : Held → ℕ → Unfinished

@@ -3,21 +3,24 @@
 
 ghost use Rattle.std.specs.Prelude.{◌≡◌, ◌≤◌};
 ghost use Rattle.bits.specs.Bits.{pack as pack_bits, fill};
+ghost use Rattle.refusals.specs.Refusal.{refusal_in};
+ghost use Rattle.hand_record.specs.Record.{written_in};
 ghost use Rattle.unfinished.specs.Unfinished.{widths};
-ghost use Rattle.unfinished_writer.specs.Write.{values_of, unwritable as unwritable_of, refusal_after, written_by, buffer_by, written_of, buffer_of};
+ghost use Rattle.unfinished_writer.specs.Write.{values_of, unwritable, refusal_after, written_by, buffer_by, written_of, buffer_of};
 ghost use Rattle.unfinished_writer.specs.Write.{written_from, buffer_from};
 
 use hand::Held;
 use hand_record::Written;
+use refusals::Refusal;
 
-// What the writer refuses of the tiles held before it looks at the buffer: 2 to 4, or 0.
-fn unwritable(x: Held) -> u8
-    ensures { result ≡ unwritable_of x }
+// What the writer refuses of the tiles held before it looks at the buffer: 2 to 4.
+fn check_writable(x: Held) -> Result<(), Refusal>
+    ensures { refusal_in result ≡ unwritable x }
 {
     if (4 < x.m) | hand_refusals::unused_not_zero(x) {
-        2
+        Err(Refusal::Field)
     } else {
-        unfinished::held_refusal(x, 0)
+        unfinished::check(x, 0)
     }
 }
 
@@ -34,46 +37,52 @@ fn pack(x: Held) -> [u8; 88]
 }
 
 // Stores the bytes of an unfinished hand at the front of the buffer and gives their length; 13 and no byte stored where they do not fit.
-fn store(x: Held, buf: &mut [u8]) -> Written
+fn store(x: Held, buf: &mut [u8]) -> Result<usize, Refusal>
     requires { x.m ≤ 4 }
-    ensures value { result ≡ written_by (refusal_after 0 x buf.old) x }
+    ensures value { written_in result ≡ written_by (refusal_after 0 x buf.old) x }
     ensures buf_after { buf.new ≡ buffer_by (refusal_after 0 x buf.old) x buf.old }
 {
     let n = unfinished::LENGTHS[x.m as usize];
     if buf.len() < n {
-        return Written {
-            refusal: 13,
-            len: 0,
-        };
+        return Err(Refusal::Buffer);
     }
     let b = pack(x);
     let ew = [8u8; 11];
     bits::unpack_into(&ew[..n], &b, 0, buf);
-    Written { refusal: 0, len: n }
+    Ok(n)
 }
 
-// Stores the unfinished hand that the tiles held are at the front of the buffer and gives its length; 2 to 4 or 13 and no byte stored where it is refused.
+// Stores the unfinished hand that the tiles held are at the front of the buffer and gives its length; refused with 2 to 4 or 13, and then no byte is
+// stored.
+pub fn try_write(x: Held, buf: &mut [u8]) -> Result<usize, Refusal>
+    ensures value { written_in result ≡ written_of x buf.old }
+    ensures buf_after { buf.new ≡ buffer_of x buf.old }
+{
+    check_writable(x)?;
+    store(x, buf)
+}
+
+// The same, as C is given it: 0 and the length, or the refusal and 0.
 pub fn write(x: Held, buf: &mut [u8]) -> Written
     ensures value { result ≡ written_of x buf.old }
     ensures buf_after { buf.new ≡ buffer_of x buf.old }
 {
-    let j = unwritable(x);
-    if 0 < j {
-        return Written { refusal: j, len: 0 };
-    }
-    store(x, buf)
+    Written::from(try_write(x, buf))
 }
 
-// The same of the tiles held of a record, its winning tile left out; 1 to 5 or 13 and no byte stored where it is refused.
+// The same of the tiles held of a record, its winning tile left out; refused with 1 to 5 or 13, and then no byte is stored.
+pub fn try_from_record(s: &[u8], buf: &mut [u8]) -> Result<usize, Refusal>
+    ensures value { written_in result ≡ written_from s.now buf.old }
+    ensures buf_after { buf.new ≡ buffer_from s.now buf.old }
+{
+    let h = hand_record::read(s).hand()?;
+    store(h.held, buf)
+}
+
+// The same, as C is given it.
 pub fn from_record(s: &[u8], buf: &mut [u8]) -> Written
     ensures value { result ≡ written_from s.now buf.old }
     ensures buf_after { buf.new ≡ buffer_from s.now buf.old }
 {
-    let r = hand_record::read_hand(s);
-    let refusal = r.refusal;
-    let refused = 0 < refusal;
-    if refused {
-        return Written { refusal, len: 0 };
-    }
-    store(r.hand.held, buf)
+    Written::from(try_from_record(s, buf))
 }

@@ -3,156 +3,94 @@
 // how many readings are tried, four changes of 4 bytes from the least significant on, and the ten items of fu.
 #![tactic(auto)]
 
-ghost use Rattle.std.specs.Prelude.{◌≡◌, ◌+◌, ◌<◌, ◌≤◌, length};
+ghost use Rattle.std.specs.Prelude.{◌+◌, ◌≤◌};
 
 use points_fu::Items;
 use score::Scored;
 use std::io;
-use std::io::Read;
-
-fn wide(x: u8) -> u64
-    ensures { result < 256 }
-{
-    x as u64
-}
+use std::io::{ErrorKind, Read};
 
 // The number whose four bytes stand from i on, the least significant first.
-fn four(e: &[u8], i: usize) -> u64
-    requires { i + 4 ≤ length e.now }
-    ensures { result < 4294967296 }
+fn number_at(e: &[u8; 54], i: usize) -> i32
+    requires { i + 4 ≤ 54 }
 {
-    wide(e[i]) + 256 * wide(e[i + 1]) + 65536 * wide(e[i + 2]) + 16777216 * wide(e[i + 3])
+    i32::from_le_bytes([e[i], e[i + 1], e[i + 2], e[i + 3]])
 }
 
-fn long(x: u32) -> u64
-    ensures { result < 4294967296 }
-{
-    x as u64
+// The changes of an entry are these.
+fn same_changes(e: &[u8; 54], changes: [i32; 4]) -> bool {
+    changes
+        .iter()
+        .enumerate()
+        .all(|(k, &change)| number_at(e, 28 + 4 * k) == change)
 }
 
-fn tall(x: u16) -> u64 {
-    x as u64
+// The yaku set of an entry is this.
+fn same_yaku(e: &[u8; 54], yaku: [bool; 37]) -> bool {
+    yaku.iter().enumerate().all(|(n, &listed)| (e[22 + n / 8] >> (n % 8) & 1 == 1) == listed)
 }
 
-// The four bytes n are the change c.
-fn is_change(n: u64, c: i32) -> bool
-    requires { n < 4294967296 }
-{
-    let size = long(text::absolute(c));
-    if c < 0 {
-        n + size == 4294967296
-    } else {
-        n == size
-    }
-}
-
-fn same_changes(e: &[u8], c: [i32; 4]) -> bool
-    requires { length e.now ≡ 54 }
-{
-    is_change(four(e, 28), c[0])
-        & is_change(four(e, 32), c[1])
-        & is_change(four(e, 36), c[2])
-        & is_change(four(e, 40), c[3])
-}
-
-fn bit(b: u8, n: u8) -> bool {
-    let k = n % 8;
-    (b >> k) % 2 == 1
-}
-
-fn same_yaku(e: &[u8], y: [bool; 37]) -> bool
-    requires { length e.now ≡ 54 }
-{
-    for n in 0..37 {
-        if bit(e[22 + n / 8], (n % 8) as u8) != y[n] {
-            return false;
-        }
-    }
-    true
-}
-
-fn same_items(e: &[u8], i: Items) -> bool
-    requires { length e.now ≡ 54 }
-{
-    let g = i.group;
-    (i.base.0 == e[44])
-        & (i.ron.0 == e[45])
-        & (i.pair.0 == e[46])
-        & (g[0].0 == e[47])
-        & (g[1].0 == e[48])
-        & (g[2].0 == e[49])
-        & (g[3].0 == e[50])
-        & (i.wait.0 == e[51])
-        & (i.tsumo.0 == e[52])
-        & (i.rounding.0 == e[53])
+// The items of fu of an entry are these.
+fn same_items(e: &[u8; 54], items: Items) -> bool {
+    let told = [e[44], e[45], e[46], e[51], e[52], e[53]];
+    let made = [
+        items.base,
+        items.ron,
+        items.pair,
+        items.wait,
+        items.tsumo,
+        items.rounding,
+    ];
+    told.iter().zip(&made).all(|(told, fu)| *told == fu.0)
+        && e[47..51]
+            .iter()
+            .zip(&items.group)
+            .all(|(told, fu)| *told == fu.0)
 }
 
 // What an entry says of its score is s.
-fn is_told(e: &[u8], s: Scored) -> bool
-    requires { length e.now ≡ 54 }
-{
-    let i = s.items;
-    let y = s.yaku;
-    let c = s.changes;
-    (s.refusal == e[19])
-        & (tall(s.h.0) == wide(e[20]))
-        & (s.fu.0 == e[21])
-        & same_items(e, i)
-        & same_yaku(e, y)
-        & (long(s.tried) == wide(e[27]))
-        & same_changes(e, c)
+fn is_told(e: &[u8; 54], s: Scored) -> bool {
+    s.refusal == e[19]
+        && s.h.0 == u16::from(e[20])
+        && s.fu.0 == e[21]
+        && same_items(e, s.items)
+        && same_yaku(e, s.yaku)
+        && s.tried == u32::from(e[27])
+        && same_changes(e, s.changes)
 }
 
-fn agrees(e: &[u8]) -> bool
-    requires { length e.now ≡ 54 }
-{
-    let n = e[0];
-    if 16 < n {
-        return false;
-    }
-    let end = (n as usize) + 1;
-    let s = score::score(&e[1..end], e[17], e[18]);
-    is_told(e, s)
+// Score gives what the other scorer gives.
+fn agrees(e: &[u8; 54]) -> bool {
+    let n = usize::from(e[0]);
+    n <= 16 && is_told(e, score::score(&e[1..=n], e[17], e[18]))
 }
 
-// 1 where the entry agrees; where it differs, its number n is said. Beside it the error where the output took no more.
-fn compared<R: Print>(rt: &R, e: &[u8], n: u64) -> (u64, io::Result<()>)
-    requires { length e.now ≡ 54 }
-    ensures { result.0 ≤ 1 }
-{
-    if agrees(e) {
-        return (1, Ok(()));
+// Reads the next entry, or says that less than one is left.
+fn next_entry<R: Read>(from: &mut R, e: &mut [u8; 54]) -> io::Result<bool> {
+    match from.read_exact(e) {
+        Ok(()) => Ok(true),
+        Err(error) if error.kind() == ErrorKind::UnexpectedEof => Ok(false),
+        Err(error) => Err(error),
     }
-    (0, println!(rt; "{n} differs"))
-}
-
-// Reads the next entry, or as much as is left of it, and gives how many bytes it read.
-fn next_entry<R: Read>(from: &mut R, e: &mut [u8]) -> io::Result<usize> {
-    let mut at = 0;
-    while at < e.len() {
-        let n = from.read(&mut e[at..])?;
-        if n == 0 {
-            break;
-        }
-        at += n;
-    }
-    Ok(at)
 }
 
 fn main(rt: HostRuntime) -> io::Result<()> {
     let mut from = rt.reader();
     let mut e = [0u8; 54];
-    let mut n: u64 = 0;
-    let mut agree: u64 = 0;
-    while n < 1000000 {
-        if next_entry(&mut from, &mut e)? < 54 {
+    let mut agree = 0u64;
+    let mut differ = 0u64;
+    // stays a range: no more entries are read, and n is printed
+    for n in 1..=1000000u64 {
+        if !next_entry(&mut from, &mut e)? {
             break;
         }
-        n += 1;
-        let (one, said) = compared(&rt, &e, n);
-        said?;
-        agree += one;
+        if agrees(&e) {
+            agree += 1;
+        } else {
+            differ += 1;
+            println!(rt; "{n} differs")?;
+        }
     }
     println!(rt; "{agree} agree")?;
-    println!(rt; "{} differ", n - agree)
+    println!(rt; "{differ} differ")
 }

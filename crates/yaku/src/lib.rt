@@ -2,6 +2,7 @@
 #![tactic(auto)]
 
 ghost use Rattle.std.specs.Prelude.{◌≡◌, ◌<◌, ◌≤◌};
+ghost use Rattle.std.specs.List.{list_any};
 ghost use Rattle.yaku_basics.specs.Tests.{concealed, kans};
 ghost use Rattle.yaku_tiles.specs.search.TileTests.{tile_tests_of};
 ghost use Rattle.yaku.specs.Yaku.{tests_of, is_yakuman, listed as listed_of, yaku_of, has_yaku};
@@ -9,6 +10,9 @@ ghost use Rattle.yaku.specs.search.Common.{group_tests_of, place_tests_of};
 
 use units::Han;
 use yaku_tiles::TileTests;
+
+// Yaku 26 to 36 are the yakuman.
+const FIRST_YAKUMAN: usize = 26;
 
 // What is the same in every reading of a hand. The tally has all tiles, kans whole; round and own are kinds of wind;
 // meldless says that no meld is held.
@@ -27,7 +31,7 @@ pub struct Won {
 
 // A reading with its melds. Shape 0 is regular, 1 seven pairs, 2 thirteen orphans. The four groups are the reading's in its
 // order and then the melds; a way is 0 concealed, 1 open, 2 an open kan, 3 a closed kan. Where there is none, the pair is 34
-// and a group 68.
+// and a group 68. Numbers, since the definitions over the papers' numbers hold them (`tests_of`, `is_concealed`, `triplet_fu`, `earns_wait`).
 #[derive(Clone, Copy)]
 pub struct FullReading {
     pub shape: u8,
@@ -166,11 +170,18 @@ pub fn tests(w: Won, k: GroupTests, q: PlaceTests, p: FullReading) -> [bool; 37]
     y
 }
 
+// One of these tests holds. All are read: a fold without a branch is quicker here than `any`, which stops at the first.
+fn some(tests: &[bool]) -> bool
+    ensures { result ≡ list_any (λ b. b) tests.now }
+{
+    tests.iter().fold(false, |found, &test| found | test)
+}
+
 // A yakuman is among the yaku.
 pub fn is_yakuman(y: [bool; 37]) -> bool
     ensures { result ≡ is_yakuman y }
 {
-    y[26] | y[27] | y[28] | y[29] | y[30] | y[31] | y[32] | y[33] | y[34] | y[35] | y[36]
+    some(&y[FIRST_YAKUMAN..])
 }
 
 // With a yakuman only yakuman are listed.
@@ -178,23 +189,12 @@ fn listed(y: [bool; 37], yakuman: bool) -> [bool; 37]
     requires { yakuman ≡ is_yakuman y }
     ensures { result ≡ listed_of y }
 {
-    if yakuman {
-        let mut z = [false; 37];
-        z[26] = y[26];
-        z[27] = y[27];
-        z[28] = y[28];
-        z[29] = y[29];
-        z[30] = y[30];
-        z[31] = y[31];
-        z[32] = y[32];
-        z[33] = y[33];
-        z[34] = y[34];
-        z[35] = y[35];
-        z[36] = y[36];
-        z
-    } else {
-        y
+    if !yakuman {
+        return y;
     }
+    let mut z = [false; 37];
+    z[FIRST_YAKUMAN..].copy_from_slice(&y[FIRST_YAKUMAN..]);
+    z
 }
 
 // The yaku that are listed for a reading: with a yakuman only yakuman.
@@ -210,9 +210,5 @@ pub fn yaku_of(w: Won, k: GroupTests, q: PlaceTests, p: FullReading) -> [bool; 3
 pub fn has_yaku(y: [bool; 37]) -> bool
     ensures { result ≡ has_yaku y }
 {
-    let mut b = false;
-    for n in 0..37 {
-        b = b | y[n];
-    }
-    b
+    some(&y)
 }

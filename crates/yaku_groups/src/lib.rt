@@ -4,12 +4,15 @@
 
 ghost use Rattle.std.specs.Prelude.{◌≡◌, ◌&&◌, cond, ◌+◌, ◌≤◌, ◌%◌, ltb, leb, get_or};
 ghost use Rattle.tiles.specs.Below.{all, any};
-ghost use Rattle.tiles.specs.Groups.{is_run};
+ghost use Rattle.tiles.specs.Groups.{is_run, is_triplet};
 ghost use Rattle.yaku_basics.specs.Tests.{has as has_of, twins as twins_of, in_three_suits, straight as straight_of, winds as winds_of};
 ghost use Rattle.yaku_basics.specs.Tests.{has_yaochu as has_yaochu_of, outside as outside_of, triplets as triplets_of, is_concealed, concealed as concealed_of, kans as kans_of, four_winds};
 ghost use Rattle.yaku_basics.specs.search.Ways.{ways_at};
 
-use yaku_basics::{has, one, one_has};
+use yaku_basics::{has, how_many, opened_by_ron};
+
+// The groups that are triplets of winds: East, South, West, North.
+const WINDS: [u8; 4] = [61, 62, 63, 64];
 
 // ---- equal and following groups
 
@@ -21,17 +24,15 @@ fn after_odd(c: u8, n: u8) -> u8
     if c < 27 { n % 2 } else { 0 }
 }
 
-// How many twin runs: the second and the fourth of equal runs make one.
+// How many twin runs: the second and the fourth of equal runs make one. Written out: each group is compared with those before it, which two loops
+// in one another say no plainer.
 pub fn twins(g: [u8; 4]) -> u8
     ensures { result ≡ twins_of g }
 {
-    let a = g[0];
-    let b = g[1];
-    let c = g[2];
-    let d = g[3];
-    after_odd(b, one(a == b))
-        + after_odd(c, one(a == c) + one(b == c))
-        + after_odd(d, one(a == d) + one(b == d) + one(c == d))
+    let [a, b, c, d] = g;
+    after_odd(b, u8::from(a == b))
+        + after_odd(c, u8::from(a == c) + u8::from(b == c))
+        + after_odd(d, u8::from(a == d) + u8::from(b == d) + u8::from(c == d))
 }
 
 // The group c is of man, and the same of pin and of sou are among the four.
@@ -39,14 +40,7 @@ fn in_three_at(low: u8, g: [u8; 4], c: u8) -> bool
     requires { low ≤ 34 }
     ensures { result ≡ (leb low c && ltb c (low + 9) && has_of g (c + 9) && has_of g (c + 18)) }
 {
-    if c < low {
-        return false;
-    }
-    if c < low + 9 {
-        has(g, c + 9) & has(g, c + 18)
-    } else {
-        false
-    }
+    low <= c && c < low + 9 && has(g, c + 9) && has(g, c + 18)
 }
 
 // Yaku 13 and 16: the same group in three suits; `low` is the lowest code, 0 for runs, 34 for triplets.
@@ -54,10 +48,7 @@ pub fn in_three_suits(low: u8, g: [u8; 4]) -> bool
     requires { low ≤ 34 }
     ensures { result ≡ in_three_suits low g }
 {
-    in_three_at(low, g, g[0])
-        | in_three_at(low, g, g[1])
-        | in_three_at(low, g, g[2])
-        | in_three_at(low, g, g[3])
+    g.iter().any(|&c| in_three_at(low, g, c))
 }
 
 // 123 456 789 of the suit whose lowest kind is c.
@@ -65,23 +56,20 @@ fn straight_from(g: [u8; 4], c: u8) -> bool
     requires { c ≤ 18 }
     ensures { result ≡ (has_of g c && has_of g (c + 3) && has_of g (c + 6)) }
 {
-    if has(g, c) {
-        has(g, c + 3) & has(g, c + 6)
-    } else {
-        false
-    }
+    has(g, c) && has(g, c + 3) && has(g, c + 6)
 }
 
 // Yaku 14: 123 456 789 of a suit.
 pub fn straight(g: [u8; 4]) -> bool
     ensures { result ≡ straight_of g }
 {
-    straight_from(g, 0) | straight_from(g, 9) | straight_from(g, 18)
+    [0, 9, 18].iter().any(|&c| straight_from(g, c))
 }
 
 // ---- each of the groups
 
 // The group has a yaochu.
+#[tactic(auto, unfolding(yaku_basics::specs::Tests::has_yaochu))]
 fn has_yaochu(c: u8) -> bool
     ensures { result ≡ has_yaochu_of c }
 {
@@ -96,57 +84,54 @@ fn has_yaochu(c: u8) -> bool
 fn all_have_yaochu(g: [u8; 4]) -> bool
     ensures { result ≡ all 4 (λ i. has_yaochu_of (get_or g i 0)) }
 {
-    has_yaochu(g[0]) & has_yaochu(g[1]) & has_yaochu(g[2]) & has_yaochu(g[3])
+    g.iter().all(|&c| has_yaochu(c))
 }
 
 // A run is among the four groups.
 fn has_run(g: [u8; 4]) -> bool
     ensures { result ≡ any 4 (λ i. is_run (get_or g i 0)) }
 {
-    (g[0] < 34) | (g[1] < 34) | (g[2] < 34) | (g[3] < 34)
+    g.iter().any(|&c| c < 34)
 }
 
 // Yaku 15 and 22 but for the honour: yaochu in every group and the pair, a run among them.
+#[tactic(auto, unfolding(yaku_basics::specs::Tests::outside))]
 pub fn outside(g: [u8; 4], pair: u8) -> bool
     ensures { result ≡ outside_of g pair }
 {
-    if tiles::is_yaochu(pair) & has_run(g) {
-        all_have_yaochu(g)
-    } else {
-        false
-    }
+    tiles::is_yaochu(pair) && has_run(g) && all_have_yaochu(g)
+}
+
+// The group is a triplet.
+fn is_triplet(c: u8) -> bool
+    ensures { result ≡ is_triplet c }
+{
+    (34..68).contains(&c)
 }
 
 // Yaku 17: four triplets.
 pub fn triplets(g: [u8; 4]) -> bool
     ensures { result ≡ triplets_of g }
 {
-    let a = g[0];
-    let b = g[1];
-    let c = g[2];
-    let d = g[3];
-    ((34 <= a) & (a < 68))
-        & ((34 <= b) & (b < 68))
-        & ((34 <= c) & (c < 68))
-        & ((34 <= d) & (d < 68))
+    g.iter().all(|&c| is_triplet(c))
 }
 
-// 1 where the group is a concealed triplet.
-fn is_concealed(c: u8, way: u8) -> u8
-    ensures value { result ≡ cond (is_concealed c way) 1 0 }
-    ensures upper_bound { result ≤ 1 }
+// The group is a concealed triplet.
+fn is_concealed(c: u8, way: u8) -> bool
+    ensures { result ≡ is_concealed c way }
 {
-    one((34 <= c) & (c < 68) & ((way == 0) | (way == 3)))
+    is_triplet(c) & ((way == 0) | (way == 3))
 }
 
 // Yaku 18 and 30: how many triplets are concealed.
 pub fn concealed(g: [u8; 4], ways: [u8; 4]) -> u8
     ensures { result ≡ concealed_of g ways }
 {
-    is_concealed(g[0], ways[0])
-        + is_concealed(g[1], ways[1])
-        + is_concealed(g[2], ways[2])
-        + is_concealed(g[3], ways[3])
+    let mut n = 0;
+    for (c, way) in g.iter().zip(&ways) {
+        n += u8::from(is_concealed(*c, *way));
+    }
+    n
 }
 
 // How many of `all` concealed triplets stay concealed. The winning tile completes the pair (place 0) or a group; by ron that group is open.
@@ -154,11 +139,9 @@ pub fn concealed_at(all: u8, g: [u8; 4], ways: [u8; 4], ron: bool, place: u8) ->
     requires { (all ≡ concealed_of g ways) × (place ≤ 4) }
     ensures { result ≡ concealed_of g (ways_at ways ron place) }
 {
-    if ron & (0 < place) {
-        let i = (place - 1) as usize;
-        all - is_concealed(g[i], ways[i])
-    } else {
-        all
+    match opened_by_ron(ron, place) {
+        Some(i) => all - u8::from(is_concealed(g[i], ways[i])),
+        None => all,
     }
 }
 
@@ -167,11 +150,9 @@ pub fn kans_at(all: u8, ways: [u8; 4], ron: bool, place: u8) -> u8
     requires { (all ≡ kans_of ways) × (place ≤ 4) }
     ensures { result ≡ kans_of (ways_at ways ron place) }
 {
-    if ron & (0 < place) {
-        let i = (place - 1) as usize;
-        all - one(2 <= ways[i])
-    } else {
-        all
+    match opened_by_ron(ron, place) {
+        Some(i) => all - u8::from(2 <= ways[i]),
+        None => all,
     }
 }
 
@@ -179,20 +160,25 @@ pub fn kans_at(all: u8, ways: [u8; 4], ron: bool, place: u8) -> u8
 pub fn kans(ways: [u8; 4]) -> u8
     ensures { result ≡ kans_of ways }
 {
-    one(2 <= ways[0]) + one(2 <= ways[1]) + one(2 <= ways[2]) + one(2 <= ways[3])
+    let mut n = 0;
+    for way in ways {
+        n += u8::from(2 <= way);
+    }
+    n
 }
 
 // How many wind triplets there are.
 fn winds(g: [u8; 4]) -> u8
     ensures { result ≡ winds_of g }
 {
-    one_has(g, 61) + one_has(g, 62) + one_has(g, 63) + one_has(g, 64)
+    how_many(g, &WINDS) as u8
 }
 
 // Yaku 29: three wind triplets and a wind pair, or four wind triplets.
+#[tactic(auto, unfolding(yaku_basics::specs::Tests::four_winds))]
 pub fn four_winds(g: [u8; 4], pair: u8) -> bool
     ensures { result ≡ four_winds g pair }
 {
     let n = winds(g);
-    ((n == 3) & ((27 <= pair) & (pair <= 30))) | (n == 4)
+    ((n == 3) & (27..=30).contains(&pair)) | (n == 4)
 }

@@ -46,7 +46,7 @@ const PIN_HONOURS: [bool; 9] = [false, false, true, true, false, false, false, t
 
 const SOU_HONOURS: [bool; 9] = [false, false, false, false, true, true, true, true, true];
 
-// Which sorts of tiles the tally has.
+// Which sorts of tiles the tally has. Written out: the kinds of a sort are no range, and a table of nine lists of kinds is no plainer.
 fn sorts(t: [u8; 34]) -> [bool; 9]
     ensures { result ≡ sorts_in t }
 {
@@ -73,15 +73,9 @@ fn sorts(t: [u8; 34]) -> [bool; 9]
 fn only(x: [bool; 9], set: [bool; 9]) -> bool
     ensures { result ≡ within x set }
 {
-    (set[0] | !x[0])
-        & (set[1] | !x[1])
-        & (set[2] | !x[2])
-        & (set[3] | !x[3])
-        & (set[4] | !x[4])
-        & (set[5] | !x[5])
-        & (set[6] | !x[6])
-        & (set[7] | !x[7])
-        & (set[8] | !x[8])
+    x.iter()
+        .zip(&set)
+        .all(|(there, allowed)| *allowed | !*there)
 }
 
 // Three of the 1 and of the 9 of a suit, and one at least of each between.

@@ -6,5 +6,5 @@ pub loop-i-preserved : goal.loop-i-preserved
 loop-i-preserved c =
     let l = c.loop-i in
     let a = c.args in
-    let now = turn _ _ _ _ _ c.loop-i-test.true c.requires.1 l.invariant.1 c.requires.2 in
-    (omega arith, now.2, rw c.put.ensures (sym (pack_step a.ws.now a.vs.now l.b l.i l.o c.loop-i-test.true (omega arith)) ∙ l.invariant.2))
+    let now = turn _ _ _ _ _ c.loop-i-test.true c.requires.1 l.invariant.0 c.requires.2 in
+    (now.2, rw c.put.ensures (sym (pack_step a.ws.now a.vs.now l.b l.i l.o c.loop-i-test.true (omega arith)) ∙ l.invariant.1))

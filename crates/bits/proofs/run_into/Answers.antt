@@ -11,9 +11,9 @@ loop-i-preserved c =
     let e = run_turns a.w a.n l.i h in
     (h, omega (arith, e, l.invariant.1), sym (run_three (bits_of a.s.now) l.out c.three-t.result a.w a.n l.i l.o c.three-t.ensures h) ∙ l.invariant.2)
 
-pub loop-i-2-preserved : goal.loop-i-2-preserved
-loop-i-2-preserved c =
-    let l = c.loop-i-2 in
+pub loop-j-preserved : goal.loop-j-preserved
+loop-j-preserved c =
+    let l = c.loop-j in
     let a = c.args in
-    let e = run_turn a.w a.n l.i c.loop-i-2-test.true in
-    (omega arith, omega (arith, e, l.invariant.1), rw c.field.ensures (sym (run_step (bits_of a.s.now) l.out a.w a.n l.i l.o c.loop-i-2-test.true) ∙ l.invariant.2))
+    let e = run_turn a.w a.n l.j c.loop-j-test.true in
+    (omega (arith, e, l.invariant.0), rw c.field.ensures (sym (run_step (bits_of a.s.now) l.out a.w a.n l.j l.o c.loop-j-test.true) ∙ l.invariant.1))

@@ -11,10 +11,7 @@ invariant-loop-i l =
 abbrev pub decreases-loop-i : goal.decreases-loop-i
 decreases-loop-i l = l.n - l.i
 
-abbrev pub invariant-loop-i-2 : goal.invariant-loop-i-2
-invariant-loop-i-2 l =
-    (l.i ≤ l.n) × (l.o + l.w * (l.n - l.i) ≡ l.fn.at + l.w * l.n)
-    × (sets l.out l.i (unpack (replicate (l.n - l.i) l.w) (drop l.o (bits_of l.s))) ≡ sets l.fn.out 0 (unpack (replicate l.n l.w) (drop l.fn.at (bits_of l.s))))
-
-abbrev pub decreases-loop-i-2 : goal.decreases-loop-i-2
-decreases-loop-i-2 l = l.n - l.i
+abbrev pub invariant-loop-j : goal.invariant-loop-j
+invariant-loop-j l =
+    (l.o + l.w * (l.n - l.j) ≡ l.fn.at + l.w * l.n)
+    × (sets l.out l.j (unpack (replicate (l.n - l.j) l.w) (drop l.o (bits_of l.s))) ≡ sets l.fn.out 0 (unpack (replicate l.n l.w) (drop l.fn.at (bits_of l.s))))

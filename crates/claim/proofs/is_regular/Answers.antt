@@ -1,3 +1,4 @@
+-- The pair is there, and taking off the groups leaves no tile.
 use Rattle.std.proofs.Common.{◌≡◌, ◌<◌, ◌≤◌, ℕ, Bool, false, ◌&&◌, List, get_or, take, le-leb}
 use Rattle.std.proofs.lemmas.Bool.{lt-leb}
 use Rattle.reading.specs.Reading.{holds}
@@ -20,5 +21,4 @@ returns-then-t-k-lt2 c = short _ _ _ _ _ _ c.if-t-k-lt2.true
 
 pub returns : goal.returns
 returns c =
-    made _ _ _ _ _ _ c.if-t-k-lt2.false c.without_pair-u.result c.splits_as.result c.holds.result c.without_pair-u.ensures
-    c.splits_as.ensures c.holds.ensures
+    made _ _ _ _ _ _ c.if-t-k-lt2.false c.without_pair.result c.splits_as.result c.holds.result c.without_pair.ensures c.splits_as.ensures c.holds.ensures

@@ -1,7 +1,7 @@
 -- Codes with 68 after them, and lists of codes.
-use Rattle.std.specs.Prelude.{ℕ, ◌+◌, ◌-◌, ◌≤◌, ◌<◌, ◌≡◌, refl, true, ◌&&◌, List, [], ◌∷◌, ◌++◌, leb, length, get_or, take, drop, replicate}
-use Rattle.std.proofs.Common.{ap, ◌∙◌, zero-add, add-one, arith, leb-true, le-leb, length-drop, length-take-le, drop-cons, get_or-take}
-use Rattle.std.proofs.lemmas.List.{length-replicate}
+use Rattle.std.specs.Prelude.{ℕ, ◌+◌, ◌-◌, ◌≤◌, ◌<◌, ◌≡◌, refl, true, ◌&&◌, List, [], ◌∷◌, ◌++◌, leb, length, get_or, drop, replicate}
+use Rattle.std.proofs.Common.{ap, ◌∙◌, zero-add, add-one, arith, leb-true, le-leb, drop-cons}
+use Rattle.std.proofs.lemmas.List.{length-replicate, drop_all}
 use Rattle.std.proofs.lemmas.List.Edits.{sets, sets-eq}
 use Rattle.tiles.specs.Groups.{is_group}
 use Rattle.tiles.proofs.laws.Below.{and_true}
@@ -43,24 +43,12 @@ unfolding ascends
 ascends_of c [] o = refl
 ascends_of c (g ∷ gs) o = rw (le-leb c g o.0, o.1) (ascends_of g gs o.2)
 
--- what is left of the first n after i
-pub next : (g : List ℕ) (i n : ℕ) → i < n → n ≤ length g → drop i (take n g) ≡ get_or g i 0 ∷ drop (i + 1) (take n g)
-next g i n h l =
-    let k : i < length (take n g) = omega (arith, length-take-le n g l) in
-    rw (add-one, drop-cons (take n g) i 0 k, get_or-take n g i 0 h)
-
-pub none_left : (g : List ℕ) (i n : ℕ) → n ≤ i → n ≤ length g → drop i (take n g) ≡ []
-none_left g i n h l = go (drop i (take n g)) (omega (arith, length-drop i (take n g), length-take-le n g l))
-  where
-    go : (x : List ℕ) → length x ≤ 0 → x ≡ []
-    go [] z = refl
-    go (y ∷ x) z = absurd (omega arith)
-
-module _ (g : List ℕ) (i n c : ℕ) (l : n ≤ length g) where
-  pub ascends_turn : i < n → ascends c (drop i (take n g)) ≡ leb c (get_or g i 0) && is_group (get_or g i 0) && ascends (get_or g i 0) (drop (i + 1) (take n g))
+-- one turn of the loop, and its end
+module _ (g : List ℕ) (i c : ℕ) where
+  pub ascends_turn : i < length g → ascends c (drop i g) ≡ leb c (get_or g i 0) && is_group (get_or g i 0) && ascends (get_or g i 0) (drop (i + 1) g)
   unfolding ascends
-  ascends_turn h = rw (next g i n h l)
+  ascends_turn h = rw (add-one, drop-cons g i 0 h)
 
-  pub ascends_done : n ≤ i → ascends c (drop i (take n g)) ≡ true
+  pub ascends_done : length g ≤ i → ascends c (drop i g) ≡ true
   unfolding ascends
-  ascends_done h = rw (none_left g i n h l)
+  ascends_done h = rw (drop_all i g h)

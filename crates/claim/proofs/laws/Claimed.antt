@@ -1,7 +1,7 @@
 -- What the code finds in a claim's bits, case by case.
-use Rattle.std.specs.Prelude.{ℕ, zero, suc, ◌+◌, ◌*◌, ◌-◌, ◌≤◌, ◌<◌, ◌≡◌, Bool, true, false, ◌&&◌, ◌||◌, not, cond, ltb, eqb, length, get_or, take, replicate}
+use Rattle.std.specs.Prelude.{ℕ, zero, suc, ◌+◌, ◌*◌, ◌-◌, ◌≤◌, ◌≡◌, Bool, true, false, ◌&&◌, ◌||◌, not, cond, ltb, eqb, length, take, replicate, None, Some}
 use Rattle.std.proofs.Math.Path.{refl, ap}
-use Rattle.std.proofs.Common.{sym, ◌∙◌, take_at, take_all}
+use Rattle.std.proofs.Common.{◌∙◌, take_at, take_all}
 use mathlib.Core.List.{List, [], ◌∷◌, ◌++◌}
 use native.Mathlib.Omega.{arith}
 use borrow.Author.Tests.{ne_eqb, eq-eqb, le-ltb, ltb-false, eqb-true, eqb-false, not-false}
@@ -13,7 +13,7 @@ use Rattle.reading.specs.declared.Reading.{Reading}
 use Rattle.reading.specs.Reading.{Ascends, of_shape}
 use Rattle.tiles.proofs.laws.Below.{or_both}
 use Rattle.claim.specs.search.Claimed.{field, shape_in, pair_in, place_in, codes_in, gain_of, padding_in, length_of, pad_of, ascends, reading_in, faulty_regular}
-use Rattle.claim.specs.search.Claimed.{faulty_in, nothing, claimed_in}
+use Rattle.claim.specs.search.Claimed.{gain_at, faulty_in, named_in, claimed_in}
 use Rattle.claim.proofs.laws.Bits.{length_codes, ascends_true, ascends_of}
 pub use Rattle.claim.specs.search.Claimed.{widths}
 
@@ -34,94 +34,94 @@ sizes shape m h = go (eqb shape 0)
     go false = (omega arith, omega arith)
 
 module _ (m n : ℕ) (b : List ℕ) where
-  pub claimed_faulty : faulty_in m n b ≡ true → nothing ≡ claimed_in m n b
+  pub claimed_faulty : faulty_in m n b ≡ true → None ≡ claimed_in m n b
   unfolding claimed_in
   claimed_faulty e = rw e
 
-  pub claimed_sound : faulty_in m n b ≡ false → record { sound = true; reading = reading_in m b; gain = record { 0 = gain_of m b } } ≡ claimed_in m n b
+  pub claimed_sound : faulty_in m n b ≡ false → Some (record { reading = reading_in m b; gain = record { 0 = gain_of m b } }) ≡ claimed_in m n b
   unfolding claimed_in
   claimed_sound e = rw e
 
   -- another length
-  pub other_length : (n ≡ length_of (shape_in b) m → ⊥) → nothing ≡ claimed_in m n b
+  other_length : (n ≡ length_of (shape_in b) m → ⊥) → None ≡ claimed_in m n b
   unfolding faulty_in
   other_length h = claimed_faulty (rw (ne_eqb n (length_of (shape_in b) m) h))
 
-  -- and of a regular claim
-  pub length_0 : (shape : ℕ) → shape ≡ shape_in b → shape ≡ 0 → (n ≡ length_of 0 m → ⊥) → nothing ≡ claimed_in m n b
-  length_0 shape s z h = other_length (λ e. h (e ∙ ap (λ (k : ℕ). length_of k m) (sym s ∙ z)))
+  -- so many bytes no claim has
+  pub far_length : m ≤ 4 → (3 ≤ n → n ≤ 7 → ⊥) → None ≡ claimed_in m n b
+  far_length h f = other_length (λ e. let z = sizes (shape_in b) m h in f (omega arith) (omega arith))
 
-pub far_length : (m n : ℕ) (b : List ℕ) → m ≤ 4 → (3 ≤ n → n ≤ 7 → ⊥) → nothing ≡ claimed_in m n b
-far_length m n b h f = other_length m n b (λ e. let z = sizes (shape_in b) m h in f (omega arith) (omega arith))
+  module _ (shape : ℕ) (s : shape ≡ shape_in b) where
+    -- another length or shape
+    pub far_shape : not (eqb n (length_of shape m)) || eqb shape 3 ≡ true → None ≡ claimed_in m n b
+    unfolding faulty_in
+    far_shape t = claimed_faulty (rw (← s, t))
 
--- ---- shape 0
-module _ (m : ℕ) (b : List ℕ) (z : shape_in b ≡ 0) (pair place gain pad : ℕ) (groups : List ℕ) (a : Bool) (e1 : pair ≡ field 2 6 b)
-    (e2 : groups ≡ codes_in m b ++ replicate m 68) (e3 : place ≡ field (8 + 7 * (4 - m)) 3 b) (e4 : gain ≡ field (8 + 7 * (4 - m) + 3) 17 b)
-    (e5 : pad ≡ field (8 + 7 * (4 - m) + 20) (get_or (0 ∷ 7 ∷ 6 ∷ 5 ∷ 4 ∷ []) m 0) b) (e6 : a ≡ ascends 0 (take (4 - m) groups)) where
-  a_is : a ≡ ascends 0 (codes_in m b)
-  a_is = e6 ∙ ap (λ (l : List ℕ). ascends 0 l) (ap (λ (l : List ℕ). take (4 - m) l) e2 ∙ take_at (codes_in m b) (replicate m 68) (4 - m) (length_codes m b))
+    module _ (t : not (eqb n (length_of shape m)) || eqb shape 3 ≡ false) where
+      pub size_is : n ≡ length_of shape m
+      size_is = eqb-true n (length_of shape m) (not-false _ (or_both (not (eqb n (length_of shape m))) (eqb shape 3) t).0)
 
-  pad_is : pad ≡ padding_in m b
+      -- a faulty regular claim
+      pub faulty_reading : eqb shape 0 && faulty_regular m b ≡ true → None ≡ claimed_in m n b
+      unfolding faulty_in
+      faulty_reading f = claimed_faulty (rw (← s, t, f))
+
+      module _ (f : eqb shape 0 && faulty_regular m b ≡ false) (pad : ℕ) (p : pad ≡ padding_in m b) where
+        padded : faulty_in m n b ≡ ltb 0 pad
+        unfolding faulty_in
+        padded = rw (← s, t, f, p)
+
+        pub faulty_padding : ltb 0 pad ≡ true → None ≡ claimed_in m n b
+        faulty_padding e = claimed_faulty (padded ∙ e)
+
+        pub named : (r : Reading) (gain : ℕ) → r ≡ reading_in m b → gain ≡ gain_of m b → ltb 0 pad ≡ false
+            → Some (record { reading = r; gain = record { 0 = gain } }) ≡ claimed_in m n b
+        named r gain er eg e =
+            ap (λ (x : Reading). Some (record { reading = x; gain = record { 0 = gain } })) er
+            ∙ ap (λ (k : ℕ). Some (record { reading = reading_in m b; gain = record { 0 = k } })) eg
+            ∙ claimed_sound (padded ∙ e)
+
+-- ---- its parts
+
+module _ (m : ℕ) (b : List ℕ) (shape : ℕ) (s : shape ≡ shape_in b) where
+  pub gain_is : (gain at : ℕ) → at ≡ gain_at shape m → gain ≡ field at 17 b → gain ≡ gain_of m b
+  unfolding gain_of
+  gain_is gain at ea eg = rw (← s, ← ea) eg
+
+  -- the padding is what is left of the bytes
+  pub padding_is : (pad at n : ℕ) → m ≤ 4 → at ≡ gain_at shape m → n ≡ length_of shape m → pad ≡ field (at + 17) (8 * n - (at + 17)) b → pad ≡ padding_in m b
   unfolding padding_in
-  pad_is =
-      let k : 8 + 7 * (4 - m) + 20 ≡ 11 + 7 * (4 - m) + 17 = omega arith in
-      rw z (e5 ∙ ap (λ (k : ℕ). field k (get_or (0 ∷ 7 ∷ 6 ∷ 5 ∷ 4 ∷ []) m 0) b) k)
+  padding_is pad at n h ea en ep = rw (← s, ← ea) (ep ∙ ap (λ (k : ℕ). field (at + 17) k b) (left at n h ea en))
+    where
+      left : (at n : ℕ) → m ≤ 4 → at ≡ gain_at shape m → n ≡ length_of shape m → 8 * n - (at + 17) ≡ pad_of shape m
+      left at n h ea en = go (eqb shape 0) refl
+        where
+          go : (z : Bool) → eqb shape 0 ≡ z → 8 * n - (at + 17) ≡ pad_of shape m
+          go true z = let e = eqb-true shape 0 z in rw (ea, en, e) (omega (arith, filled m h))
+          go false z = rw (ea, en, z)
 
-  gain_is : gain ≡ gain_of m b
-  unfolding gain_of
-  gain_is =
-      let k : 8 + 7 * (4 - m) + 3 ≡ 11 + 7 * (4 - m) = omega arith in
-      rw z (e4 ∙ ap (λ (k : ℕ). field k 17 b) k)
-
-  test : faulty_in m (length_of 0 m) b ≡ ltb 33 pair || not a || ltb (4 - m) place || ltb 0 pad
-  unfolding faulty_in faulty_regular
-  test = rw (z, eq-eqb (length_of 0 m) (length_of 0 m) refl, e1, a_is, e3, pad_is)
-
-  pub regular_faulty : ltb 33 pair || not a || ltb (4 - m) place || ltb 0 pad ≡ true → nothing ≡ claimed_in m (length_of 0 m) b
-  regular_faulty t = claimed_faulty m (length_of 0 m) b (test ∙ t)
-
-  reading_is : record { shape = 0; pair = pair; groups = groups; place = place } ≡ reading_in m b
+  -- the reading of another shape
+  pub other_reading : (r : Reading) → (shape ≡ 0 → ⊥) → r ≡ of_shape shape → Some r ≡ named_in (eqb shape 0 && faulty_regular m b) (reading_in m b)
   unfolding reading_in
-  reading_is = rw (z, e1, e2, e3)
+  other_reading r z e = rw (← s, ne_eqb shape 0 z, e)
 
-  pub regular_sound : ltb 33 pair || not a || ltb (4 - m) place || ltb 0 pad ≡ false
-      → record { sound = true; reading = record { shape = 0; pair = pair; groups = groups; place = place }; gain = record { 0 = gain } }
-      ≡ claimed_in m (length_of 0 m) b
-  regular_sound t =
-      ap (λ (r : Reading). record { sound = true; reading = r; gain = record { 0 = gain } }) reading_is
-      ∙ ap (λ (k : ℕ). record { sound = true; reading = reading_in m b; gain = record { 0 = k } }) gain_is
-      ∙ claimed_sound m (length_of 0 m) b (test ∙ t)
+  -- and the regular one, by its tests
+  module _ (z : shape ≡ 0) (pair place : ℕ) (groups : List ℕ) (a : Bool) (e1 : pair ≡ field 2 6 b) (e2 : groups ≡ codes_in m b ++ replicate m 68)
+      (e3 : place ≡ field (8 + 7 * (4 - m)) 3 b) (e6 : a ≡ ascends 0 (take (4 - m) groups)) where
+    a_is : a ≡ ascends 0 (codes_in m b)
+    a_is = e6 ∙ ap (λ (l : List ℕ). ascends 0 l) (ap (λ (l : List ℕ). take (4 - m) l) e2 ∙ take_at (codes_in m b) (replicate m 68) (4 - m) (length_codes m b))
 
--- ---- shapes 1 and 2
-module _ (m shape : ℕ) (b : List ℕ) (s : shape_in b ≡ shape) (p : 0 < shape) (q : shape ≡ 3 → ⊥) (gain pad : ℕ) (e1 : gain ≡ field 2 17 b)
-    (e2 : pad ≡ field 19 5 b) where
-  not_0 : eqb shape 0 ≡ false
-  not_0 = ne_eqb shape 0 (λ e. omega arith)
+    test : eqb shape 0 && faulty_regular m b ≡ ltb 33 pair || not a || ltb (4 - m) place
+    unfolding faulty_regular
+    test = rw (eq-eqb shape 0 z, e1, a_is, e3)
 
-  test_shape : faulty_in m 3 b ≡ ltb 0 pad
-  unfolding faulty_in padding_in
-  test_shape = rw (s, not_0, ne_eqb shape 3 q, e2)
+    pub regular_faulty : ltb 33 pair || not a || ltb (4 - m) place ≡ true → None ≡ named_in (eqb shape 0 && faulty_regular m b) (reading_in m b)
+    regular_faulty t = rw (test ∙ t)
 
-  pub shape_faulty : ltb 0 pad ≡ true → nothing ≡ claimed_in m 3 b
-  shape_faulty t = claimed_faulty m 3 b (test_shape ∙ t)
-
-  shape_reading : of_shape shape ≡ reading_in m b
-  unfolding reading_in
-  shape_reading = rw (s, not_0)
-
-  shape_gain : gain ≡ gain_of m b
-  unfolding gain_of
-  shape_gain = rw (s, not_0) e1
-
-  pub shape_sound : (r : Reading) → r ≡ of_shape shape → ltb 0 pad ≡ false → record { sound = true; reading = r; gain = record { 0 = gain } } ≡ claimed_in m 3 b
-  shape_sound r e t =
-      ap (λ (x : Reading). record { sound = true; reading = x; gain = record { 0 = gain } }) (e ∙ shape_reading)
-      ∙ ap (λ (k : ℕ). record { sound = true; reading = reading_in m b; gain = record { 0 = k } }) shape_gain
-      ∙ claimed_sound m 3 b (test_shape ∙ t)
-
-pub three_bytes : (m n : ℕ) (b : List ℕ) (shape : ℕ) → shape ≡ shape_in b → (shape ≡ 0 → ⊥) → not (eqb n 3) || eqb shape 3 ≡ true → nothing ≡ claimed_in m n b
-unfolding faulty_in
-three_bytes m n b shape s z t = claimed_faulty m n b (rw (← s, ne_eqb shape 0 z, t))
+    pub regular_named : ltb 33 pair || not a || ltb (4 - m) place ≡ false
+        → Some (record { shape = shape; pair = pair; groups = groups; place = place }) ≡ named_in (eqb shape 0 && faulty_regular m b) (reading_in m b)
+    unfolding reading_in
+    regular_named t = rw (test ∙ t, ← s, z, e1, e2, e3)
 
 -- ---- the fields in their order
 

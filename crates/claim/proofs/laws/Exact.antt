@@ -1,13 +1,12 @@
 -- There is exactly one answer: what the code finds is one, and there is no other.
-use Rattle.std.specs.Prelude.{ℕ, ◌<◌, ◌≤◌, ◌≡◌, Bool, ◌||◌, cond, List, ◌⊎◌, ltb, length}
+use Rattle.std.specs.Prelude.{ℕ, ◌<◌, ◌≤◌, ◌≡◌, Bool, ◌||◌, cond, List, ◌⊎◌, ltb, length, Option, None, Some}
 use Rattle.std.proofs.Common.{arith, sym, ap, ◌∙◌, subst, inl, inr, ⊎_elim, ltb-true, ltb-false}
 use Rattle.std.proofs.Math.Path.{refl}
 use Rattle.std.proofs.Math.Bool.{true, false}
 use Rattle.std.proofs.lemmas.Bool.{false≢true}
 use Rattle.bits.specs.Bits.{bits_of}
 use Rattle.hand.specs.declared.Hand.{Hand}
-use Rattle.hand_record.specs.declared.Answer.{Answer}
-use Rattle.hand_record.specs.declared.Answer.TheVariants.{Sound, Refused}
+use Rattle.hand_record.specs.Record.{Answer, Sound, Refused}
 use Rattle.hand_record.specs.Record.{refusal_in, hand_of, read_of, IsSound}
 use Rattle.hand_record.proofs.Claims.{sound}
 use Rattle.hand_record.proofs.laws.Bounds.{refused_number, read_bounds}
@@ -18,17 +17,16 @@ use Rattle.claim.specs.declared.Judged.{Judged}
 use Rattle.claim.specs.Claim.{Names}
 use Rattle.claim.specs.Verdict.{IsVerdict}
 use Rattle.claim.specs.IsJudged.{refused_with, judged_as, IsNamed, IsJudged, eight, unreadable, faulty, passed}
-use Rattle.claim.specs.search.Claimed.{reading_in, gain_of, faulty_in, nothing, claimed_in, claimed_of}
-use Rattle.claim.specs.search.Verdict.{verdict_of}
+use Rattle.claim.specs.search.Claimed.{reading_in, gain_of, faulty_in, claimed_in, claimed_of}
 use Rattle.claim.specs.search.Judge.{passed_as, found_by, found_of}
 use Rattle.claim.proofs.laws.Names.{names_of, same, formed_of}
 use Rattle.claim.proofs.laws.Verdict as verdicts
 
 -- ---- what a claim names, as the code reads it
 
-module _ (m : ℕ) (claim : List ℕ) (few : m ≤ 4) (x : Claimed) (e : x ≡ claimed_of m claim) where
-  either : {A : Type 0} → (x ≡ nothing → faulty_in m (length claim) (bits_of claim) ≡ true → A)
-      → (x ≡ record { sound = true; reading = reading_in m (bits_of claim); gain = record { 0 = gain_of m (bits_of claim) } }
+module _ (m : ℕ) (claim : List ℕ) (few : m ≤ 4) (x : Option Claimed) (e : x ≡ claimed_of m claim) where
+  either : {A : Type 0} → (x ≡ None → faulty_in m (length claim) (bits_of claim) ≡ true → A)
+      → (x ≡ Some (record { reading = reading_in m (bits_of claim); gain = record { 0 = gain_of m (bits_of claim) } })
       → faulty_in m (length claim) (bits_of claim) ≡ false → A) → A
   unfolding claimed_in
   either {A} f g = go (faulty_in m (length claim) (bits_of claim)) refl
@@ -37,17 +35,17 @@ module _ (m : ℕ) (claim : List ℕ) (few : m ≤ 4) (x : Claimed) (e : x ≡ c
       go true q = f (e ∙ rw q) q
       go false q = g (e ∙ rw q) q
 
-  -- sound: it names what was read
-  pub sound_names : x.sound ≡ true → Names m claim x.reading x.gain.0
-  sound_names t =
-      either (λ k q. absurd (false≢true (ap (λ (y : Claimed). y.sound) (sym k) ∙ t)))
-      (λ k q. subst (λ (y : Claimed). Names m claim y.reading y.gain.0) (sym k) (names_of m claim few q))
+  -- it names what was read
+  pub some_names : (y : Claimed) → x ≡ Some y → Names m claim y.reading y.gain.0
+  some_names y t =
+      either (λ k q. cc)
+      (λ k q.
+      let z : y ≡ record { reading = reading_in m (bits_of claim); gain = record { 0 = gain_of m (bits_of claim) } } = cc in
+      subst (λ (y : Claimed). Names m claim y.reading y.gain.0) (sym z) (names_of m claim few q))
 
-  -- not sound: it names nothing
-  pub unsound_names : x.sound ≡ false → (r : Reading) (g : ℕ) → Names m claim r g → ⊥
-  unsound_names t r g n =
-      either (λ k q. false≢true (sym (same m claim few n).sound ∙ q))
-      (λ k q. false≢true (sym t ∙ ap (λ (y : Claimed). y.sound) k))
+  -- it names nothing
+  pub none_names : x ≡ None → (r : Reading) (g : ℕ) → Names m claim r g → ⊥
+  none_names t r g n = either (λ k q. false≢true (sym (same m claim few n).sound ∙ q)) (λ k q. cc)
 
 module _ (s claim : List ℕ) (dealer wind : ℕ) where
   abbrev hand : Hand
@@ -61,17 +59,14 @@ module _ (s claim : List ℕ) (dealer wind : ℕ) where
   module _ (d : dealer ≤ 3) (w : wind ≤ 1) where
     passed_is : refusal_in (read_of s).answer ≡ 0 → Judges (passed_as hand (claimed_of hand.held.m claim) dealer wind)
     unfolding passed_as
-    passed_is e = go (claimed_of hand.held.m claim).sound refl
+    passed_is e = go (claimed_of hand.held.m claim) refl
       where
-        x : Claimed
-        x = claimed_of hand.held.m claim
-
-        go : (b : Bool) → x.sound ≡ b → Judges (cond b (judged_as (verdict_of hand dealer wind x.reading x.gain.0)) (refused_with 22))
-        go false q = faulty d w ((sound s).1 e) (unsound_names hand.held.m claim (read_bounds s e).few x refl q)
-        go true q =
-            let n = sound_names hand.held.m claim (read_bounds s e).few x refl q in
+        go : (x : Option Claimed) → x ≡ claimed_of hand.held.m claim → Judges (passed_as hand x dealer wind)
+        go None q = faulty d w ((sound s).1 e) (none_names hand.held.m claim (read_bounds s e).few None q refl)
+        go (Some y) q =
+            let n = some_names hand.held.m claim (read_bounds s e).few (Some y) q y refl in
             passed (record { seat = d; round = w; sound = (sound s).1 e; names = n })
-            (verdicts.named hand dealer wind (read_paid s dealer d e) x.reading x.gain.0 (formed_of hand.held.m claim (read_bounds s e).few n))
+            (verdicts.named hand dealer wind (read_paid s dealer d e) y.reading y.gain.0 (formed_of hand.held.m claim (read_bounds s e).few n))
 
     by_answer : (a : Answer) → (read_of s).answer ≡ a → Judges (found_by a hand claim dealer wind)
     unfolding found_by

@@ -1,48 +1,52 @@
 -- What the code finds for a record and a claim, case by case.
-use Rattle.std.specs.Prelude.{ℕ, ◌≡◌, true, false, ◌||◌, List, ltb}
-use Rattle.std.proofs.Common.{sym, ◌∙◌}
+use Rattle.std.specs.Prelude.{ℕ, ◌≡◌, true, false, ◌||◌, List, ltb, Option, None, Some}
+use Rattle.std.proofs.Common.{sym, ◌∙◌, refl, arith}
 use Rattle.std.proofs.Math.Path.{ap}
-use Rattle.hand.specs.declared.Fields.{Fields}
 use Rattle.hand.specs.declared.Hand.{Hand}
-use Rattle.hand_record.specs.declared.Answer.{Answer}
-use Rattle.hand_record.specs.declared.Answer.TheVariants.{Sound, Refused}
-use Rattle.hand_record.specs.declared.HandRead.{HandRead}
+use Rattle.hand_record.specs.Record.{Answer, Sound, Refused}
 use Rattle.hand_record.specs.Record.{refusal_in, hand_of, read_of}
-use Rattle.hand_record.proofs.laws.Bounds.{answer_is, hand_is}
+use Rattle.hand_record.proofs.laws.Bounds.{refused_number}
 use Rattle.claim.specs.declared.Claimed.{Claimed}
-use Rattle.claim.specs.declared.Judged.{Judged}
 use Rattle.claim.specs.IsJudged.{refused_with, judged_as}
+use Rattle.claim.specs.Judge.{judged_of}
 use Rattle.claim.specs.search.Claimed.{claimed_of}
 use Rattle.claim.specs.search.Verdict.{verdict_of}
 use Rattle.claim.specs.search.Judge.{passed_as, found_by, found_of}
 
-pub found_eight : (s claim : List ℕ) (dealer wind : ℕ) → ltb 3 dealer || ltb 1 wind ≡ true → refused_with 8 ≡ found_of s claim dealer wind
-unfolding found_of
+pub found_eight : (s claim : List ℕ) (dealer wind : ℕ) → ltb 3 dealer || ltb 1 wind ≡ true → refused_with 8 ≡ judged_of s claim dealer wind
+unfolding judged_of found_of
 found_eight s claim dealer wind e = rw e
 
-module _ (s claim : List ℕ) (dealer wind : ℕ) (r : HandRead) (q : ltb 3 dealer || ltb 1 wind ≡ false) (e : r ≡ read_of s) where
-  by_answer : (a : Answer) → r.answer ≡ a → found_by a (hand_of (read_of s)) claim dealer wind ≡ found_of s claim dealer wind
-  unfolding found_of
-  by_answer a told = rw q (ap (λ (x : Answer). found_by x (hand_of (read_of s)) claim dealer wind) (sym (answer_is s r e told)))
+module _ (s claim : List ℕ) (dealer wind : ℕ) (q : ltb 3 dealer || ltb 1 wind ≡ false) where
+  by_answer : (a : Answer) → (read_of s).answer ≡ a → found_by a (hand_of (read_of s)) claim dealer wind ≡ judged_of s claim dealer wind
+  unfolding judged_of found_of
+  by_answer a told = rw q (ap (λ (x : Answer). found_by x (hand_of (read_of s)) claim dealer wind) (sym told))
 
-  pub found_refused : (n w : ℕ) (x : Judged) → r.answer ≡ Refused n → w ≡ refusal_in r.answer → x ≡ refused_with w → x ≡ found_of s claim dealer wind
+  -- Read's refusal
+  pub found_refused : (n : ℕ) → n ≡ refusal_in (read_of s).answer → (n ≡ 0 → ⊥) → refused_with n ≡ judged_of s claim dealer wind
   unfolding found_by
-  found_refused n w x told why ex = ex ∙ ap refused_with (why ∙ ap refusal_in told) ∙ by_answer (Refused n) told
+  found_refused n e some = go (read_of s).answer refl
+    where
+      go : (a : Answer) → (read_of s).answer ≡ a → refused_with n ≡ judged_of s claim dealer wind
+      go (Refused k) t = ap refused_with (e ∙ ap refusal_in t) ∙ by_answer (Refused k) t
+      go (Sound f) t = absurd (some (e ∙ ap refusal_in t))
 
-  module _ (f : Fields) (told : r.answer ≡ Sound f) (x : Claimed) (ex : x ≡ claimed_of r.held.m claim) where
-    abbrev hand : Hand
-    hand = record { fields = f; held = r.held }
-
-    found_passed : passed_as hand x dealer wind ≡ found_of s claim dealer wind
+  -- the claim, for a hand that read
+  module _ (z : refusal_in (read_of s).answer ≡ 0) (h : Hand) (eh : h ≡ hand_of (read_of s)) (x : Option Claimed) (ex : x ≡ claimed_of h.held.m claim) where
+    found_passed : passed_as h x dealer wind ≡ judged_of s claim dealer wind
     unfolding found_by
     found_passed =
-        ap (λ (y : Claimed). passed_as hand y dealer wind) ex
-        ∙ ap (λ (h : Hand). passed_as h (claimed_of h.held.m claim) dealer wind) (hand_is s r e f told) ∙ by_answer (Sound f) told
+        ap (λ (y : Option Claimed). passed_as h y dealer wind) ex ∙ ap (λ (k : Hand). passed_as k (claimed_of k.held.m claim) dealer wind) eh
+        ∙ go (read_of s).answer refl
+      where
+        go : (a : Answer) → (read_of s).answer ≡ a → passed_as (hand_of (read_of s)) (claimed_of (hand_of (read_of s)).held.m claim) dealer wind ≡ judged_of s claim dealer wind
+        go (Refused k) t = absurd (omega (arith, refused_number s k t, ap refusal_in t, z))
+        go (Sound f) t = by_answer (Sound f) t
 
-    pub found_faulty : (a : Judged) → x.sound ≡ false → a ≡ refused_with 22 → a ≡ found_of s claim dealer wind
+    pub found_faulty : x ≡ None → refused_with 22 ≡ judged_of s claim dealer wind
     unfolding passed_as
-    found_faulty a z ea = ea ∙ rw z at found_passed
+    found_faulty n = rw n at found_passed
 
-    pub found_verdict : (v : ℕ) → x.sound ≡ true → v ≡ verdict_of hand dealer wind x.reading x.gain.0 → judged_as v ≡ found_of s claim dealer wind
+    pub found_verdict : (y : Claimed) (v : ℕ) → x ≡ Some y → v ≡ verdict_of h dealer wind y.reading y.gain.0 → judged_as v ≡ judged_of s claim dealer wind
     unfolding passed_as
-    found_verdict v z ev = ap judged_as ev ∙ rw z at found_passed
+    found_verdict y v n ev = ap judged_as ev ∙ rw n at found_passed

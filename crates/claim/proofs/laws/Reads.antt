@@ -1,5 +1,5 @@
 -- The code's test decides whether what a claim names is a reading.
-use Rattle.std.specs.Prelude.{ℕ, ◌+◌, ◌-◌, ◌≤◌, ◌<◌, ◌&&◌, List, [], ◌∷◌, ◌++◌, ◌↔◌, leb, length, drop, replicate}
+use Rattle.std.specs.Prelude.{ℕ, ◌-◌, ◌≤◌, ◌<◌, ◌&&◌, List, [], ◌∷◌, ◌++◌, ◌↔◌, leb, length, replicate}
 use Rattle.std.proofs.Math.Path.{◌≡◌, refl, ap}
 use Rattle.std.proofs.Common.{◌∙◌, inl, inr, ⊎_elim, arith}
 use Rattle.std.proofs.Math.Bool.{true}
@@ -13,7 +13,6 @@ use Rattle.reading.specs.Reading.{used_by, Ascends, holds, is_seven_pairs, is_or
 use Rattle.reading.specs.search.Readings.{less, fits, without}
 use Rattle.reading.proofs.laws.Groups.{fits_of, without_at, without_long, less_at, less_long, at_same, empty_at, empty_of}
 use Rattle.claim.specs.search.Verdict.{IsFormed, formed, without_groups, strip, regularly, reads}
-use Rattle.claim.proofs.laws.Bits.{next, none_left}
 
 -- ---- taking groups off
 
@@ -30,15 +29,6 @@ strip_of [] t c o h = empty_of t h
 strip_of (g ∷ gs) t c o h =
     let f : fits t g ≡ true = fits_of t g o.1 (λ k. omega (arith, h k)) in
     rw f (strip_of gs (without t g) g o.2 (λ k. omega (arith, h k, without_at t g f k)))
-
--- one turn of the loop, and its end
-module _ (u g : List ℕ) (i n : ℕ) (l : n ≤ length g) where
-  pub strip_turn : i < n → strip u (drop i (take n g)) ≡ fits u (get_or g i 0) && strip (without u (get_or g i 0)) (drop (i + 1) (take n g))
-  unfolding strip
-  strip_turn h = rw (next g i n h l)
-
-  pub strip_done : n ≤ i → strip u (drop i (take n g)) ≡ strip u []
-  strip_done h = rw (none_left g i n h l)
 
 -- ---- a reading as a claim names it
 

@@ -1,5 +1,5 @@
 -- How the code reads a claim: field by field, its faults one after the other. What it finds is stated by `Names` of specs/Claim.
-use Rattle.std.specs.Prelude.{Bool, true, false, ◌&&◌, ◌||◌, not, cond, List, [], ◌∷◌, ◌++◌, ℕ, ◌+◌, ◌*◌, ◌-◌, ltb, leb, eqb, length, get_or, take, drop, replicate}
+use Rattle.std.specs.Prelude.{Bool, true, ◌&&◌, ◌||◌, not, cond, List, [], ◌∷◌, ◌++◌, ℕ, ◌+◌, ◌*◌, ◌-◌, ltb, leb, eqb, length, get_or, take, drop, replicate, Option, None, Some}
 use Rattle.tiles.specs.Groups.{is_group}
 use Rattle.bits.specs.Bits.{val, unpack, bits_of}
 use Rattle.reading.specs.declared.Reading.{Reading}
@@ -66,12 +66,13 @@ unfoldable pub reading_in : ℕ → List ℕ → Reading
 reading_in m b =
     cond (eqb (shape_in b) 0) (record { shape = 0; pair = pair_in b; groups = codes_in m b ++ replicate m 68; place = place_in m b }) (of_shape (shape_in b))
 
-abbrev pub nothing : Claimed
-nothing = record { sound = false; reading = of_shape 1; gain = record { 0 = 0 } }
+-- x, where there is no fault
+abbrev pub named_in : {A : Type 0} → Bool → A → Option A
+named_in faulty x = cond faulty None (Some x)
 
-unfoldable pub claimed_in : ℕ → ℕ → List ℕ → Claimed
-claimed_in m n b = cond (faulty_in m n b) nothing (record { sound = true; reading = reading_in m b; gain = record { 0 = gain_of m b } })
+unfoldable pub claimed_in : ℕ → ℕ → List ℕ → Option Claimed
+claimed_in m n b = named_in (faulty_in m n b) (record { reading = reading_in m b; gain = record { 0 = gain_of m b } })
 
 -- of its bytes
-abbrev pub claimed_of : ℕ → List ℕ → Claimed
+abbrev pub claimed_of : ℕ → List ℕ → Option Claimed
 claimed_of m s = claimed_in m (length s) (bits_of s)

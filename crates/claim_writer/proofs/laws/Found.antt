@@ -12,6 +12,7 @@ use Rattle.bits.specs.Bits.{digits, pack, unpack, EachBelow, eights, fill}
 use Rattle.bits.proofs.laws.Pack.{length_pack, sum_replicate, sets_append, sets_fill, take_replicate, pack_append, below_pack, below_fill}
 use Rattle.bits.proofs.laws.Pack.{length_fill}
 use Rattle.hand_record.specs.declared.Written.{Written}
+use Rattle.claim.specs.search.Claimed.{length_of}
 use Rattle.claim.proofs.laws.Claimed.{widths, sum_widths, sizes}
 use Rattle.claim_writer.specs.declared.Claim.{Claim}
 use Rattle.claim_writer.specs.Writes.{refused_with, Writes}
@@ -19,20 +20,8 @@ use Rattle.claim_writer.specs.Write.{written_of, buffer_of}
 use Rattle.claim_writer.proofs.ExactlyOne.{one_answer}
 use Rattle.claim_writer.specs.search.Bytes.{in_order, ordered, is_nameable, regular_values, other_values, widths_for, values_for, packed, length_for, bytes_for}
 use Rattle.claim_writer.proofs.laws.Bits.{in_parts}
-use Rattle.claim_writer.proofs.laws.Named.{ordered_four, parts, long_0, bytes_long}
-use Rattle.claim_writer.proofs.laws.Exact.{is_22, is_13, is_0}
-
--- ---- the groups
-
--- a list of four
-pub four_are : (g : List ℕ) (n : ℕ) → length g ≡ 4 → n ≤ 4 → (w x y z : Bool) → w ≡ in_order n 0 0 (get_or g 0 0) → x ≡ in_order n 1 (get_or g 0 0) (get_or g 1 0)
-    → y ≡ in_order n 2 (get_or g 1 0) (get_or g 2 0) → z ≡ in_order n 3 (get_or g 2 0) (get_or g 3 0) → w && (x && (y && z)) ≡ ordered n 0 g
-four_are (a ∷ b ∷ c ∷ d ∷ []) n l h w x y z ew ex ey ez = rw (ew, ex, ey, ez) (ordered_four n a b c d h)
-four_are [] n l h w x y z ew ex ey ez = absurd (omega arith)
-four_are (a ∷ []) n l h w x y z ew ex ey ez = absurd (omega arith)
-four_are (a ∷ b ∷ []) n l h w x y z ew ex ey ez = absurd (omega arith)
-four_are (a ∷ b ∷ c ∷ []) n l h w x y z ew ex ey ez = absurd (omega arith)
-four_are (a ∷ b ∷ c ∷ d ∷ e ∷ g) n l h w x y z ew ex ey ez = absurd (omega arith)
+use Rattle.claim_writer.proofs.laws.Named.{parts, long_0, bytes_long}
+use Rattle.claim_writer.proofs.laws.Exact.{is_22, is_13, is_0, found_is}
 
 module _ (c : Claim) where
   abbrev m : ℕ
@@ -59,13 +48,9 @@ module _ (c : Claim) where
 
   -- ---- the length
 
-  pub length_is_0 : c.shape ≡ 0 → get_or (7 ∷ 7 ∷ 6 ∷ 5 ∷ 4 ∷ []) m 0 ≡ length_for c
+  pub length_is : (n : ℕ) → n ≡ length_of c.shape m → n ≡ length_for c
   unfolding length_for
-  length_is_0 z = rw (eq-eqb c.shape 0 z)
-
-  pub length_is_1 : (c.shape ≡ 0 → ⊥) → 3 ≡ length_for c
-  unfolding length_for
-  length_is_1 z = rw (ne_eqb c.shape 0 z)
+  length_is n e = e
 
   pub length_most : m ≤ 4 → length_for c ≤ 7
   unfolding length_for
@@ -174,3 +159,8 @@ module _ (c : Claim) where
         subst (λ (l : List ℕ). Answered buf (record { refusal = 0; len = n }) l) (sym q)
         (subst (λ (j : ℕ). Answered buf (record { refusal = 0; len = j }) (bytes_for c ++ drop (length_for c) buf)) (sym k)
         (answered buf (record { refusal = 0; len = length_for c }) (bytes_for c ++ drop (length_for c) buf) (is_0 c buf t (omega arith))))
+
+-- the one answer
+pub writes_of : (c : Claim) (buf : List ℕ) (w : Written) (out : List ℕ) → w ≡ written_of c buf → out ≡ buffer_of c buf → Writes c buf w out
+unfolding written_of buffer_of
+writes_of c buf w out e f = rw (e, f) (found_is c buf)

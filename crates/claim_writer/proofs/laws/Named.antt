@@ -1,7 +1,8 @@
 -- The code's tests hold exactly where some bytes name the reading and the gain, and its bytes are the only ones that do.
 use Rattle.std.specs.Prelude.{ℕ, zero, suc, ◌+◌, ◌-◌, ◌/◌, ◌^◌, ◌≤◌, ◌<◌, ◌≡◌, List, [], ◌∷◌, ◌++◌, ◌⊎◌, leb, eqb, length, take, drop, replicate}
 use Rattle.std.proofs.Math.Path.{refl}
-use Rattle.std.proofs.Common.{sym, ap, ◌∙◌, subst, inl, inr, ⊎_elim, not-suc-le-zero, le_of_suc-le-suc, length-append, length-take, take-append-drop, pow_mono, take_at, length-take-le}
+use Rattle.std.proofs.lemmas.List.{drop_all}
+use Rattle.std.proofs.Common.{get_or, drop-cons, add-one, ltb-true, ltb-false, sym, ap, ◌∙◌, subst, inl, inr, ⊎_elim, not-suc-le-zero, le_of_suc-le-suc, length-append, length-take, take-append-drop, pow_mono, take_at, length-take-le}
 use mathlib.Core.Bool.{Bool, true, false, ◌&&◌, ◌||◌, not}
 use native.Mathlib.Omega.{arith}
 use Rattle.std.proofs.Math.Nat.{sub-zero, suc-sub-suc}
@@ -27,19 +28,26 @@ use Rattle.claim_writer.proofs.laws.Bits.{one_list, laid_fields, laid_below}
 
 -- ---- the groups
 
--- four places, one after the other
-last_one : (x : Bool) → x && true ≡ x
-last_one = mathlib.Core.Bool.and-true
-
-pub ordered_four : (n a b c d : ℕ) → n ≤ 4
-    → in_order n 0 0 a && (in_order n 1 a b && (in_order n 2 b c && in_order n 3 c d)) ≡ ordered n 0 (a ∷ b ∷ c ∷ d ∷ [])
+-- one turn of the loop, and its end
+pub ordered_turn : (n i low : ℕ) (g : List ℕ) → i < length g
+    → ordered (n - i) low (drop i g) ≡ in_order n i low (get_or g i 0) && ordered (n - (i + 1)) (get_or g i 0) (drop (i + 1) g)
 unfolding ordered
-ordered_four zero a b c d h = rw (last_one (eqb d 68))
-ordered_four (suc zero) a b c d h = rw (last_one (eqb d 68))
-ordered_four (suc (suc zero)) a b c d h = rw (last_one (eqb d 68))
-ordered_four (suc (suc (suc zero))) a b c d h = rw (last_one (eqb d 68))
-ordered_four (suc (suc (suc (suc zero)))) a b c d h = rw last_one
-ordered_four (suc (suc (suc (suc (suc n))))) a b c d h = absurd (omega arith)
+ordered_turn n i low g h = go (ltb i n) refl
+  where
+    go : (e : Bool) → ltb i n ≡ e → ordered (n - i) low (drop i g) ≡ in_order n i low (get_or g i 0) && ordered (n - (i + 1)) (get_or g i 0) (drop (i + 1) g)
+    go true e =
+        let l = ltb-true i n e in
+        let k : n - i ≡ suc (n - (i + 1)) = omega arith in
+        rw (k, e, add-one, drop-cons g i 0 h)
+    go false e =
+        let l = ltb-false i n e in
+        let k : n - i ≡ 0 = omega arith in
+        let j : n - (i + 1) ≡ 0 = omega arith in
+        rw (k, j, e, add-one, drop-cons g i 0 h)
+
+pub ordered_done : (n i low : ℕ) (g : List ℕ) → length g ≤ i → ordered n low (drop i g) ≡ true
+unfolding ordered
+ordered_done n i low g h = rw (drop_all i g h)
 
 -- they are codes that ascend, then 68
 all_68 : (low : ℕ) (gs : List ℕ) → ordered 0 low gs ≡ true → gs ≡ replicate (length gs) 68

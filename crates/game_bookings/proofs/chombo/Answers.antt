@@ -1,10 +1,6 @@
-use Rattle.std.proofs.Common.{refl}
-use Rattle.position.specs.Booking.{result, chombo}
-use Rattle.position.proofs.laws.Each.{result_finishes}
-use Rattle.game_bookings.proofs.laws.Books.{booking_books}
+use Rattle.std.proofs.Common.{rules}
+use Rattle.position.specs.Booking.{chombo}
 use Rattle.game_bookings.proofs.chombo.Goals as goal
 
 pub returns : goal.returns
-returns c =
-    let a = c.args in
-    rw c.book.ensures (booking_books a.g _ _ (result (chombo a.seat)) (rw c.checked.ensures at c.chombo-m.ensures) 1 (result_finishes a.g.now (chombo a.seat)) refl)
+returns c = c.finish.ensures (chombo c.args.seat) (λ m p. search rules)

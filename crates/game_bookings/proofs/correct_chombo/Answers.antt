@@ -1,6 +1,6 @@
+use Rattle.std.proofs.Common.{rules}
 use Rattle.position.specs.Booking.{chombo}
-use Rattle.game_bookings.proofs.laws.Books.{correction_books}
 use Rattle.game_bookings.proofs.correct_chombo.Goals as goal
 
 pub returns : goal.returns
-returns c = let a = c.args in rw c.correct.ensures (correction_books a.g _ _ (chombo a.seat) c.chombo.ensures)
+returns c = c.correct.ensures (chombo c.args.seat) (λ m p. search rules)

@@ -1,6 +1,6 @@
+use Rattle.std.proofs.Common.{rules}
 use Rattle.position.specs.Booking.{multi_ron}
-use Rattle.game_bookings.proofs.laws.Books.{correction_books}
 use Rattle.game_bookings.proofs.correct_multi_ron.Goals as goal
 
 pub returns : goal.returns
-returns c = let a = c.args in rw c.correct.ensures (correction_books a.g _ _ (multi_ron a.number a.s.now) c.multi_ron.ensures)
+returns c = c.correct.ensures (multi_ron c.args.number c.args.s.now) (λ m p. search rules)

@@ -1,6 +1,6 @@
+use Rattle.std.proofs.Common.{rules}
 use Rattle.position.specs.Booking.{win}
-use Rattle.game_bookings.proofs.laws.Books.{correction_books}
 use Rattle.game_bookings.proofs.correct_win.Goals as goal
 
 pub returns : goal.returns
-returns c = let a = c.args in rw c.correct.ensures (correction_books a.g _ _ (win a.s.now) c.win.ensures)
+returns c = c.correct.ensures (win c.args.s.now) (λ m p. search rules)

@@ -39,23 +39,23 @@ more_long t a l = simp length-set l
 
 pub overflow_add-t : goal.overflow_add-t
 overflow_add-t c =
-    let l = c.loop-i in
-    let within : l.i ≤ 13 = omega arith in
-    omega (arith, room c.args.c l.t l.i l.invariant.0 within l.invariant.1 (get_or c.args.c l.i 0))
+    let l = c.loop-k in
+    let within : l.k-index ≤ 13 = omega (arith, c.requires) in
+    omega (arith, room c.args.tiles.now l.t l.k-index l.invariant.0 within l.invariant.1 c.from.result)
 
-pub loop-i-init : goal.loop-i-init
-loop-i-init c = (search rules, λ k g. get_or-replicate 34 k 0 0 g ∙ sym (number_none _))
+pub loop-k-init : goal.loop-k-init
+loop-k-init c = (search rules, λ k g. get_or-replicate 34 k 0 0 g ∙ sym (number_none _))
 
-pub loop-i-preserved : goal.loop-i-preserved
-loop-i-preserved c =
-    let a = c.args.c in
-    let i = c.loop-i.i in
-    let t = c.loop-i.t in
-    let long = c.loop-i.invariant.0 in
-    let known : (k : ℕ) → k < 34 → get_or t k 0 ≡ among a i k = c.loop-i.invariant.1 in
+pub loop-k-preserved : goal.loop-k-preserved
+loop-k-preserved c =
+    let a = c.args.tiles.now in
+    let i = c.loop-k.k-index in
+    let t = c.loop-k.t in
+    let long = c.loop-k.invariant.0 in
+    let known : (k : ℕ) → k < 34 → get_or t k 0 ≡ among a i k = c.loop-k.invariant.1 in
     let added : c.if-k-lt34.t ≡ more t (get_or a i 0) 1 =
     elim c.if-k-lt34.branch [
-      | then-k-lt34 w ↦ w.t-is ∙ stored t (get_or a i 0)
+      | then-k-lt34 w ↦ w.t-is ∙ ap (λ (j : ℕ). set t j (get_or t j 0 + 1)) w.from.ensures ∙ stored t (get_or a i 0)
       | else-k-lt34 w ↦ w.t-is ∙ kept t (get_or a i 0) long w.if-k-lt34.false
     ] in (
       ap length added ∙ more_long t (get_or a i 0) long,
@@ -64,6 +64,6 @@ loop-i-preserved c =
 
 pub returns : goal.returns
 returns c =
-    let l = c.loop-i in
-    let n : l.i ≡ c.args.n = omega arith in
-    rw n at (tally_ext l.t (among c.args.c l.i) l.invariant.0 l.invariant.1)
+    let l = c.loop-k in
+    let n : l.k-index ≡ length c.args.tiles.now = omega arith in
+    rw n at (tally_ext l.t (among c.args.tiles.now l.k-index) l.invariant.0 l.invariant.1)

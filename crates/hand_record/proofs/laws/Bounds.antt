@@ -1,5 +1,5 @@
 -- The fields of a hand that was read are within their ranges, and a ron is from another seat; Read's refusals are 5 at most.
-use Rattle.std.specs.Prelude.{ℕ, zero, suc, ◌≤◌, ◌<◌, ◌≡◌, Bool, true, false, ◌||◌, cond, List, ltb, eqb, length}
+use Rattle.std.specs.Prelude.{ℕ, zero, suc, ◌≤◌, ◌<◌, ◌≡◌, refl, Bool, true, false, ◌||◌, cond, Result, Ok, Err, List, ltb, eqb, length}
 use Rattle.std.proofs.Common.{arith, sym, ◌∙◌, subst, ltb-false}
 use Rattle.std.proofs.Math.Path.{ap}
 use Rattle.std.proofs.lemmas.Bool.{eqb-false}
@@ -10,11 +10,12 @@ use Rattle.hand.specs.declared.Hand.{Hand}
 use Rattle.hand.specs.Held.{wrong_held, descends, over_four}
 use Rattle.hand.specs.Hand.{is_ron}
 use Rattle.hand.specs.Refusals.{field_over33, field_over, wrong_discarder, wrong_fields, in_record, wrong_situation, refusal_of}
-use Rattle.hand_record.specs.declared.Answer.{Answer}
-use Rattle.hand_record.specs.declared.Answer.TheVariants.{Sound, Refused}
-use Rattle.hand_record.specs.declared.HandRead.{HandRead}
+use Rattle.hand_record.specs.Record.{Answer, Sound, Refused, HandRead}
+use Rattle.hand_record.specs.declared.HandRead.{HandRead as HandReadInCode}
 use Rattle.hand_record.specs.declared.ReadHand.{ReadHand}
-use Rattle.hand_record.specs.Record.{refusal_in, fields_of, hand_of, wrong_length, count_in, padding_of, hand_in, refused_with, sound_as}
+use Rattle.refusals.specs.declared.Refusal.{Refusal}
+use Rattle.refusals.specs.Refusal.{refusal_in as number_in}
+use Rattle.hand_record.specs.Record.{answer_of, numbered, refusal_in, fields_of, hand_of, wrong_length, count_in, padding_of, hand_in, refused_with, sound_as}
 use Rattle.hand_record.specs.Record.{answer_by, answer_in, read_of, read_hand_of}
 use Rattle.hand_record.proofs.laws.Clean.{kinds_of, Accepted, accepted_of}
 use Rattle.hand_record.proofs.laws.Round.{as_read, accepted_back}
@@ -65,6 +66,22 @@ module _ (s : List ℕ) (r : HandRead) (e : r ≡ read_of s) where
   pub hand_bounds : (f : Fields) → r.answer ≡ Sound f → Bounds (record { fields = f; held = r.held })
   hand_bounds f told = subst (λ (x : Hand). Bounds x) (sym (hand_is f told)) (read_bounds s (ap refusal_in (answer_is told)))
 
+-- the number of the code's answer
+pub number_is : (a : Result Fields Refusal) → number_in a ≡ refusal_in (answer_of a)
+number_is (Ok f) = refl
+number_is (Err r) = refl
+
+-- the same of the hand that it gives: r is what the code's Read gave
+module _ (s : List ℕ) (r : HandReadInCode) (e : numbered r ≡ read_of s) where
+  pub given_read : 0 ≡ refusal_in (numbered r).answer → refusal_in (read_of s).answer ≡ 0
+  given_read z = ap (λ (x : HandRead). refusal_in x.answer) (sym e) ∙ sym z
+
+  pub given_hand : {h : Hand} → h ≡ hand_of (numbered r) → h ≡ hand_of (read_of s)
+  given_hand q = q ∙ ap hand_of e
+
+  pub given_bounds : {h : Hand} → 0 ≡ refusal_in (numbered r).answer → h ≡ hand_of (numbered r) → Bounds h
+  given_bounds z q = subst (λ (x : Hand). Bounds x) (sym (given_hand q)) (read_bounds s (given_read z))
+
 -- the same of what it gave flat
 module _ (s : List ℕ) (r : ReadHand) (e : r ≡ read_hand_of s) where
   pub flat_refusal : refusal_in (read_of s).answer ≡ r.refusal
@@ -77,6 +94,27 @@ module _ (s : List ℕ) (r : ReadHand) (e : r ≡ read_hand_of s) where
 
   pub flat_bounds : r.refusal ≡ 0 → Bounds r.hand
   flat_bounds z = subst (λ (x : Hand). Bounds x) (sym flat_hand) (read_bounds s (flat_refusal ∙ z))
+
+-- a refused record's hand is all zero
+pub refused_hand : (s : List ℕ) → 0 < refusal_in (read_of s).answer → hand_of (read_of s) ≡ hand_of (refused_with 0)
+unfolding read_of answer_in answer_by
+refused_hand s h = go (wrong_length (length s) (count_in s)) h
+  where
+    x : Hand
+    x = hand_in (count_in s) (bits_of s)
+
+    j : ℕ
+    j = refusal_of x (padding_of (count_in s) (bits_of s))
+
+    by : (b : Bool) → 0 < refusal_in (cond b (refused_with j) (sound_as x)).answer
+        → hand_of (cond b (refused_with j) (sound_as x)) ≡ hand_of (refused_with 0)
+    by true h = refl
+    by false h = absurd (omega arith)
+
+    go : (b : Bool) → 0 < refusal_in (cond b (refused_with 1) (cond (ltb 0 j) (refused_with j) (sound_as x))).answer
+        → hand_of (cond b (refused_with 1) (cond (ltb 0 j) (refused_with j) (sound_as x))) ≡ hand_of (refused_with 0)
+    go true h = refl
+    go false h = by (ltb 0 j) h
 
 -- a refusal has a number
 pub refused_number : (s : List ℕ) (n : ℕ) → (read_of s).answer ≡ Refused n → 0 < n

@@ -5,7 +5,7 @@ use Rattle.std.proofs.Common.{sym, ap, ◌∙◌, arith, ltb-true, ltb-false, ta
 use Rattle.bits.specs.Bits.{width_of, EachBelow, bits_of}
 use Rattle.hand.specs.declared.Hand.{Hand}
 use Rattle.hand.specs.Refusals.{refusal_of, unwritable}
-use Rattle.hand_record.specs.declared.HandRead.{HandRead}
+use Rattle.hand_record.specs.Record.{HandRead}
 use Rattle.hand_record.specs.declared.Written.{Written}
 use Rattle.hand_record.specs.Record.{length_of, pad_of, widths, wrong_length, count_in, hand_in, hand_of_record, padding_of_record, IsSound, refused_with}
 use Rattle.hand_record.specs.Record.{sound_as, refusal_in, hand_of, answer_by, answer_in, read_of, record_of, write_refusal, written_of, buffer_of}

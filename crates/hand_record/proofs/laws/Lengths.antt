@@ -5,7 +5,7 @@ use Rattle.std.proofs.Math.Bool.{true, false}
 use Rattle.std.proofs.Math.Logic.{inl, inr}
 use borrow.Author.Tests.{ltb-false, lt-ltb, le-ltb}
 use Rattle.tiles.proofs.laws.Below.{or_both}
-use Rattle.hand_record.specs.declared.HandRead.{HandRead}
+use Rattle.hand_record.specs.Record.{HandRead}
 use Rattle.hand_record.specs.Record.{head_of, count_in, length_of, wrong_length, refused_with, refusal_in, read_of}
 use Rattle.hand_record.proofs.laws.Read.{whole, RightLength, length_right, read_not}
 use Rattle.hand_record.specs.Lengths.{is_broken, record_length}

@@ -17,8 +17,8 @@ use Rattle.hand.specs.declared.Hand.{Hand}
 use Rattle.hand.specs.Held.{unused_not_zero}
 use Rattle.hand.specs.Refusals.{too_large, refusal_of, unwritable}
 use Rattle.hand_record.specs.declared.Head.{Head}
-use Rattle.hand_record.specs.declared.HandRead.{HandRead}
-use Rattle.hand_record.specs.declared.Answer.TheVariants.{Sound, Refused}
+use Rattle.hand_record.specs.Record.{HandRead}
+use Rattle.hand_record.specs.Record.{Sound, Refused}
 use Rattle.hand_record.specs.Record.{head, head_by, head_list, head_for, sixes, length_of, pad_of, held_widths, held_values, head_of, padding_of}
 use Rattle.hand_record.specs.Record.{hand_in, refused_with, sound_as, wrong_length, count_in, answer_by, answer_in, read_of, widths, values_of, record_of}
 use Rattle.hand_record.specs.search.Offsets.{melds_of, tiles_of, held_in, hand_at}

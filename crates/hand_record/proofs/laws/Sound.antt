@@ -10,7 +10,7 @@ use Rattle.bits.specs.Bits.{bits_of, eights}
 use Rattle.bits.proofs.laws.Pack.{length_fill, length_bits_of, length_unpack, unpack_fit, below_drop, below_pack, below_fill, sum_replicate}
 use Rattle.hand.specs.declared.Hand.{Hand}
 use Rattle.hand.specs.Refusals.{unwritable}
-use Rattle.hand_record.specs.declared.HandRead.{HandRead}
+use Rattle.hand_record.specs.Record.{HandRead}
 use Rattle.hand_record.specs.Record.{sixes, refusal_in, hand_of, read_of, record_of, count_in, hand_in, IsSound, IsHand}
 use Rattle.hand_record.specs.search.Offsets.{held_in, melds_of, tiles_of}
 use Rattle.hand_record.proofs.laws.Offsets.{hand_at_lem}

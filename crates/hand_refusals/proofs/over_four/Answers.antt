@@ -8,15 +8,15 @@ next : (p : ℕ → Bool) (k : ℕ) (b : Bool) → b ≡ any_below k p → (b ||
 unfolding any_below
 next p k b e = rw (add-one, e)
 
-pub loop-k-init : goal.loop-k-init
-loop-k-init c = sym (some_none _)
+pub loop-n-init : goal.loop-n-init
+loop-n-init c = sym (some_none _)
 
-pub loop-k-preserved : goal.loop-k-preserved
-loop-k-preserved c = next _ _ _ c.loop-k.invariant
+pub loop-n-preserved : goal.loop-n-preserved
+loop-n-preserved c = next _ _ _ c.loop-n.invariant
 
 pub returns : goal.returns
 unfolding over_four
 returns c =
-    let l = c.loop-k in
-    let e : l.k ≡ 34 = omega arith in
+    let l = c.loop-n in
+    let e : l.n-index ≡ 34 = omega arith in
     l.invariant ∙ ap (λ (n : ℕ). any_below n (λ j. ltb 4 (get_or c.args.t j 0))) e

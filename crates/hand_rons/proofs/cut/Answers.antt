@@ -7,4 +7,4 @@ pub returns-then-last : goal.returns-then-last
 returns-then-last c = sym (cut_last c.args.number c.args.s.now c.if-last.true)
 
 pub returns : goal.returns
-returns c = c.record_length.ensures ∙ sym (cut_more c.args.number c.args.s.now c.if-last.false)
+returns c = c.record_length.ensures.value ∙ sym (cut_more c.args.number c.args.s.now c.if-last.false)

@@ -85,6 +85,10 @@ module _ (n : ℕ) (s : List ℕ) (p : 0 < n) (k : ℕ) (e : k ≡ cut_of n s) w
     others = λ z. absurd (omega arith);
   }
 
+  -- it is broken, which is "Read's 1"
+  pub first_broken : (h : Hand) → k ≡ 0 → IsFirst n s (record { refusal = 1; end = 0; hand = h })
+  first_broken h z = first_unreadable_lem 1 h (none_unreadable s k z, omega arith)
+
   -- it reads
   pub first_read : (h : Hand) → Read (take k s) → h ≡ hand_for (take k s) → IsFirst n s (record { refusal = 0; end = k; hand = h })
   first_read h q x = record { refused = λ l. absurd (omega arith); inside = first_inside; reads = λ z. q; hand = λ z. x; others = λ z. go k refl }

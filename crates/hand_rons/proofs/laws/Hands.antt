@@ -10,8 +10,7 @@ use Rattle.std.proofs.lemmas.List.{length-map}
 use Rattle.hand.specs.declared.Fields.{Fields}
 use Rattle.hand.specs.declared.Hand.{Hand}
 use Rattle.hand.specs.Hand.{is_ron}
-use Rattle.hand_rons.specs.declared.First.{First}
-use Rattle.hand_rons.specs.Records.{hand_for, records_of, first_unreadable, conflict, conflicts, not_on_one_tile, is_winner, IsFirst}
+use Rattle.hand_rons.specs.Records.{First, hand_for, records_of, first_unreadable, conflict, conflicts, not_on_one_tile, is_winner, IsFirst}
 use Rattle.hand_rons.proofs.laws.OneTile.{records_length_lem}
 
 -- ---- the array is filled

@@ -5,9 +5,7 @@ use Rattle.std.proofs.lemmas.Bool.{false≢true, eqb-false, not-false}
 use Rattle.tiles.proofs.laws.Below.{or_both}
 use Rattle.hand.specs.declared.Fields.{Fields}
 use Rattle.hand.specs.Hand.{is_ron}
-use Rattle.hand_record.specs.declared.Answer.TheVariants.{Refused}
-use Rattle.hand_record.specs.declared.HandRead.{HandRead}
-use Rattle.hand_record.specs.Record.{length_of, count_in, refusal_in, read_of}
+use Rattle.hand_record.specs.Record.{Refused, HandRead, length_of, count_in, refusal_in, read_of}
 use Rattle.hand_record.proofs.laws.Bounds.{answer_is, other_seat, read_bounds, refused_number}
 use Rattle.hand_rons.specs.Records.{hand_for, records_of, first_unreadable, conflict, conflicts, not_on_one_tile, is_winner, first_after}
 use Rattle.hand_rons.specs.Records.{first_winner}

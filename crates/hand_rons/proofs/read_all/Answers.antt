@@ -1,23 +1,24 @@
-use Rattle.std.proofs.Common.{◌<◌, arith}
+use Rattle.std.proofs.Common.{◌≡◌, ◌+◌, ◌-◌, ◌<◌, refl, arith}
 use Rattle.hand_rons.proofs.laws.Hands.{filled_all, filled_more}
 use Rattle.hand_rons.proofs.read_all.Goals as goal
 
-pub loop-left-preserved : goal.loop-left-preserved
-loop-left-preserved c =
+pub loop-i-preserved : goal.loop-i-preserved
+loop-i-preserved c =
     let a = c.args in
-    let w = c.loop-left in
-    let place : w.i < 3 = omega (arith, w.invariant.number, c.loop-left-test.true, c.requires) in
-    filled_more a.number a.s.now w.hands w.left w.i w.at w.invariant c.read_first-r.result c.read_first-r.ensures
-    (omega arith) c.loop-left-test.true place
+    let w = c.loop-i in
+    let left : w.i < a.number = c.loop-i-test.true in
+    let next : a.number - (w.i + 1) ≡ (a.number - w.i) - 1 = omega arith in
+    rw (c.from.ensures, next)
+    (filled_more a.number a.s.now w.hands (a.number - w.i) w.i w.at w.invariant _ c.in_ok-first.ensures refl (omega arith) (omega (arith, c.requires)))
 
 pub returns-clause-refusal_value : goal.returns-clause-refusal_value
 returns-clause-refusal_value c =
     let a = c.args in
-    let w = c.loop-left in
-    (filled_all a.number a.s.now w.hands w.left w.i w.at w.invariant c.loop-left-test.false).0
+    let w = c.loop-i in
+    (filled_all a.number a.s.now w.hands _ w.i w.at w.invariant (omega (arith, c.loop-i-test.false))).0
 
 pub returns-clause-s_value : goal.returns-clause-s_value
-returns-clause-s_value c z =
+returns-clause-s_value c =
     let a = c.args in
-    let w = c.loop-left in
-    (filled_all a.number a.s.now w.hands w.left w.i w.at w.invariant c.loop-left-test.false).1
+    let w = c.loop-i in
+    (filled_all a.number a.s.now w.hands _ w.i w.at w.invariant (omega (arith, c.loop-i-test.false))).1

@@ -161,6 +161,20 @@ correction_some (Entry.pao holder feeder yaku f low high) k = omega arith
 correction_some (Entry.result s r i) k = absurd (omega (arith, k, (result_kind i).0))
 correction_some (Entry.correction s r i) k = (result_kind i).1
 
+-- its kind is no more than a result's
+pub correction_result : {s : List ℕ} {e : Game.Entry} → IsEntry s e → kind_in s ≡ 6 → kind_in (drop 1 s) ≤ 4
+correction_result (Entry.riichi seat h) k = absurd (omega (arith, h, k))
+correction_result (Entry.pao holder feeder yaku f low high) k = omega arith
+correction_result (Entry.result s r i) k = absurd (omega (arith, k, (result_kind i).0))
+correction_result (Entry.correction s r i) k = (result_kind i).0
+
+-- every entry has a header, which names one of seven kinds
+pub entry_kind : {s : List ℕ} {e : Game.Entry} → IsEntry s e → (kind_in s ≤ 6) × (0 < length s)
+entry_kind (Entry.riichi seat h) = (omega (arith, h), omega arith)
+entry_kind (Entry.pao holder feeder yaku f low high) = (omega arith, omega arith)
+entry_kind (Entry.result s r i) = let k = result_kind i in (omega (arith, k.0), k.1)
+entry_kind (Entry.correction s r i) = (omega arith, omega arith)
+
 -- ---- exactly one
 
 by_some : (n : ℕ) (s : List ℕ) → 0 < n → found_by n s ≡ entry (record { part = take n s; entry = entry_of (take n s) })

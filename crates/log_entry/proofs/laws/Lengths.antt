@@ -11,6 +11,7 @@ use Rattle.hand_record.specs.Lengths.{is_broken, record_length}
 use Rattle.hand_record.proofs.laws.Lengths.{unbroken, broken_or_whole}
 use Rattle.log_entry.specs.search.Lengths.{kind_in, argument_in, has_broken, span_of, records_length, is_other_form, with_header, win_length, multi_ron_length, pao_length}
 use Rattle.log_entry.specs.search.Lengths.{length_by, correction_length, entry_length}
+use Rattle.log_entry.specs.EntryKind.{is_result_kind}
 use Rattle.log_entry.proofs.laws.Records.{all_unbroken}
 
 -- the byte of a pao
@@ -222,6 +223,10 @@ by_most k a rest n = go (told_by k a rest n)
     go (pao w z u e) = omega (arith, e)
     go (plain w l e) = omega (arith, e)
     go (corrected w z l h p e) = absurd (n w)
+
+-- a kind that a correction can carry
+pub result_most : (k : ℕ) → is_result_kind k ≡ true → k ≤ 4
+result_most k e = leb-true k 4 (and_true (leb 1 k) (leb k 4) e).1
 
 -- ---- any entry
 

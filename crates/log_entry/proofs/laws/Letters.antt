@@ -1,6 +1,6 @@
 -- The letter of an entry, by the kind of its header.
-use Rattle.std.specs.Prelude.{◌≡◌, refl, false, List, [], ◌∷◌, ℕ, ◌+◌, ◌/◌, ◌≤◌, ◌<◌, eqb, length}
-use Rattle.std.proofs.Common.{sym, ap, ◌∙◌, arith, ne_eqb}
+use Rattle.std.specs.Prelude.{◌≡◌, refl, List, [], ◌∷◌, ℕ, ◌+◌, ◌/◌, ◌<◌, length}
+use Rattle.std.proofs.Common.{sym, ap, ◌∙◌, arith}
 use Rattle.position.specs.Booking.{Result}
 use Rattle.position.specs.Booking as Booking
 use Rattle.game.specs.Game as Game
@@ -33,27 +33,6 @@ IsLetter kind y = (header : ℕ) (rest : List ℕ) (e : Game.Entry) → IsEntry 
 
 letter_of_lem : (y kind : ℕ) → letter_by kind ≡ y → IsLetter kind y
 letter_of_lem y kind q header rest e i k = sym q ∙ ap letter_by k ∙ letter_is i
-
--- and 0 is that of a kind over 6
-abbrev Told : ℕ → ℕ → Type 0
-Told kind y = IsLetter kind y × (6 < kind → y ≡ 0)
-
-pub letter_named : (y kind k : ℕ) → kind ≡ k → k ≤ 6 → letter_by k ≡ y → Told kind y
-letter_named y kind k e few q = (letter_of_lem y kind (by_kind kind k y e q), λ h. absurd (omega (arith, e, few, h)))
-
--- no kind up to k, and so over it
-pub over : (kind k : ℕ) → (kind ≡ k → ⊥) → k ≤ kind → k + 1 ≤ kind
-over kind k other h = omega (arith, other, h)
-
-pub letter_none : (kind : ℕ) → 6 < kind → Told kind 0
-letter_none kind h = (letter_of_lem 0 kind none, λ _. refl)
-  where
-    no : (k : ℕ) → k ≤ 6 → eqb kind k ≡ false
-    no k few = ne_eqb kind k (λ e. omega (arith, e, few, h))
-
-    none : letter_by kind ≡ 0
-    none =
-        rw (no 0 (omega arith), no 1 (omega arith), no 2 (omega arith), no 3 (omega arith), no 4 (omega arith), no 5 (omega arith), no 6 (omega arith))
 
 -- so it is that of an entry's bytes
 pub letter_told : (s : List ℕ) (e : Game.Entry) → IsEntry s e → 0 < length s → (y : ℕ) → IsLetter (kind_in s) y → y ≡ letter_of e

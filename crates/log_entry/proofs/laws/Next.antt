@@ -72,6 +72,10 @@ module _ (log : List ℕ) (at : ℕ) where
   unfolding part_at
   part_at_end h = ap part_in (next_end h)
 
+  -- and where no entry stands
+  pub part_none : entry_length left ≡ 0 → part_at log at ≡ []
+  part_none e = part_found ∙ ap (λ (n : ℕ). take n left) e
+
   pub part_is : (n : ℕ) → n ≡ entry_length left → take (at + n - at) left ≡ part_at log at
   part_is n e =
       let m : at + n - at ≡ entry_length left = omega arith in

@@ -1,10 +1,10 @@
 -- How long the entry is that bytes start with, and that its part lies inside them.
-use Rattle.std.specs.Prelude.{◌≡◌, refl, List, [], ◌∷◌, ℕ, ◌-◌, ◌≤◌, ◌<◌, length, take, drop}
-use Rattle.std.proofs.Common.{sym, ◌∙◌, arith, length-drop, length-take-le, take_all}
+use Rattle.std.specs.Prelude.{◌≡◌, refl, List, [], ◌∷◌, ℕ, ◌-◌, ◌≤◌, length, take, drop}
+use Rattle.std.proofs.Common.{arith, length-drop, length-take-le, take_all}
 use Rattle.hand_record.proofs.laws.Lengths.{unbroken}
-use Rattle.log_entry.specs.search.Lengths.{kind_in, argument_in, length_by, correction_length, entry_length}
+use Rattle.log_entry.specs.search.Lengths.{kind_in, argument_in, entry_length}
 use Rattle.log_entry.proofs.laws.Records.{all_unbroken}
-use Rattle.log_entry.proofs.laws.Lengths.{length_is, length_correction, Told, bad, won, multi_ron, pao, plain, corrected, told, pao_form}
+use Rattle.log_entry.proofs.laws.Lengths.{Told, bad, won, multi_ron, pao, plain, corrected, told, pao_form}
 
 -- a stretch from a place on to the end
 pub from_on : (n : ℕ) (s : List ℕ) → take (length s - n) (drop n s) ≡ drop n s
@@ -20,14 +20,6 @@ pub none_empty : (s : List ℕ) → length s ≡ 0 → entry_length s ≡ 0
 unfolding entry_length
 none_empty [] h = refl
 none_empty (x ∷ s) h = absurd (omega arith)
-
--- as the code has it: the bytes after the header are a stretch
-module _ (s : List ℕ) (some : 0 < length s) (k a n : ℕ) (ek : k ≡ kind_in s) (ea : a ≡ argument_in s) where
-  pub length_by_header : (k ≡ 6 → ⊥) → n ≡ length_by k a (take (length s - 1) (drop 1 s)) → n ≡ entry_length s
-  length_by_header h e = e ∙ rw (from_on 1 s, ek, ea, length_is s some (λ z. h (ek ∙ z)))
-
-  pub correction_by_header : k ≡ 6 → n ≡ correction_length a (take (length s - 1) (drop 1 s)) → n ≡ entry_length s
-  correction_by_header h e = e ∙ rw (from_on 1 s, ea, length_correction s some (sym ek ∙ h))
 
 -- it lies inside its bytes
 pub length_inside : (s : List ℕ) → entry_length s ≤ length s

@@ -1,7 +1,7 @@
--- A record has 39 bytes at most.
+-- A record has 13 bytes at most.
 use Rattle.std.proofs.Common.{arith}
 use Rattle.hand_record.proofs.laws.Lengths.{record_inside}
 use Rattle.log_entry.proofs.win_length.Goals as goal
 
-pub with_header-requires : goal.with_header-requires
-with_header-requires c = omega (arith, c.record_length.ensures, record_inside c.args.rest.now)
+pub overflow_add-result : goal.overflow_add-result
+overflow_add-result c = omega (arith, c.in_ok-record_length.ensures.value, record_inside c.args.rest.now)

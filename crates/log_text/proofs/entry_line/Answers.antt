@@ -9,6 +9,6 @@ pub returns-clause-buf_after : goal.returns-clause-buf_after
 unfolding entry_line
 returns-clause-buf_after c = c.line.ensures.buf_after
 
-pub returns-clause-game_len_bound : goal.returns-clause-game_len_bound
+pub returns-clause-line_bound : goal.returns-clause-line_bound
 unfolding entry_line
-returns-clause-game_len_bound c = c.line.ensures.sticks_len_bound
+returns-clause-line_bound c = c.line.ensures.sticks_len_bound

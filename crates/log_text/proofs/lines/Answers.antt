@@ -1,45 +1,67 @@
-use Rattle.std.proofs.Common.{arith}
-use Rattle.log_walk.proofs.laws.Fill.{kept_start, past_gives, end_gives, max_gives, line_inside, lent_short, lent_kept}
+-- Each line that is written keeps what holds before it; where the loop stops, that gives the answer.
+use Rattle.std.proofs.Common.{◌≡◌, ◌<◌, Ok, None, refl, rules, arith}
+use Rattle.log_walk.proofs.laws.Fill.{kept_start, end_gives, max_gives, line_inside, lent_short, lent_kept}
 use Rattle.log_text.proofs.lines.Goals as goal
 
-pub loop-v-init : goal.loop-v-init
-loop-v-init c = kept_start _ _ _
+pub loop-step-init : goal.loop-step-init
+loop-step-init c = kept_start _ _ _
 
-pub returns-then-len-eq0-clause-value : goal.returns-then-len-eq0-clause-value
-returns-then-len-eq0-clause-value c = (end_gives _ _ _ _ _ _ c.loop-v.invariant _ c.book_at-b.ensures c.if-len-eq0.true).0
+pub overflow_add-walk-in-Ok-Some : goal.overflow_add-walk-in-Ok-Some
+overflow_add-walk-in-Ok-Some c =
+    let b = rw c.in-Ok-Some.field-0-is at c.in-Ok-Some.ensures.value in
+    let some : 0 < c.in-Ok-Some.step.len = rw c.in-Ok-Some.field-0-is at c.in-Ok-Some.ensures.some in
+    omega (arith, line_inside _ _ _ _ _ _ c.loop-step.invariant _ b (λ z. omega (arith, z, some)))
 
-pub returns-then-len-eq0-clause-s_value : goal.returns-then-len-eq0-clause-s_value
-returns-then-len-eq0-clause-s_value c = (end_gives _ _ _ _ _ _ c.loop-v.invariant _ c.book_at-b.ensures c.if-len-eq0.true).1.1
+pub loop-step-smaller : goal.loop-step-smaller
+loop-step-smaller c =
+    let b = rw c.in-Ok-Some.field-0-is at c.in-Ok-Some.ensures.value in
+    let some : 0 < c.in-Ok-Some.step.len = rw c.in-Ok-Some.field-0-is at c.in-Ok-Some.ensures.some in
+    omega (arith, line_inside _ _ _ _ _ _ c.loop-step.invariant _ b (λ z. omega (arith, z, some)))
 
-pub returns-then-k-clause-value : goal.returns-then-k-clause-value
-returns-then-k-clause-value c = (max_gives _ _ _ _ _ _ c.loop-v.invariant c.if-k.true).0
+pub loop-step-preserved : goal.loop-step-preserved
+loop-step-preserved c =
+    let e = c.entry_line-n.ensures in
+    let b = rw c.in-Ok-Some.field-0-is at c.in-Ok-Some.ensures.value in
+    let some : 0 < c.in-Ok-Some.step.len = rw c.in-Ok-Some.field-0-is at c.in-Ok-Some.ensures.some in
+    rw c.unwrap_or-game.ensures (lent_kept _ _ _ _ _ _ c.loop-step.invariant _ b (λ z. omega (arith, z, some)) _ _
+    (rw (c.unwrap_or-game.ensures, c.number-refusal.ensures.value) at e.value) (rw (c.unwrap_or-game.ensures, c.number-refusal.ensures.value) at e.buf_after)
+    c.if-n-eq0.false c.if-walk.false)
 
-pub returns-then-m-eq0-clause-value : goal.returns-then-m-eq0-clause-value
-returns-then-m-eq0-clause-value c =
-    let e = c.entry_line-m.ensures in
-    (lent_short _ _ _ _ _ _ c.loop-v.invariant _ c.book_at-b.ensures c.if-len-eq0.false _ _ e.value e.buf_after c.if-m-eq0.true e.game_len_bound).0
+pub returns-then-walk-clause-value : goal.returns-then-walk-clause-value
+returns-then-walk-clause-value c = (max_gives _ _ _ _ _ _ c.loop-step.invariant c.if-walk.true).0
 
-pub returns-then-m-eq0-clause-s_value : goal.returns-then-m-eq0-clause-s_value
-returns-then-m-eq0-clause-s_value c =
-    let e = c.entry_line-m.ensures in
-    (lent_short _ _ _ _ _ _ c.loop-v.invariant _ c.book_at-b.ensures c.if-len-eq0.false _ _ e.value e.buf_after c.if-m-eq0.true e.game_len_bound).1.1
+pub returns-then-n-eq0-clause-value : goal.returns-then-n-eq0-clause-value
+returns-then-n-eq0-clause-value c =
+    let e = c.entry_line-n.ensures in
+    let b = rw c.in-Ok-Some.field-0-is at c.in-Ok-Some.ensures.value in
+    let some : 0 < c.in-Ok-Some.step.len = rw c.in-Ok-Some.field-0-is at c.in-Ok-Some.ensures.some in
+    (lent_short _ _ _ _ _ _ c.loop-step.invariant _ b (λ z. omega (arith, z, some)) _ _
+    (rw (c.unwrap_or-game.ensures, c.number-refusal.ensures.value) at e.value) (rw (c.unwrap_or-game.ensures, c.number-refusal.ensures.value) at e.buf_after)
+    c.if-n-eq0.true (rw (c.unwrap_or-game.ensures, c.number-refusal.ensures.value) at e.line_bound)).0
 
--- the line ends inside the buffer, the entry inside the log
-pub overflow_add-v-in-loop-v : goal.overflow_add-v-in-loop-v
-overflow_add-v-in-loop-v c =
-    omega (arith, line_inside _ _ _ _ _ _ c.loop-v.invariant _ c.book_at-b.ensures c.if-len-eq0.false)
+pub returns-then-n-eq0-clause-s_value : goal.returns-then-n-eq0-clause-s_value
+returns-then-n-eq0-clause-s_value c =
+    let e = c.entry_line-n.ensures in
+    let b = rw c.in-Ok-Some.field-0-is at c.in-Ok-Some.ensures.value in
+    let some : 0 < c.in-Ok-Some.step.len = rw c.in-Ok-Some.field-0-is at c.in-Ok-Some.ensures.some in
+    (lent_short _ _ _ _ _ _ c.loop-step.invariant _ b (λ z. omega (arith, z, some)) _ _
+    (rw (c.unwrap_or-game.ensures, c.number-refusal.ensures.value) at e.value) (rw (c.unwrap_or-game.ensures, c.number-refusal.ensures.value) at e.buf_after)
+    c.if-n-eq0.true (rw (c.unwrap_or-game.ensures, c.number-refusal.ensures.value) at e.line_bound)).1.1
 
-pub loop-v-smaller : goal.loop-v-smaller
-loop-v-smaller c =
-    omega (arith, line_inside _ _ _ _ _ _ c.loop-v.invariant _ c.book_at-b.ensures c.if-len-eq0.false)
+-- no entry is left: the log's end
+pub returns-in_default-clause-value : goal.returns-in_default-clause-value
+returns-in_default-clause-value c =
+    let none : c.book_at.result ≡ Ok None = search rules in
+    (end_gives _ _ _ _ _ _ c.loop-step.invariant _ (rw none at c.book_at.ensures.value) refl).0
 
-pub loop-v-preserved : goal.loop-v-preserved
-loop-v-preserved c =
-    let e = c.entry_line-m.ensures in
-    lent_kept _ _ _ _ _ _ c.loop-v.invariant _ c.book_at-b.ensures c.if-len-eq0.false _ _ e.value e.buf_after c.if-m-eq0.false c.if-k.false
+pub returns-in_default-clause-s_value : goal.returns-in_default-clause-s_value
+returns-in_default-clause-s_value c =
+    let none : c.book_at.result ≡ Ok None = search rules in
+    (end_gives _ _ _ _ _ _ c.loop-step.invariant _ (rw none at c.book_at.ensures.value) refl).1.1
 
-pub returns-clause-value : goal.returns-clause-value
-returns-clause-value c = (past_gives _ _ _ _ _ _ c.loop-v.invariant c.loop-v-test.false).0
+-- 14
+pub returns-in_default-2-clause-value : goal.returns-in_default-2-clause-value
+returns-in_default-2-clause-value c = (end_gives _ _ _ _ _ _ c.loop-step.invariant _ (rw c.in_default.is at c.book_at.ensures.value) refl).0
 
-pub returns-clause-s_value : goal.returns-clause-s_value
-returns-clause-s_value c = (past_gives _ _ _ _ _ _ c.loop-v.invariant c.loop-v-test.false).1.1
+pub returns-in_default-2-clause-s_value : goal.returns-in_default-2-clause-s_value
+returns-in_default-2-clause-s_value c = (end_gives _ _ _ _ _ _ c.loop-step.invariant _ (rw c.in_default.is at c.book_at.ensures.value) refl).1.1

@@ -17,10 +17,9 @@ use Rattle.text.specs.Text.{digits_of, spaced, line_of, length_in, buffer_with}
 use Rattle.position.specs.declared.Position.{Position}
 use Rattle.game.specs.declared.Game.{Game}
 use Rattle.game.specs.Game.{game_refusal, game_after}
-use Rattle.log_walk.specs.declared.Step.{Step}
 use Rattle.log_walk.specs.declared.Walk.{Walk}
 use Rattle.log_walk.specs.declared.Printed.{Printed}
-use Rattle.log_walk.specs.Walk.{step_of, entry_line, text_from, text_left, filled, lines_of}
+use Rattle.log_walk.specs.Walk.{Step, step_of, entry_line, text_from, text_left, filled, lines_of}
 use Rattle.log_walk.proofs.laws.Turn.{no_parts, step_is, parts_are, inside}
 
 -- a line has a byte at least

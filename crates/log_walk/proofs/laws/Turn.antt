@@ -3,9 +3,13 @@ use Rattle.std.specs.Prelude.{◌≡◌, refl, List, [], ◌∷◌, ℕ, zero, s
 use Rattle.std.proofs.Common.{sym, ◌∙◌, arith, ne_eqb}
 use Rattle.std.proofs.Math.Path.{ap}
 use Rattle.std.proofs.Math.Seq.{drop-drop}
+use Rattle.position.specs.Booking.{result}
 use Rattle.game.specs.declared.Game.{Game}
 use Rattle.game.specs.Game.{booking, correction, game_refusal, game_after}
 use Rattle.game.specs.Runs.{Books}
+use Rattle.log_entry.specs.declared.EntryKind.{EntryKind}
+use Rattle.log_entry.specs.declared.EntryKind.TheVariants.{Riichi, Win, Draw, Chombo, MultiRon, Pao, Correction}
+use Rattle.log_entry.specs.EntryKind.{number}
 use Rattle.log_entry.specs.Entry.{letter_of}
 use Rattle.log_entry.specs.Log.{part_at, refusal_at, entries_of}
 use Rattle.log_entry.specs.search.Lengths.{kind_in, argument_in}
@@ -15,8 +19,7 @@ use Rattle.log_entry.proofs.laws.Letters.{IsLetter, letter_told}
 use Rattle.log_entry.proofs.laws.Exact.{by_place}
 use Rattle.log_entry.proofs.laws.Next.{next_end, next_bad, next_part, refusal_end, refusal_bad, length_part, part_inside, entry_at, part_is_entry}
 use Rattle.log_entry.proofs.laws.Walk.{parts_end, parts_turn}
-use Rattle.log_walk.specs.Walk.{no_entry, step_by, step_of}
-use Rattle.log_walk.specs.declared.Step.{Step}
+use Rattle.log_walk.specs.Walk.{Step, no_entry, step_by, step_of}
 
 -- ---- the entry of a part, as the code has it: the bytes after a header are a stretch of the part
 
@@ -41,6 +44,25 @@ module _ (b : Game) (s : List ℕ) (k a x : ℕ) (h : Game) where
       → Books b (entry_of s) x h
   unfolding entry_of result_of
   part_correction e ek ea p = rw (e, drop-drop 1 1 s, inner_header) (rw (from_on 2 s, ek, ea) at p)
+
+-- a kind that is neither riichi nor pao books a result
+pub by_result : (k : EntryKind) → (k ≡ Riichi → ⊥) → (k ≡ Pao → ⊥) → (a : ℕ) (s : List ℕ) → booking_by (number k) a s ≡ result (result_by (number k) a s)
+by_result Riichi r p a s = absurd (r refl)
+by_result Win r p a s = refl
+by_result Draw r p a s = refl
+by_result Chombo r p a s = refl
+by_result MultiRon r p a s = refl
+by_result Pao r p a s = absurd (p refl)
+by_result Correction r p a s = refl
+
+pub not_correction : (k : EntryKind) → (k ≡ Correction → ⊥) → number k ≡ 6 → ⊥
+not_correction Riichi n e = omega (arith, e)
+not_correction Win n e = omega (arith, e)
+not_correction Draw n e = omega (arith, e)
+not_correction Chombo n e = omega (arith, e)
+not_correction MultiRon n e = omega (arith, e)
+not_correction Pao n e = omega (arith, e)
+not_correction Correction n e = n refl
 
 module _ (k : Game) (log : List ℕ) (at : ℕ) where
   abbrev part : List ℕ

@@ -5,8 +5,7 @@ use Rattle.std.proofs.Common.{◌∙◌, ltb-false, arith}
 use Rattle.std.proofs.lemmas.Bool.{false≢true}
 use Rattle.std.proofs.Math.IntN.{+ℤ_idr}
 use Rattle.hand.specs.Hand.{is_ron}
-use Rattle.hand_record.specs.declared.Answer.{Answer}
-use Rattle.hand_record.specs.declared.Answer.TheVariants.{Sound, Refused}
+use Rattle.hand_record.specs.Record.{Answer, Sound, Refused}
 use Rattle.hand_record.specs.Record.{refusal_in, fields_of, read_of}
 use Rattle.hand_rons.specs.Records.{hand_for, records_of, first_unreadable, conflicts, not_on_one_tile, is_winner, first_winner}
 use Rattle.hand_rons.proofs.laws.OneTile.{first_wins}

@@ -35,10 +35,6 @@ pub liable_other : (w n : ℕ) → n ≤ 4 → (n ≡ 1 + w → ⊥) → IsOther
 liable_other w zero l other = tt
 liable_other w (suc x) l other = (omega arith, λ e. other (omega arith))
 
-pub other_liable : (w n : ℕ) → IsOther w (liable_by n) → (n ≤ 4) × (n ≡ 1 + w → ⊥)
-other_liable w zero o = (omega arith, λ e. omega arith)
-other_liable w (suc x) o = let other = o.1 in (omega (arith, o.0), λ e. other (omega arith))
-
 pub whole_even : (t : Bool) → whole_of t ≡ 2 * cond t 24000 16000
 whole_even true = refl
 whole_even false = refl

@@ -77,15 +77,13 @@ gifts_small l w i h = let x = w i in (omega arith, omega arith)
 pub zeros_small : Small (pos 0 ∷ pos 0 ∷ pos 0 ∷ pos 0 ∷ [])
 zeros_small = gifts_small (pos 0 ∷ pos 0 ∷ pos 0 ∷ pos 0 ∷ []) zeros_gifts
 
--- an array of four numbers within h, each that of its seat
-pub four_within : (h : ℕ) → h ≤ amount → (a b c d : ℤ) (f : ℕ → ℤ) → (a ≡ f 0) × Within a h → (b ≡ f 1) × Within b h → (c ≡ f 2) × Within c h
-    → (d ≡ f 3) × Within d h
-    → (B32 a ∷ B32 b ∷ B32 c ∷ B32 d ∷ [] ≡ tabulate 4 0 f) × ((i : ℕ) → Within (get_or (B32 a ∷ B32 b ∷ B32 c ∷ B32 d ∷ []) i (pos 0)) h)
-four_within h l a b c d f p q r s =
-    let own : (z : ℤ) → Within z h → B32 z ≡ z = λ z w. held z (omega arith, omega arith) in
-    rw (own a p.1, own b q.1, own c r.1, own d s.1) (rw (p.0, q.0, r.0, s.0), each_within h a b c d p.1 q.1 r.1 s.1)
+-- four numbers within h, each that of its seat
+pub four_seats : (h : ℕ) (l : List ℤ) (a b c d : ℤ) (f : ℕ → ℤ) → l ≡ a ∷ b ∷ c ∷ d ∷ [] → (a ≡ f 0) × Within a h → (b ≡ f 1) × Within b h
+    → (c ≡ f 2) × Within c h → (d ≡ f 3) × Within d h
+    → (l ≡ tabulate 4 0 f) × ((i : ℕ) → Within (get_or l i (pos 0)) h)
+four_seats h l a b c d f e p q r s = rw e (rw (p.0, q.0, r.0, s.0), each_within h a b c d p.1 q.1 r.1 s.1)
 
--- of four small numbers
-pub four : (a b c d : ℤ) (f : ℕ → ℤ) → (a ≡ f 0) × Within a amount → (b ≡ f 1) × Within b amount → (c ≡ f 2) × Within c amount → (d ≡ f 3) × Within d amount
-    → (B32 a ∷ B32 b ∷ B32 c ∷ B32 d ∷ [] ≡ tabulate 4 0 f) × Small (B32 a ∷ B32 b ∷ B32 c ∷ B32 d ∷ [])
-four a b c d f p q r s = let y = four_within amount (omega arith) a b c d f p q r s in (y.0, λ i l. y.1 i)
+-- four small numbers
+pub four_small : (l : List ℤ) (a b c d : ℤ) (f : ℕ → ℤ) → l ≡ a ∷ b ∷ c ∷ d ∷ [] → (a ≡ f 0) × Within a amount → (b ≡ f 1) × Within b amount
+    → (c ≡ f 2) × Within c amount → (d ≡ f 3) × Within d amount → (l ≡ tabulate 4 0 f) × Small l
+four_small l a b c d f e p q r s = let y = four_seats amount l a b c d f e p q r s in (y.0, λ i k. y.1 i)

@@ -9,13 +9,12 @@ use Rattle.position_bookings.proofs.chombo.Goals as goal
 pub returns-then-seat-gt3 : goal.returns-then-seat-gt3
 returns-then-seat-gt3 c =
     let a = c.args in
-    rw c.refused.ensures (refused_moves a.p (result (chombo a.seat)) 8 (chombo_seat a.p a.seat c.if-seat-gt3.true) (omega arith))
+    refused_moves a.p (result (chombo a.seat)) 8 (chombo_seat a.p a.seat c.if-seat-gt3.true) (omega arith)
 
 pub returns-then-not_open : goal.returns-then-not_open
 returns-then-not_open c =
     let a = c.args in
-    rw c.refused-then-not_open.ensures
-    (refused_moves a.p (result (chombo a.seat)) 9 (chombo_by a.p a.seat c.if-seat-gt3.false true (sym c.not_open.ensures ∙ c.if-not_open.true)) (omega arith))
+    refused_moves a.p (result (chombo a.seat)) 9 (chombo_by a.p a.seat c.if-seat-gt3.false true (sym c.not_open.ensures ∙ c.if-not_open.true)) (omega arith)
 
 pub penalise-requires : goal.penalise-requires
 penalise-requires c = open_of c.args.p (sym c.not_open.ensures ∙ c.if-not_open.false)
@@ -24,6 +23,5 @@ pub returns : goal.returns
 unfolding effect_of
 returns c =
     let a = c.args in
-    rw c.accepted.ensures
-    (accepted_moves a.p (result (chombo a.seat)) c.penalise.result (chombo_by a.p a.seat c.if-seat-gt3.false false (sym c.not_open.ensures ∙ c.if-not_open.false))
-    (c.penalise.ensures ∙ same_chombo a.p c.only.result (λ i. eqb i a.seat) c.only.ensures))
+    accepted_moves a.p (result (chombo a.seat)) c.penalise.result (chombo_by a.p a.seat c.if-seat-gt3.false false (sym c.not_open.ensures ∙ c.if-not_open.false))
+    (c.penalise.ensures ∙ same_chombo a.p c.only.result (λ i. eqb i a.seat) c.only.ensures)

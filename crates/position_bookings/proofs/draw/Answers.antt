@@ -8,13 +8,12 @@ use Rattle.position_bookings.proofs.draw.Goals as goal
 pub returns-then-bits-gt15 : goal.returns-then-bits-gt15
 returns-then-bits-gt15 c =
     let a = c.args in
-    rw c.refused.ensures (refused_moves a.p (result (draw a.bits)) 8 (draw_bits a.p a.bits c.if-bits-gt15.true) (omega arith))
+    refused_moves a.p (result (draw a.bits)) 8 (draw_bits a.p a.bits c.if-bits-gt15.true) (omega arith)
 
 pub returns-then-not_open : goal.returns-then-not_open
 returns-then-not_open c =
     let a = c.args in
-    rw c.refused-then-not_open.ensures
-    (refused_moves a.p (result (draw a.bits)) 9 (draw_by a.p a.bits c.if-bits-gt15.false true (sym c.not_open.ensures ∙ c.if-not_open.true)) (omega arith))
+    refused_moves a.p (result (draw a.bits)) 9 (draw_by a.p a.bits c.if-bits-gt15.false true (sym c.not_open.ensures ∙ c.if-not_open.true)) (omega arith)
 
 pub penalise-requires : goal.penalise-requires
 penalise-requires c = open_of c.args.p (sym c.not_open.ensures ∙ c.if-not_open.false)
@@ -22,30 +21,28 @@ penalise-requires c = open_of c.args.p (sym c.not_open.ensures ∙ c.if-not_open
 pub returns-then-any_true : goal.returns-then-any_true
 returns-then-any_true c =
     let a = c.args in
-    rw c.accepted.ensures
-    (accepted_moves a.p (result (draw a.bits)) c.penalise.result (draw_by a.p a.bits c.if-bits-gt15.false false (sym c.not_open.ensures ∙ c.if-not_open.false))
+    accepted_moves a.p (result (draw a.bits)) c.penalise.result (draw_by a.p a.bits c.if-bits-gt15.false false (sym c.not_open.ensures ∙ c.if-not_open.false))
     (c.penalise.ensures
-    ∙ fault_applied a.p a.bits c.ready-b.result c.at_fault-f.result c.ready-b.ensures c.at_fault-f.ensures (sym c.any_true.ensures ∙ c.if-any_true.true)))
+    ∙ fault_applied a.p a.bits c.ready-b.result c.at_fault-f.result c.ready-b.ensures c.at_fault-f.ensures (sym c.any_true.ensures ∙ c.if-any_true.true))
 
-pub bounds-b-i : goal.bounds-b-i
-bounds-b-i c =
+pub bounds-b-from : goal.bounds-b-from
+bounds-b-from c =
     let o = open_of c.args.p (sym c.not_open.ensures ∙ c.if-not_open.false) in
-    omega (arith, o.form.dealer)
+    omega (arith, o.form.dealer, c.from.ensures)
 
 pub overflow_add-p : goal.overflow_add-p
 overflow_add-p c =
     let o = open_of c.args.p (sym c.not_open.ensures ∙ c.if-not_open.false) in
     omega (arith, o.form.counter, o.hands)
 
-pub finish-after-requires : goal.finish-after-requires
-finish-after-requires c = (open_of c.args.p (sym c.not_open.ensures ∙ c.if-not_open.false), c.shares.ensures.1)
+pub finish-requires : goal.finish-requires
+finish-requires c = (open_of c.args.p (sym c.not_open.ensures ∙ c.if-not_open.false), c.shares.ensures.1)
 
 pub returns : goal.returns
 returns c =
     let a = c.args in
     let shut = sym c.not_open.ensures ∙ c.if-not_open.false in
-    rw c.accepted-2.ensures
-    (accepted_moves a.p (result (draw a.bits)) c.finish-after.result (draw_by a.p a.bits c.if-bits-gt15.false false shut)
-    (c.finish-after.ensures
+    accepted_moves a.p (result (draw a.bits)) c.finish.result (draw_by a.p a.bits c.if-bits-gt15.false false shut)
+    (rw c.from.ensures at c.finish.ensures
     ∙ draw_applied a.p a.bits c.ready-b.result c.at_fault-f.result c.ready-b.ensures c.at_fault-f.ensures (sym c.any_true.ensures ∙ c.if-any_true.false)
-    (open_of a.p shut).form.dealer c.shares.result c.shares.ensures.0))
+    (open_of a.p shut).form.dealer c.shares.result c.shares.ensures.0)

@@ -8,23 +8,20 @@ use Rattle.position_bookings.proofs.pao.Goals as goal
 pub returns-then-holder-feeder : goal.returns-then-holder-feeder
 returns-then-holder-feeder c =
     let a = c.args in
-    rw c.refused.ensures
-    (refused_moves a.p (pao a.holder a.feeder a.yaku) 8 (pao_seat a.p a.holder a.feeder a.yaku c.if-holder-feeder.true) (omega arith))
+    refused_moves a.p (pao a.holder a.feeder a.yaku) 8 (pao_seat a.p a.holder a.feeder a.yaku c.if-holder-feeder.true) (omega arith)
 
 pub returns-then-not_open : goal.returns-then-not_open
 returns-then-not_open c =
     let a = c.args in
-    rw c.refused-then-not_open.ensures
-    (refused_moves a.p (pao a.holder a.feeder a.yaku) 9
-    (pao_shut a.p a.holder a.feeder a.yaku c.if-holder-feeder.false (sym c.not_open.ensures ∙ c.if-not_open.true)) (omega arith))
+    refused_moves a.p (pao a.holder a.feeder a.yaku) 9
+    (pao_shut a.p a.holder a.feeder a.yaku c.if-holder-feeder.false (sym c.not_open.ensures ∙ c.if-not_open.true)) (omega arith)
 
 pub returns-then-wrong_pao : goal.returns-then-wrong_pao
 returns-then-wrong_pao c =
     let a = c.args in
-    rw c.refused-then-wrong_pao.ensures
-    (refused_moves a.p (pao a.holder a.feeder a.yaku) 18
+    refused_moves a.p (pao a.holder a.feeder a.yaku) 18
     (pao_by a.p a.holder a.feeder a.yaku c.if-holder-feeder.false (sym c.not_open.ensures ∙ c.if-not_open.false) true (sym c.wrong_pao.ensures ∙ c.if-wrong_pao.true))
-    (omega arith))
+    (omega arith)
 
 pub name_feeder-requires : goal.name_feeder-requires
 name_feeder-requires c =
@@ -36,7 +33,6 @@ name_feeder-requires c =
 pub returns : goal.returns
 returns c =
     let a = c.args in
-    rw c.accepted.ensures
-    (accepted_moves a.p (pao a.holder a.feeder a.yaku) c.name_feeder.result
+    accepted_moves a.p (pao a.holder a.feeder a.yaku) c.name_feeder.result
     (pao_by a.p a.holder a.feeder a.yaku c.if-holder-feeder.false (sym c.not_open.ensures ∙ c.if-not_open.false) false (sym c.wrong_pao.ensures ∙ c.if-wrong_pao.false))
-    c.name_feeder.ensures)
+    c.name_feeder.ensures

@@ -5,8 +5,8 @@ use Rattle.position.proofs.laws.Sums.{paid}
 use Rattle.position_moves.proofs.laws.Steps.{riichi_applied}
 use Rattle.position_moves.proofs.put_stick.Goals as goal
 
-pub pay-scores-requires : goal.pay-scores-requires
-pay-scores-requires c = (λ i l. score_within c.args.p c.requires.form i l, c.stakes.ensures.1)
+pub pay-requires : goal.pay-requires
+pay-requires c = (λ i l. score_within c.args.p c.requires.form i l, c.stakes.ensures.1)
 
 pub overflow_add-result : goal.overflow_add-result
 overflow_add-result c = let k = few_sticks c.args.p c.requires.form in search rules
@@ -14,5 +14,5 @@ overflow_add-result c = let k = few_sticks c.args.p c.requires.form in search ru
 pub returns : goal.returns
 unfolding riichi_gives
 returns c =
-    riichi_applied c.args.p c.args.seat c.requires c.pay-scores.result c.declare-declared.result
-    (c.pay-scores.ensures ∙ ap (λ (l : List ℤ). paid c.args.p.scores l) c.stakes.ensures.0) c.declare-declared.ensures
+    riichi_applied c.args.p c.args.seat c.requires c.pay.result c.declare.result
+    (c.pay.ensures ∙ ap (λ (l : List ℤ). paid c.args.p.scores l) c.stakes.ensures.0) c.declare.ensures

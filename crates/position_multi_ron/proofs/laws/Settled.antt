@@ -1,7 +1,7 @@
 -- What the settling of several hands comes to, one after the other, for each list of records that reads as them, and that this is the ledger's booking.
-use Rattle.std.specs.Prelude.{◌≡◌, refl, true, false, not, ◌||◌, ltb, pos, ◌+ℤ◌, take}
+use Rattle.std.specs.Prelude.{◌≡◌, refl, Result, Ok, Err, true, false, not, ◌||◌, ltb, pos, ◌+ℤ◌, take}
 use Rattle.std.proofs.Math.Path.{sym, ap}
-use Rattle.std.proofs.Common.{◌∙◌, arith, drop-cons}
+use Rattle.std.proofs.Common.{◌∙◌, subst, arith, drop-cons}
 use Rattle.std.proofs.Math.Bool.{Bool, cond}
 use mathlib.Core.List.{List, [], ◌∷◌, map}
 use Prim.Native.Nat.{ℕ, zero, suc, ◌+◌, ◌*◌, ◌≤◌, ◌<◌}
@@ -10,6 +10,9 @@ use Rattle.std.proofs.Math.Dec.{eqb}
 use Rattle.std.proofs.Math.IntN.{ℤ, +ℤ_idl, +ℤ_idr, +ℤ_assoc}
 use Rattle.std.proofs.Math.ListN.{length, get_or, drop}
 use Rattle.std.proofs.Math.Seq.{drop-length}
+use Rattle.refusals.specs.declared.Refusal.{Refusal}
+use Rattle.refusals.specs.Refusal.{number, refusal_in}
+use Rattle.refusals.proofs.Numbers.{number_above}
 use Rattle.tiles.specs.Below.{tabulate}
 use Rattle.tiles.proofs.laws.Below.{or_both}
 use Rattle.hand.specs.declared.Hand.{Hand}
@@ -101,20 +104,20 @@ module _ (g : Position) (x : ℕ) where
     given_small j l = let y = w.within j in let m = w.inside in (omega arith, omega arith)
 
     -- all are settled
-    pub given_all : n ≤ i → (rs : List (List ℕ)) → AllRead rs → map hand_for rs ≡ take n hs → SettlesAll g x rs (record { refusal = 0; winner = x; gives = by })
+    pub given_all : n ≤ i → (rs : List (List ℕ)) → AllRead rs → map hand_for rs ≡ take n hs → SettlesAll g x rs (Ok (record { winner = x; gives = by }))
     unfolding record_refusals multi_ron_gives
     given_all l rs r e =
         let m : i ≡ length rs = omega (arith, w.inside, that_number n hs room rs e) in
         let none : drop i rs ≡ [] = ap (λ (k : ℕ). drop k rs) m ∙ drop-length rs in (
           sym (w.refusal rs r e ∙ ap (first_refused g) none),
-          λ z. sym (w.gives rs r e ∙ ap (λ (ss : List (List ℕ)). paid by (tabulate 4 0 (multi_ron_gives g x ss))) none ∙ paid_last by w.four),
+          sym (w.gives rs r e ∙ ap (λ (ss : List (List ℕ)). paid by (tabulate 4 0 (multi_ron_gives g x ss))) none ∙ paid_last by w.four),
         )
 
     -- the next hand, that the settling t is of
     abbrev foremost : Bool
     foremost = eqb (get_or hs i blank).fields.winner x
 
-    module _ (l : i < n) (a b : ℕ) (ea : a ≡ cond foremost g.counter 0) (eb : b ≡ cond foremost g.sticks 0) (t : Settled)
+    module _ (l : i < n) (a b : ℕ) (ea : a ≡ cond foremost g.counter 0) (eb : b ≡ cond foremost g.sticks 0) (t : Result Settled Refusal)
         (v : (s : List ℕ) → Read s → get_or hs i blank ≡ hand_for s → IsSettled g s a b t) where
       module _ (rs : List (List ℕ)) (r : AllRead rs) (e : map hand_for rs ≡ take n hs) where
         inside_records : i < length rs
@@ -127,26 +130,27 @@ module _ (g : Position) (x : ℕ) where
         settled = v (get_or rs i []) (read_at rs r i inside_records) (hand_at_lem n hs room rs e i l)
 
         -- it is refused
-        pub given_refused : 0 < t.refusal → SettlesAll g x rs t
+        pub given_refused : (m : Refusal) → t ≡ Err m → SettlesAll g x rs (Err m)
         unfolding record_refusals
-        given_refused p =
-            let q : win_refusal g (get_or rs i []) ≡ t.refusal = sym settled.0 in
-            (sym (w.refusal rs r e ∙ ap (first_refused g) next ∙ rw (q, lt-ltb 0 t.refusal p)), λ z. absurd (omega arith))
+        given_refused m is =
+            let q : win_refusal g (get_or rs i []) ≡ number m = sym settled.0 ∙ ap (λ (y : Result Settled Refusal). refusal_in y) is in
+            (sym (w.refusal rs r e ∙ ap (first_refused g) next ∙ rw (q, lt-ltb 0 (number m) (number_above m))), tt)
 
-        next_refusal : t.refusal ≡ 0 → first_refused g rs ≡ first_refused g (drop (suc i) rs)
+        next_refusal : refusal_in t ≡ 0 → first_refused g rs ≡ first_refused g (drop (suc i) rs)
         unfolding record_refusals
         next_refusal z = w.refusal rs r e ∙ ap (first_refused g) next ∙ rw (sym settled.0 ∙ z)
 
-        next_gives : t.refusal ≡ 0 → tabulate 4 0 (multi_ron_gives g x rs) ≡ paid (paid by t.gives) (tabulate 4 0 (multi_ron_gives g x (drop (suc i) rs)))
+        next_gives : (u : Settled) → t ≡ Ok u → tabulate 4 0 (multi_ron_gives g x rs) ≡ paid (paid by u.gives) (tabulate 4 0 (multi_ron_gives g x (drop (suc i) rs)))
         unfolding multi_ron_gives
-        next_gives z =
+        next_gives u is =
             let s = get_or rs i [] in
             let own : Bool = eqb (hand_for s).fields.winner x in
             let h : get_or hs i blank ≡ hand_for s = hand_at_lem n hs room rs e i l in
             let ca : a ≡ cond own g.counter 0 = ea ∙ ap (λ (y : Hand). cond (eqb y.fields.winner x) g.counter 0) h in
             let cb : b ≡ cond own g.sticks 0 = eb ∙ ap (λ (y : Hand). cond (eqb y.fields.winner x) g.sticks 0) h in
             let f : ℕ → ℤ = win_gives g s (cond own g.counter 0) (cond own g.sticks 0) in
-            let given : t.gives ≡ tabulate 4 0 f = (settled.1 z).1 ∙ rw (ca, cb) in
+            let is_settled : IsSettled g s a b (Ok u) = subst (λ (y : Result Settled Refusal). IsSettled g s a b y) is settled in
+            let given : u.gives ≡ tabulate 4 0 f = is_settled.1.1 ∙ rw (ca, cb) in
             let k : ℕ → ℤ = multi_ron_gives g x (drop (suc i) rs) in
             w.gives rs r e
             ∙ ap (λ (ss : List (List ℕ)). paid by (tabulate 4 0 (multi_ron_gives g x ss))) next
@@ -154,17 +158,18 @@ module _ (g : Position) (x : ℕ) where
             ∙ ap (λ (y : List ℤ). paid (paid by y) (tabulate 4 0 k)) (sym given)
 
       -- it is not
-      pub given_more : t.refusal ≡ 0 → Gifts t.gives → (by' : List ℤ) → by' ≡ paid by t.gives → Given n hs by' (i + 1)
-      given_more z p by' q =
+      pub given_more : (u : Settled) → t ≡ Ok u → Gifts u.gives → (by' : List ℤ) → by' ≡ paid by u.gives → Given n hs by' (i + 1)
+      given_more u is p by' q =
           let one : suc i ≡ i + 1 = omega arith in
-          let m = paid_within by t.gives (most_gift * i) most_gift w.within p in
+          let m = paid_within by u.gives (most_gift * i) most_gift w.within p in
+          let z : refusal_in t ≡ 0 = ap (λ (y : Result Settled Refusal). refusal_in y) is in
           record {
             inside = omega arith;
             four = ap (λ (y : List ℤ). length y) q;
             within = λ j. let y = m j in rw q (omega arith, omega arith);
             refusal = λ rs r e. next_refusal rs r e z ∙ ap (λ (j : ℕ). first_refused g (drop j rs)) one;
             gives = λ rs r e.
-                next_gives rs r e z ∙ ap (λ (y : List ℤ). paid y (tabulate 4 0 (multi_ron_gives g x (drop (suc i) rs)))) (sym q)
+                next_gives rs r e u is ∙ ap (λ (y : List ℤ). paid y (tabulate 4 0 (multi_ron_gives g x (drop (suc i) rs)))) (sym q)
                 ∙ ap (λ (j : ℕ). paid by' (tabulate 4 0 (multi_ron_gives g x (drop j rs)))) one;
           }
 

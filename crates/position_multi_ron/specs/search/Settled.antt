@@ -1,5 +1,7 @@
 -- What the settling of several hands comes to, for each list of records that reads as them.
-use Rattle.std.specs.Prelude.{◌≡◌, cond, List, map, ℕ, ◌<◌, ltb, get_or, take}
+use Rattle.std.specs.Prelude.{◌≡◌, cond, Result, IfOk, List, map, ℕ, ◌<◌, ltb, get_or, take}
+use Rattle.refusals.specs.declared.Refusal.{Refusal}
+use Rattle.refusals.specs.Refusal.{refusal_in}
 use Rattle.tiles.specs.Below.{tabulate}
 use Rattle.hand.specs.declared.Hand.{Hand}
 use Rattle.hand_record.specs.search.Bounds.{Bounds}
@@ -16,8 +18,8 @@ abbrev pub AllBounds : ℕ → List Hand → Type 0
 AllBounds n hs = (i : ℕ) → i < n → Bounds (get_or hs i blank)
 
 -- what records rs come to, x being the first winner
-abbrev pub SettlesAll : Position → ℕ → List (List ℕ) → Settled → Type 0
-SettlesAll g x rs r = (r.refusal ≡ first_refused g rs) × (r.refusal ≡ 0 → r.gives ≡ tabulate 4 0 (multi_ron_gives g x rs))
+abbrev pub SettlesAll : Position → ℕ → List (List ℕ) → Result Settled Refusal → Type 0
+SettlesAll g x rs r = (refusal_in r ≡ first_refused g rs) × IfOk r (λ t. t.gives ≡ tabulate 4 0 (multi_ron_gives g x rs))
 
 -- of rons on one tile that read, in an open position
 abbrev pub RonsBooked : Position → ℕ → List ℕ → ℕ → Position → Type 0

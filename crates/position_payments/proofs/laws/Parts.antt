@@ -1,14 +1,17 @@
 -- The two parts of a win's payments: what each gives a seat, so that no sum is made; who pays the counters alone; and that they are what the table says.
-use Rattle.std.specs.Prelude.{◌≡◌, Bool, ◌||◌, pos, neg_ℤ, ◌+ℤ◌}
+use Rattle.std.specs.Prelude.{◌≡◌, Bool, ◌||◌, Option, None, Some, is_some, unwrap_or, pos, neg_ℤ, ◌+ℤ◌}
+use Rattle.std.specs.Option.{ForSome}
 use Rattle.std.proofs.Math.Path.{refl}
-use Rattle.std.proofs.Common.{ap, ◌∙◌, ltb-true, lt-ltb}
+use Rattle.std.proofs.Common.{ap, sym, ◌∙◌}
+use Rattle.std.proofs.lemmas.Bool.{false≢true}
 use Rattle.std.proofs.Math.Bool.{true, false, cond}
-use Prim.Native.Nat.{ℕ, zero, suc, ◌+◌, ◌-◌, ◌*◌, ◌/◌, ◌≤◌, ◌<◌}
+use Prim.Native.Nat.{ℕ, ◌+◌, ◌*◌, ◌/◌, ◌≤◌, ◌<◌}
 use native.Mathlib.Omega.{arith}
 use Rattle.std.proofs.Math.Dec.{eqb}
 use Rattle.tiles.specs.Below.{sum}
 use Rattle.score.proofs.laws.Z.{add_law, neg_law, eq_parts}
-use Rattle.position.specs.Ledger.{is_set, paid_by_others, owes, liable_by}
+use Rattle.position.specs.Ledger.{paid_by_others, owes}
+use Rattle.position.specs.search.Feeder.{liable_as}
 use Rattle.position.proofs.laws.PaidByOthers.{both_pay, one_pays, three_pay}
 use Rattle.position_payments.specs.search.Parts.{pao_pays, repeat_pays}
 
@@ -34,14 +37,29 @@ module _ (w d : ℕ) (alone : Bool) (n : ℕ) (h : w ≤ 3) (l : d ≤ 3) (k : a
   unfolding repeat_pays
   added_at = given_at w (repeat_pays d alone n) (300 * n) all_counters
 
--- who pays the counters alone is a seat, and another than the winner
-pub payer_small : (ron : Bool) (d k : ℕ) → d ≤ 3 → k ≤ 4 → cond ron d (k - 1) ≤ 3
-payer_small true d k h l = h
-payer_small false d k h l = omega arith
+-- a seat that pays the counters alone is a seat, and another than the winner
+pub payer_small : (w : ℕ) (payer : Option ℕ) → ForSome payer (λ x. (x ≤ 3) × (w ≡ x → ⊥)) → unwrap_or payer 0 ≤ 3
+payer_small w None o = omega arith
+payer_small w (Some x) o = (o x refl).0
 
-pub payer_other : (ron : Bool) (w d k : ℕ) → (ron ≡ true → w ≡ d → ⊥) → (k ≡ 1 + w → ⊥) → ron || is_set k ≡ true → w ≡ cond ron d (k - 1) → ⊥
-payer_other true w d k h other a e = h refl e
-payer_other false w d k h other a e = other (omega (arith, ltb-true 0 k a))
+pub payer_other : (w : ℕ) (payer : Option ℕ) → ForSome payer (λ x. (x ≤ 3) × (w ≡ x → ⊥)) → is_some payer ≡ true → w ≡ unwrap_or payer 0 → ⊥
+payer_other w None o a e = absurd (false≢true a)
+payer_other w (Some x) o a e = (o x refl).1 e
+
+-- the discarder on ron, else the feeder
+module _ (w d : ℕ) (f : Option ℕ) where
+  abbrev payer : Bool → Option ℕ
+  payer ron = cond ron (Some d) f
+
+  pub payer_is : (ron : Bool) (n : ℕ) → repeat_pays (unwrap_or (payer ron) 0) (is_some (payer ron)) n ≡ repeat_pays (cond ron d (unwrap_or f 0)) (ron || is_some f) n
+  payer_is true n = refl
+  payer_is false n = refl
+
+  pub payer_seat : (ron : Bool) → d ≤ 3 → (ron ≡ true → w ≡ d → ⊥) → ForSome f (λ x. (x ≤ 3) × (w ≡ x → ⊥)) → ForSome (payer ron) (λ x. (x ≤ 3) × (w ≡ x → ⊥))
+  payer_seat true l own o x e =
+      let same : d ≡ x = cc in
+      (omega arith, λ z. own refl (z ∙ sym same))
+  payer_seat false l own o x e = o x e
 
 -- ---- the gain with pao
 
@@ -97,28 +115,25 @@ apart : (b : Bool) (x y : ℕ) → cond b (x + y) 0 ≡ cond b x 0 + cond b y 0
 apart true x y = refl
 apart false x y = refl
 
-less_one : (x : ℕ) → suc x - 1 ≡ x
-less_one x = omega arith
-
--- liable is 0, or 1 + the feeder
 module _ (taken : ℕ → ℕ) (d whole n : ℕ) where
   -- what seat i pays of the gain: with pao by article 67, else what the reading takes
-  abbrev pub gain_pays : ℕ → Bool → ℕ → ℕ
-  gain_pays liable ron i = cond (is_set liable) (pao_pays d (liable - 1) ron whole i) (taken i)
+  abbrev pub gain_pays : Option ℕ → Bool → ℕ → ℕ
+  gain_pays feeder ron i = cond (is_some feeder) (pao_pays d (unwrap_or feeder 0) ron whole i) (taken i)
 
-  owed_parts : (liable : ℕ) (ron : Bool) (i : ℕ)
-      → owes taken d whole n (liable_by liable) ron i ≡ gain_pays liable ron i + repeat_pays (cond ron d (liable - 1)) (ron || is_set liable) n i
+  owed_parts : (feeder : Option ℕ) (ron : Bool) (i : ℕ)
+      → owes taken d whole n (liable_as feeder) ron i
+      ≡ gain_pays feeder ron i + repeat_pays (cond ron d (unwrap_or feeder 0)) (ron || is_some feeder) n i
   unfolding owes pao_pays repeat_pays
-  owed_parts zero true i = refl
-  owed_parts zero false i = refl
-  owed_parts (suc x) true i = rw (lt-ltb 0 (suc x) (omega arith), less_one x, apart (eqb i d) (whole / 2) (300 * n)) (omega arith)
-  owed_parts (suc x) false i = rw (lt-ltb 0 (suc x) (omega arith), less_one x) (apart (eqb i x) whole (300 * n))
+  owed_parts None true i = refl
+  owed_parts None false i = refl
+  owed_parts (Some x) true i = rw (apart (eqb i d) (whole / 2) (300 * n)) (omega arith)
+  owed_parts (Some x) false i = apart (eqb i x) whole (300 * n)
 
   -- what each seat gets or pays, in two parts
-  pub in_parts : (w liable : ℕ) (ron : Bool) (i : ℕ)
-      → paid_by_others w (owes taken d whole n (liable_by liable) ron) i
-      ≡ paid_by_others w (gain_pays liable ron) i +ℤ paid_by_others w (repeat_pays (cond ron d (liable - 1)) (ron || is_set liable) n) i
-  in_parts w liable ron i =
-      paid_same w (owes taken d whole n (liable_by liable) ron)
-      (λ j. gain_pays liable ron j + repeat_pays (cond ron d (liable - 1)) (ron || is_set liable) n j) (owed_parts liable ron) i
-      ∙ paid_apart w (gain_pays liable ron) (repeat_pays (cond ron d (liable - 1)) (ron || is_set liable) n) i
+  pub in_parts : (w : ℕ) (feeder : Option ℕ) (ron : Bool) (i : ℕ)
+      → paid_by_others w (owes taken d whole n (liable_as feeder) ron) i
+      ≡ paid_by_others w (gain_pays feeder ron) i +ℤ paid_by_others w (repeat_pays (cond ron d (unwrap_or feeder 0)) (ron || is_some feeder) n) i
+  in_parts w feeder ron i =
+      paid_same w (owes taken d whole n (liable_as feeder) ron)
+      (λ j. gain_pays feeder ron j + repeat_pays (cond ron d (unwrap_or feeder 0)) (ron || is_some feeder) n j) (owed_parts feeder ron) i
+      ∙ paid_apart w (gain_pays feeder ron) (repeat_pays (cond ron d (unwrap_or feeder 0)) (ron || is_some feeder) n) i

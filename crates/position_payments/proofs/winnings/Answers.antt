@@ -1,7 +1,7 @@
-use Rattle.std.proofs.Common.{◌≡◌, ℕ, ◌*◌, cond, eqb, ℤ, pos, ◌+ℤ◌, get_or, ◌∙◌, arith}
+use Rattle.std.proofs.Common.{◌≡◌, ℕ, ◌*◌, cond, eqb, ℤ, pos, ◌+ℤ◌, get_or, ◌∙◌, arith, rules}
 use Rattle.score.proofs.laws.Z.{Within}
 use Rattle.position.proofs.laws.Bounds.{most_change, most_gift}
-use Rattle.position.proofs.laws.Sums.{B32, held, four_within}
+use Rattle.position.proofs.laws.Sums.{B32, held, four_seats}
 use Rattle.position_payments.proofs.winnings.Goals as goal
 
 same : (z : ℤ) → Within z most_change → B32 z ≡ z
@@ -14,10 +14,16 @@ given z a s y v w e = e ∙ rw (same z v, same a w)
 pub returns : goal.returns
 returns c =
     let p = c.requires in
-    let seat = λ (i : ℕ). given (get_or c.args.c i (pos 0)) (get_or c.args.a i (pos 0)) (cond (eqb i c.args.winner) (pos (1000 * c.args.sticks)) (pos 0)) in
-    four_within most_gift (omega arith) c.winning.result c.winning-2.result c.winning-3.result c.winning-4.result
-    (λ i. get_or c.args.c i (pos 0) +ℤ get_or c.args.a i (pos 0) +ℤ cond (eqb i c.args.winner) (pos (1000 * c.args.sticks)) (pos 0))
-    (seat 0 c.winning.result (p.0 0) (p.1 0) c.winning.ensures.0, c.winning.ensures.1)
-    (seat 1 c.winning-2.result (p.0 1) (p.1 1) c.winning-2.ensures.0, c.winning-2.ensures.1)
-    (seat 2 c.winning-3.result (p.0 2) (p.1 2) c.winning-3.ensures.0, c.winning-3.ensures.1)
-    (seat 3 c.winning-4.result (p.0 3) (p.1 3) c.winning-4.ensures.0, c.winning-4.ensures.1)
+    let z = λ (i : ℕ). get_or c.args.c i (pos 0) in
+    let a = λ (i : ℕ). get_or c.args.a i (pos 0) in
+    let s = λ (i : ℕ). cond (eqb i c.args.winner) (pos (1000 * c.args.sticks)) (pos 0) in
+    let e = c.each_seat.ensures in
+    let P : ℕ → ℤ → Type 0 = λ i y. (y ≡ B32 (z i) +ℤ B32 (a i) +ℤ s i) × Within y most_gift in
+    let p0 : P 0 e.0 = search rules in
+    let p1 : P 1 e.1 = search rules in
+    let p2 : P 2 e.2 = search rules in
+    let p3 : P 3 e.3 = search rules in
+    let seat = λ (i : ℕ). given (z i) (a i) (s i) in
+    four_seats most_gift c.each_seat.result e.0 e.1 e.2 e.3 (λ i. z i +ℤ a i +ℤ s i) e.8
+    (seat 0 e.0 (p.0 0) (p.1 0) p0.0, p0.1) (seat 1 e.1 (p.0 1) (p.1 1) p1.0, p1.1)
+    (seat 2 e.2 (p.0 2) (p.1 2) p2.0, p2.1) (seat 3 e.3 (p.0 3) (p.1 3) p3.0, p3.1)

@@ -11,7 +11,7 @@ use Rattle.std.proofs.Math.Nat.{sub_self}
 use native.Mathlib.Omega.{arith}
 use Rattle.std.proofs.lemmas.Bool.{lt-leb}
 use Rattle.std.proofs.Math.Dec.{leb}
-use Rattle.std.proofs.Math.ListN.{length, replicate, get_or-append}
+use Rattle.std.proofs.Math.ListN.{length, replicate}
 use Rattle.std.proofs.lemmas.List.Edits.{sets, sets-eq}
 use Rattle.tiles.specs.Below.{tabulate}
 use Rattle.reading.specs.declared.Reading.{Reading}
@@ -23,7 +23,7 @@ use Rattle.reading.proofs.laws.Groups.{less_long}
 use Rattle.reading.proofs.laws.Splits.{splits_sound}
 use Rattle.reading.specs.search.Pairs.{Among, OnlyPairs}
 use Rattle.reading.proofs.laws.Pairs.{no_splits}
-use Rattle.reading.proofs.laws.Found.{Stored, behind, behind_three}
+use Rattle.reading.proofs.laws.Found.{behind}
 unfoldable pub use Rattle.reading.specs.search.Folded.{ranged}
 
 drop_replicate : (a j m n : ℕ) → j + m ≡ n → drop j (replicate n a) ≡ replicate m a
@@ -35,10 +35,6 @@ drop_replicate a (suc j) m (suc n) e = drop_replicate a j m n (omega arith)
 sets_nones : (gs : List ℕ) (m : ℕ) → m ≤ 4 → length gs ≡ 4 - m → sets (68 ∷ 68 ∷ 68 ∷ 68 ∷ []) 0 gs ≡ gs ++ replicate m 68
 sets_nones gs m h e =
     sets-eq gs (68 ∷ 68 ∷ 68 ∷ 68 ∷ []) 0 (omega (arith, e)) ∙ ap (λ (l : List ℕ). gs ++ l) (drop_replicate 68 (0 + length gs) m 4 (omega (arith, e)))
-
--- the items that are stored, one after the other
-get_d_stored : (ls old : List (List ℕ)) (i : ℕ) → i < length ls → length ls ≤ length old → get_or (sets old 0 ls) (0 + i) [] ≡ get_or ls i []
-get_d_stored ls old i h l = let e : 0 + i ≡ i = omega arith in rw (e, sets-eq ls old 0 (omega arith)) (get_or-append ls (drop (0 + length ls) old) [] i h)
 
 listed : (f : List ℕ → List Reading) (ls out : List (List ℕ)) (i : ℕ) → ((j : ℕ) → j < length ls → get_or out (i + j) [] ≡ get_or ls j []) →
     concat_map (λ j. f (get_or out j [])) (tabulate (length ls) i (λ j. j)) ≡ concat_map f ls
@@ -110,25 +106,23 @@ module _ {B : Type 0} (keeper : B → Reading → B) where
 
   -- ---- the pairs
   module _ (t : List ℕ) (m win k : ℕ) where
-    -- each of the splittings that are stored
-    pub paired_with : (u : List ℕ) (old out : List (List ℕ)) (n : ℕ) (b x : B) → length t ≡ 34 → m ≤ 4 → 2 ≤ get_or t k 0 → u ≡ less t k 2 → length old ≡ 3 →
-        Stored old 0 (behind (4 - m) (68 ∷ 68 ∷ 68 ∷ 68 ∷ []) (4 - m) 0 u) out n →
-        x ≡ ranged keeper (λ i. placed (4 - m) win k (get_or out i [])) n 0 b → x ≡ folded keeper b (paired t m win k)
+    -- each of the splittings that are found
+    pub paired_with : (u : List ℕ) (out : List (List ℕ)) (b x : B) → length t ≡ 34 → m ≤ 4 → 2 ≤ get_or t k 0 → u ≡ less t k 2 →
+        out ≡ behind (4 - m) (68 ∷ 68 ∷ 68 ∷ 68 ∷ []) (4 - m) 0 u →
+        x ≡ ranged keeper (λ i. placed (4 - m) win k (get_or out i [])) (length out) 0 b → x ≡ folded keeper b (paired t m win k)
     unfolding paired ranged behind
-    paired_with u old out n b x l h two e long s q =
+    paired_with u out b x l h two e s q =
         let v = less t k 2 in
         let nones : List ℕ = 68 ∷ 68 ∷ 68 ∷ 68 ∷ [] in
         let f : List ℕ → List Reading = placed (4 - m) win k in
         let xs = splits (4 - m) 68 0 v in
         let ls = map (sets nones (4 - m - (4 - m))) xs in
-        let few : length ls ≤ 3 = behind_three (4 - m) nones (4 - m) 0 v (omega arith) (less_long t k 2 l) in
-        let w : Stored old 0 ls out n = rw e at s in
-        let c : n - 0 ≡ length ls = omega (arith, w.place) in
+        let w : out ≡ ls = rw e at s in
+        let c : length out - 0 ≡ length ls = omega (arith, ap length w) in
         rw (le-leb 2 (get_or t k 0) two, q)
         (ap (folded keeper b)
         (ap (λ (i : ℕ). concat_map (λ j. f (get_or out j [])) (tabulate i 0 (λ j. j))) c
-        ∙ ap (λ (o : List (List ℕ)). concat_map (λ j. f (get_or o j [])) (tabulate (length ls) 0 (λ j. j))) w.items
-        ∙ listed f ls (sets old 0 ls) 0 (λ i z. get_d_stored ls old i z (omega arith))
+        ∙ listed f ls out 0 (λ j z. let o : 0 + j ≡ j = omega arith in rw (o, w))
         ∙ concat_map_lem f (sets nones (4 - m - (4 - m))) xs
         ∙ concat_cong (λ gs. f (sets nones (4 - m - (4 - m)) gs)) (λ (gs : List ℕ). f (gs ++ replicate m 68))
         (each_imp (λ gs z. rw (sub_self (4 - m)) (ap f (sets_nones gs m h z.size))) (splits_sound (4 - m) 68 0 v (less_long t k 2 l)))))

@@ -1,63 +1,26 @@
--- The equations of a search that stores the splittings that it finds: what is left to store gives the whole.
+-- The equations of a search that lists the splittings that it finds: what is left to list gives the whole.
 use Rattle.std.specs.Prelude.{◌≡◌, refl, Bool, true, false, length, set}
-use Rattle.std.proofs.Common.{sym, ◌∙◌, add-zero, add-suc, suc-add, length-append}
+use Rattle.std.proofs.Common.{sym, ◌∙◌, append_assoc, length-append, ltb, ltb-true, ltb-false}
 use Rattle.std.proofs.Math.Path.{ap}
 use mathlib.Core.List.{List, [], ◌∷◌, ◌++◌, map, map-append, map-map}
 use Prim.Native.Nat.{ℕ, zero, suc, ◌+◌, ◌-◌, ◌≤◌, ◌<◌}
 use native.Mathlib.Omega.{arith}
 use Rattle.std.proofs.lemmas.List.{length-map}
 use Rattle.std.proofs.lemmas.List.Edits.{sets}
-use Rattle.reading.specs.search.Readings.{when, is_empty, fits, without, passes, step, splits}
+use Rattle.reading.specs.search.Readings.{when, is_empty, fits, without, passes, step, splits, PassedOver}
 use Rattle.reading.proofs.laws.Three.{splits_three}
-pub use Rattle.reading.specs.search.Stored.{Stored}
 unfoldable pub use Rattle.reading.specs.search.Stored.{behind}
 
--- ---- what is left to store
+-- ---- what is left to list: r, of the whole w
 
--- what is left to store gives the whole
-pub record Left {A : Type 0} (old : List A) (n : ℕ) (whole now : List A) (next : ℕ) (rest : List A) : Type 0 where
-  pub place : next + length rest ≡ n + length whole
-  pub items : sets now next rest ≡ sets old n whole
-
-module _ {A : Type 0} where
-  sets_append : (b : List A) (i : ℕ) (xs ys : List A) → sets b i (xs ++ ys) ≡ sets (sets b i xs) (i + length xs) ys
-  sets_append b i [] ys = rw add-zero
-  sets_append b i (x ∷ xs) ys = rw (add-suc, ← suc-add) (sets_append (set b i x) (suc i) xs ys)
-
-  pub stored_none : (l : List A) (n : ℕ) → Stored l n [] l n
-  stored_none l n = record { place = omega arith; items = refl }
-
-  pub stored_same : {l m x y : List A} {n e : ℕ} → x ≡ y → Stored l n x m e → Stored l n y m e
-  stored_same h s = rw (← h) s
-
-  pub stored_at : {l m k x : List A} {n e f : ℕ} → k ≡ m → f ≡ e → Stored l n x m e → Stored l n x k f
-  stored_at p q s = record { place = q ∙ s.place; items = p ∙ s.items }
-
-  pub left_all : (l : List A) (n : ℕ) (whole : List A) → Left l n whole l n whole
-  left_all l n whole = record { place = refl; items = refl }
-
-  pub left_same : {l m w r q : List A} {n e : ℕ} → r ≡ q → Left l n w m e r → Left l n w m e q
-  left_same h s = rw (← h) s
-
-  pub left_put : {l m k w r x q : List A} {n e f : ℕ} → r ≡ x ++ q → Left l n w m e r → Stored m e x k f → Left l n w k f q
-  left_put {l} {m} {k} {w} {r} {x} {q} {n} {e} {f} h s p =
-      let z : length r ≡ length x + length q = ap length h ∙ length-append x q in
-      record {
-        place = omega (arith, p.place, s.place);
-        items = rw (p.items, p.place) (sym (sets_append m e x q) ∙ ap (sets m e) (sym h) ∙ s.items);
-      }
-
-  pub left_done : {l m w r : List A} {n e : ℕ} → r ≡ [] → Left l n w m e r → Stored l n w m e
-  left_done {l} {m} {w} {r} {n} {e} h s =
-      let z : length r ≡ 0 = ap length h in
-      record { place = omega (arith, s.place); items = ap (sets m e) (sym h) ∙ s.items }
+module _ {A : Type 0} (now w r x q : List A) (h : r ≡ x ++ q) (s : now ++ r ≡ w) where
+  -- the next part of it is listed
+  pub listed_more : (k : List A) → k ≡ now ++ x → k ++ q ≡ w
+  listed_more k p = rw p (append_assoc now x q ∙ ap (λ (z : List A). now ++ z) (sym h) ∙ s)
 
   -- where there is room for the whole there is room for the next part of what is left
-  pub left_room : {l m w r x y : List A} {n e b : ℕ} (q : List A) → y ≡ x → r ≡ x ++ q → Left l n w m e r → n + length w ≤ b → e + length y ≤ b
-  left_room {l} {m} {w} {r} {x} {y} {n} {e} {b} q i h s g =
-      let z : length r ≡ length x + length q = ap length h ∙ length-append x q in
-      let v : length y ≡ length x = ap length i in
-      omega (arith, s.place)
+  pub listed_room : (y : List A) (n : ℕ) → y ≡ x → length w ≤ n → length now + length y ≤ n
+  listed_room y n i g = omega (arith, ap length s, length-append now r, ap length h, length-append x q, ap length i)
 
 -- ---- splittings, each behind groups that are stored
 
@@ -130,15 +93,22 @@ module _ (size : ℕ) where
   behind_stop prefix n c t h l k e = behind_step prefix n c t h l k ∙ rw e
 
   -- the codes from c to r neither fit nor stop: the search goes on at r
-  pub behind_skip : (prefix : List ℕ) (n : ℕ) (t : List ℕ) → (n ≡ 0 → ⊥) → n ≤ size → (c r : ℕ) →
-      (c ≤ r) × ((j : ℕ) → c ≤ j → j < r → (j < 68) × (fits t j ≡ false) × (passes t j ≡ true)) → behind size prefix n c t ≡ behind size prefix n r t
-  behind_skip prefix n t h l c r a = go (r - c) c (omega (arith, a.0)) a.1
+  pub behind_skip : (prefix : List ℕ) (n : ℕ) (t : List ℕ) → (n ≡ 0 → ⊥) → n ≤ size → (c r : ℕ) → c ≤ r → r ≤ 68 → PassedOver t c r →
+      behind size prefix n c t ≡ behind size prefix n r t
+  behind_skip prefix n t h l c r b k a = go (r - c) c (omega arith) a
     where
-      go : (d c : ℕ) → c + d ≡ r → ((j : ℕ) → c ≤ j → j < r → (j < 68) × (fits t j ≡ false) × (passes t j ≡ true))
-          → behind size prefix n c t ≡ behind size prefix n r t
+      go : (d c : ℕ) → c + d ≡ r → PassedOver t c r → behind size prefix n c t ≡ behind size prefix n r t
       go zero c e a = let q : c ≡ r = omega arith in ap (λ (k : ℕ). behind size prefix n k t) q
       go (suc d) c e a =
-          let (k, f, p) = a c (omega arith) (omega arith) in
-          behind_next prefix n c t h l k p
+          let (f, p) = a c (omega arith) (omega arith) in
+          behind_next prefix n c t h l (omega arith) p
           ∙ ap (λ (x : List (List ℕ)). x ++ behind size prefix n (c + 1) t) (taken_none prefix n c t f)
           ∙ go d (c + 1) (omega arith) (λ j u v. a j (omega arith) v)
+
+  -- no code from c on fits or stops
+  pub behind_none : (prefix : List ℕ) (n : ℕ) (t : List ℕ) → (n ≡ 0 → ⊥) → n ≤ size → (c : ℕ) → PassedOver t c 68 → behind size prefix n c t ≡ []
+  behind_none prefix n t h l c a = go (ltb 68 c) refl
+    where
+      go : (e : Bool) → ltb 68 c ≡ e → behind size prefix n c t ≡ []
+      go true e = behind_end prefix n c t h (omega (arith, ltb-true 68 c e))
+      go false e = behind_skip prefix n t h l c 68 (omega (arith, ltb-false 68 c e)) (omega arith) a ∙ behind_end prefix n 68 t h (omega arith)

@@ -21,7 +21,7 @@ pub use Rattle.reading.specs.search.Pairs.{weighed}
 
 -- ---- weights
 
-weighed_cong : (f g : ℕ → ℕ) → ((i : ℕ) → i < 9 → f i ≡ g i) → weighed f ≡ weighed g
+pub weighed_cong : (f g : ℕ → ℕ) → ((i : ℕ) → i < 9 → f i ≡ g i) → weighed f ≡ weighed g
 weighed_cong f g h = sum_cong (λ i. sum (suc i) f) (λ i. sum (suc i) g) 9 (λ i l. sum_cong f g (suc i) (λ j m. h j (omega arith)))
 
 weighed_add : (f g : ℕ → ℕ) → weighed (λ i. f i + g i) ≡ weighed f + weighed g

@@ -1,6 +1,6 @@
 -- How the code finds the readings of a hand: a search, code by code, and the list `readings` that it meets. Nobody has to believe it:
 -- that the list has all readings, each once, in the document's order and nothing else is stated in proofs/SearchClaims.
-use Rattle.std.specs.Prelude.{Bool, true, false, ◌&&◌, cond, List, [], ◌∷◌, ◌++◌, map, ℕ, zero, suc, ◌+◌, ◌-◌, ◌%◌, leb, eqb, get_or, set, replicate}
+use Rattle.std.specs.Prelude.{◌≡◌, Bool, true, false, ◌&&◌, cond, List, [], ◌∷◌, ◌++◌, map, ℕ, zero, suc, ◌+◌, ◌-◌, ◌%◌, ◌<◌, ◌≤◌, leb, eqb, get_or, set, replicate}
 use Rattle.tiles.specs.Below.{all_below, tabulate}
 use Rattle.tiles.specs.Groups.{is_run, is_group}
 use Rattle.reading.specs.declared.Reading.{Reading}
@@ -35,6 +35,14 @@ without t c = cond (is_run c) (less (less (less t c 1) (c + 1) 1) (c + 2) 1) (le
 -- groups past c can still take what t has: past its run a kind goes by threes, and past its triplet none is left
 unfoldable pub passes : List ℕ → ℕ → Bool
 passes t c = cond (is_run c) (eqb (get_or t c 0 % 3) 0) (eqb (get_or t (c - 34) 0) 0)
+
+-- none of the kinds from k to n has a tile
+abbrev pub NoneFrom : List ℕ → ℕ → ℕ → Type 0
+NoneFrom t k n = (j : ℕ) → k ≤ j → j < n → get_or t j 0 ≡ 0
+
+-- the codes from `code` to n do not fit, and groups past them can still take what t has
+abbrev pub PassedOver : List ℕ → ℕ → ℕ → Type 0
+PassedOver t code n = (c : ℕ) → code ≤ c → c < n → (fits t c ≡ false) × (passes t c ≡ true)
 
 -- one group more, of the n codes from c on, before the splittings of the rest
 unfoldable pub step : (ℕ → ℕ → List ℕ → List (List ℕ)) → ℕ → ℕ → List ℕ → List (List ℕ)

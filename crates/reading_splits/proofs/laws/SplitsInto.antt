@@ -10,7 +10,7 @@ use Rattle.tiles.specs.Groups.{is_group, at_kind, uses}
 use Rattle.tiles.proofs.laws.Below.{and_true}
 use Rattle.reading.specs.Reading.{used_by}
 use Rattle.reading.specs.All.{Each, none, also as each}
-use Rattle.reading.specs.search.Readings.{is_empty, less, fits, without}
+use Rattle.reading.specs.search.Readings.{is_empty, less, fits, without, NoneFrom}
 use Rattle.reading.proofs.laws.Groups.{run_or, fits_group, fits_of, without_at, without_long, less_at, less_long, at_same, at_other, get_d_pos, empty_at}
 use Rattle.reading.proofs.laws.Groups.{empty_of}
 use Rattle.reading_splits.specs.Splits.{Splits}
@@ -71,6 +71,19 @@ lowest_found t k h e = let s : 34 - k ≡ suc (34 - (k + 1)) = omega arith in rw
 
 pub lowest_turn : (t : List ℕ) (k : ℕ) → k < 34 → get_or t k 0 ≡ 0 → lowest (34 - (k + 1)) (k + 1) t ≡ lowest (34 - k) k t
 lowest_turn t k h e = let s : 34 - k ≡ suc (34 - (k + 1)) = omega arith in rw (s, lowest_next t (34 - (k + 1)) k e)
+
+-- past kinds that t has no tile of
+pub lowest_past : (t : List ℕ) (from k : ℕ) → from ≤ k → k ≤ 34 → NoneFrom t from k → lowest (34 - k) k t ≡ lowest (34 - from) from t
+lowest_past t from k l h absent = go (k - from) from (omega arith) absent
+  where
+    go : (d i : ℕ) → i + d ≡ k → NoneFrom t i k → lowest (34 - k) k t ≡ lowest (34 - i) i t
+    go zero i e z = let q : k ≡ i = omega arith in ap (λ (j : ℕ). lowest (34 - j) j t) q
+    go (suc d) i e z = go d (i + 1) (omega arith) (λ j u v. z j (omega arith) v) ∙ lowest_turn t i (omega arith) (z i (omega arith) (omega arith))
+
+-- the first kind with a tile is the lowest, where that is not below `from`
+pub lowest_is : (t : List ℕ) (from k : ℕ) → from ≤ k → k < 34 → (get_or t k 0 ≡ 0 → ⊥) → NoneFrom t from k → lowest (34 - from) from t ≡ lowest 34 0 t
+    → k ≡ lowest 34 0 t
+lowest_is t from k l h e absent q = lowest_found t k h e ∙ lowest_past t from k l (omega arith) absent ∙ q
 
 pub lowest_none : (t : List ℕ) (k : ℕ) → 34 ≤ k → k ≡ lowest (34 - k) k t
 unfolding lowest

@@ -1,19 +1,20 @@
--- The loop has found no tile below k.
-use Rattle.std.proofs.Common.{sym, arith, eq-eqb, ne_eqb}
-use Rattle.tiles.proofs.laws.Below.{every_none, every_more, every_stop, every_done}
+-- Each kind has no tile, or one has.
+use Rattle.std.proofs.Common.{◌≡◌, Bool, true, false, List, ℕ, ◌<◌, length, sym, arith, rules, tests, eq-eqb, ne_eqb}
+use Rattle.std.specs.Bool.{MatchBool}
+use Rattle.std.specs.List.{AllWithin, HoldsAt}
+use Rattle.std.proofs.lemmas.Iterator.{cases_from_all, YieldsList-from_slice}
+use Rattle.tiles.proofs.laws.Below.{every_of, every_stop}
 use Rattle.reading.specs.search.Readings.{is_empty}
 use Rattle.reading_steps.proofs.is_empty.Goals as goal
 
-pub loop-k-init : goal.loop-k-init
-loop-k-init c = every_none _
-
-pub returns-then-t-k-ne0 : goal.returns-then-t-k-ne0
+told : (t : List ℕ) (r : Bool) → length t ≡ 34 →
+    MatchBool r (AllWithin (λ x. x ≡ 0) t 0 (length t)) ((k : ℕ) × (k < length t) × HoldsAt (λ x. x ≡ 0 → ⊥) t k) → r ≡ is_empty t
 unfolding is_empty
-returns-then-t-k-ne0 c = sym (every_stop _ 34 _ c.loop-k-test.true (ne_eqb _ _ c.if-t-k-ne0.true))
-
-pub loop-k-preserved : goal.loop-k-preserved
-loop-k-preserved c = every_more _ _ c.loop-k.invariant (eq-eqb _ _ c.if-t-k-ne0.false)
+told t true l h = sym (every_of _ 34 (λ k m. eq-eqb _ 0 (h k 0 (omega arith) (omega arith))))
+told t false l h = sym (every_stop _ 34 h.0 (omega (arith, h.1)) (ne_eqb _ 0 (h.2 0)))
 
 pub returns : goal.returns
-unfolding is_empty
-returns c = sym (every_done _ 34 c.loop-k.k (omega arith) (omega arith) c.loop-k.invariant)
+returns c =
+    told c.args.t _ (search rules)
+    (cases_from_all c.all.new.self _ _ (λ x. x ≡ 0) (λ x. x ≡ 0 → ⊥) c.all.ensures.ran (YieldsList-from_slice c.args.t cc) (λ x q k. search (rules, tests))
+    (λ x q k. search (rules, tests)))

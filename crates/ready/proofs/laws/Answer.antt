@@ -2,7 +2,7 @@
 use Rattle.std.specs.Prelude.{◌≡◌, refl, List, ℕ, ◌≤◌, replicate}
 use Rattle.std.proofs.Common.{sym, subst, ◌∙◌, arith}
 use Rattle.hand.specs.declared.Held.{Held}
-use Rattle.unfinished.specs.declared.Unfinished.{Unfinished}
+use Rattle.unfinished.specs.Unfinished.{Unfinished}
 use Rattle.unfinished.specs.Unfinished.{held_of, refusal_of, read_of}
 use Rattle.unfinished.proofs.laws.Sound.{sound_held, refusal_is, held_is}
 use Rattle.ready.specs.declared.Ready.{Ready}

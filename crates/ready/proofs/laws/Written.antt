@@ -7,7 +7,6 @@ use Rattle.tiles.specs.Groups.{at_kind}
 use Rattle.tiles.proofs.laws.Below.{number_more}
 use Rattle.reading.proofs.laws.Groups.{at_same, at_other}
 use Rattle.ready_choices.proofs.laws.Sums.{total_suc, total_zero, total_mono}
-use Rattle.ready_nearest.proofs.laws.Table.{zeros}
 use Rattle.ready.specs.search.Written.{in_first, Written}
 
 -- ---- how many places have a kind
@@ -34,6 +33,11 @@ in_first_more r i k q h =
     )
 
 -- ---- written so far
+
+zeros : (n j : ℕ) → ◌≡◌ {A = ℕ} (get_or (replicate n 0) j 0) 0
+zeros zero j = refl
+zeros (suc n) zero = refl
+zeros (suc n) (suc j) = zeros n j
 
 pub written_none : (u : List ℕ) → Written u 0 0 0 (replicate 13 0)
 unfolding count_below

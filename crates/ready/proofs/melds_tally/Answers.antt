@@ -3,8 +3,12 @@ use Rattle.std.proofs.Common.{arith}
 use Rattle.ready.proofs.laws.Tallies.{melds_left, melds_done}
 use Rattle.ready.proofs.melds_tally.Goals as goal
 
-pub overflow_sub-d : goal.overflow_sub-d
-overflow_sub-d c = omega (arith, melds_left c.args.x _ _ c.others_tally-t.ensures c.held_tally-w.ensures c.loop-k.k c.loop-k-test.true)
+pub overflow_sub-n : goal.overflow_sub-n
+overflow_sub-n c =
+    let l = c.loop-k in
+    omega (arith, melds_left c.args.x _ _ c.others_tally-others.ensures c.held_tally-melds.ensures l.k (omega arith), l.invariant.2 l.k (omega arith))
 
 pub returns : goal.returns
-returns c = melds_done _ _ _ c.others_tally-t.ensures c.held_tally-w.ensures c.loop-k.d c.loop-k.k c.loop-k.invariant.0 c.loop-k-test.false c.loop-k.invariant.1
+returns c =
+    let l = c.loop-k in
+    melds_done _ _ _ c.others_tally-others.ensures c.held_tally-melds.ensures l.n-items l.k l.invariant.0 (omega arith) l.invariant.1

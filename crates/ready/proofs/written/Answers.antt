@@ -4,23 +4,23 @@ use Rattle.ready.proofs.laws.Written.{written_none, written_more, written_next, 
 use Rattle.ready.proofs.written.Goals as goal
 
 pub loop-k-init : goal.loop-k-init
-loop-k-init c = (omega arith, omega arith, omega arith, written_none _)
+loop-k-init c = written_none _
 
-pub bounds-r-i : goal.bounds-r-i
-bounds-r-i c = written_room _ _ _ _ _ c.loop-k.invariant.3 c.loop-k-test.true c.if-j-u.true c.requires
+pub bounds-tiles-i : goal.bounds-tiles-i
+bounds-tiles-i c = written_room _ _ _ _ _ c.loop-j.invariant.2 (omega arith) (omega arith) c.requires
 
-pub loop-k-smaller-then-j-u : goal.loop-k-smaller-then-j-u
-loop-k-smaller-then-j-u c =
-    let room : c.loop-k.i < 13 = written_room _ _ _ _ _ c.loop-k.invariant.3 c.loop-k-test.true c.if-j-u.true c.requires in
+pub overflow_add-i : goal.overflow_add-i
+overflow_add-i c =
+    let room : c.loop-j.i < 13 = written_room _ _ _ _ _ c.loop-j.invariant.2 (omega arith) (omega arith) c.requires in
     omega arith
 
-pub loop-k-preserved-then-j-u : goal.loop-k-preserved-then-j-u
-loop-k-preserved-then-j-u c =
-    let room : c.loop-k.i < 13 = written_room _ _ _ _ _ c.loop-k.invariant.3 c.loop-k-test.true c.if-j-u.true c.requires in
-    (omega arith, omega arith, omega arith, written_more _ _ _ _ _ c.loop-k.invariant.3 c.loop-k-test.true room)
+pub loop-j-preserved : goal.loop-j-preserved
+loop-j-preserved c =
+    let room : c.loop-j.i < 13 = written_room _ _ _ _ _ c.loop-j.invariant.2 (omega arith) (omega arith) c.requires in
+    (omega arith, omega arith, written_more _ _ _ _ _ c.loop-j.invariant.2 (omega arith) room)
 
 pub loop-k-preserved : goal.loop-k-preserved
-loop-k-preserved c = (omega arith, omega arith, omega arith, written_next _ _ _ _ _ c.loop-k.invariant.3 (omega arith))
+loop-k-preserved c = written_next _ _ _ _ _ c.loop-j.invariant.2 (omega arith)
 
 pub returns : goal.returns
-returns c = written_done _ _ _ _ _ c.loop-k.invariant.3 (search rules) c.loop-k.invariant.0 c.loop-k-test.false c.loop-k.invariant.2
+returns c = written_done _ _ _ _ _ c.loop-k.invariant (search rules) (omega arith) (omega arith) (omega arith)

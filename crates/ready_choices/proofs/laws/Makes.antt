@@ -1,5 +1,5 @@
 -- What each function of a choice returns is that choice.
-use Rattle.std.specs.Prelude.{◌≡◌, refl, Bool, true, false, ◌&&◌, ◌||◌, not, cond, ℕ, ◌+◌, ◌-◌, ◌*◌, ◌≤◌, ◌<◌, min, leb, eqb}
+use Rattle.std.specs.Prelude.{◌≡◌, refl, Bool, true, false, ◌&&◌, ◌||◌, not, cond, Some, None, [], ◌∷◌, ℕ, zero, suc, ◌+◌, ◌-◌, ◌*◌, ◌≤◌, ◌<◌, min, leb, eqb, get_or}
 use Rattle.std.proofs.Common.{sym, ◌∙◌, arith}
 use Rattle.std.proofs.lemmas.Bool.{false≢true}
 use borrow.Author.Tests.{lt-ltb, le-ltb, leb-true, eqb-true, eqb-false, not-true}
@@ -8,16 +8,13 @@ use Rattle.tiles.proofs.laws.Below.{and_true, every_at}
 use Rattle.tiles.specs.Below.{all_below}
 use Rattle.ready_choices.specs.declared.Begun.{Begun}
 use Rattle.ready_choices.specs.declared.Move.{Move}
+use Rattle.ready_choices.specs.declared.TheConstants.{CHOICES}
 use Rattle.ready_choices.specs.search.Moves.{a_of, b_of, g_of, p_of, x_of, y_of, z_of, state, may, kept}
-use Rattle.ready_choices.specs.search.Made.{Parted, takes, Makes, value_of}
+use Rattle.ready_choices.specs.search.Made.{takes, IsMove, Makes, value_of}
 use Rattle.ready_choices.proofs.laws.Reach.{kept_more}
 use Rattle.ready_choices.proofs.laws.State.{state_read, state_small}
 use Rattle.ready_choices.proofs.laws.Special.{next_special, taken_pairs, taken_orphans}
 use Rattle.ready_choices.proofs.laws.Regular.{taken_regular, next_regular}
-
--- a choice that cannot be made
-pub makes_none : (k s e : ℕ) → may k s e ≡ false → Makes k s e (record { fine = false; to = 0; tiles = 0 })
-makes_none k s e h = record { may_be = sym h; to = λ q. absurd (false≢true q); tiles = λ q. absurd (false≢true q); low = omega arith }
 
 -- ---- seven pairs
 module _ (k s e : ℕ) (lo : 70 ≤ s) (hi : s < 78) where
@@ -25,16 +22,16 @@ module _ (k s e : ℕ) (lo : 70 ≤ s) (hi : s < 78) where
   unfolding may
   may_is_pairs = rw (le-ltb s 70 lo, lt-ltb s 78 hi)
 
-  pub makes_pairs : leb e 1 && leb e (s - 70) ≡ true → Makes k s e (record { fine = true; to = s - e; tiles = 2 * e })
+  pub makes_pairs : leb e 1 && leb e (s - 70) ≡ true → Makes k s e (Some (record { to = s - e; tiles = 2 * e }))
   makes_pairs h = record {
-    may_be = sym (may_is_pairs ∙ h);
-    to = λ q. sym (next_special k s e lo);
-    tiles = λ q. sym (taken_pairs k s e lo hi);
+    may_be = may_is_pairs ∙ h;
+    to = sym (next_special k s e lo);
+    tiles = sym (taken_pairs k s e lo hi);
     low = omega arith;
   }
 
-  pub makes_no_pairs : leb e 1 && leb e (s - 70) ≡ false → Makes k s e (record { fine = false; to = 0; tiles = 0 })
-  makes_no_pairs h = makes_none k s e (may_is_pairs ∙ h)
+  pub makes_no_pairs : leb e 1 && leb e (s - 70) ≡ false → Makes k s e None
+  makes_no_pairs h = may_is_pairs ∙ h
 
 -- ---- thirteen orphans
 module _ (k s e : ℕ) (y : Bool) (lo : 78 ≤ s) (hi : s < 80) (q : y ≡ is_yaochu k) where
@@ -42,24 +39,24 @@ module _ (k s e : ℕ) (y : Bool) (lo : 78 ≤ s) (hi : s < 80) (q : y ≡ is_ya
   unfolding may
   may_is_orphans = rw (le-ltb s 70 (omega arith), le-ltb s 78 lo, q)
 
-  pub makes_orphans : leb e 1 && leb e (s - 78) && (eqb e 0 || y) ≡ true → y ≡ true → Makes k s e (record { fine = true; to = s - e; tiles = 1 + e })
+  pub makes_orphans : leb e 1 && leb e (s - 78) && (eqb e 0 || y) ≡ true → y ≡ true → Makes k s e (Some (record { to = s - e; tiles = 1 + e }))
   makes_orphans h t = record {
-    may_be = sym (may_is_orphans ∙ h);
-    to = λ o. sym (next_special k s e (omega arith));
-    tiles = λ o. sym (taken_orphans k s e (omega arith) lo ∙ rw (sym q ∙ t));
+    may_be = may_is_orphans ∙ h;
+    to = sym (next_special k s e (omega arith));
+    tiles = sym (taken_orphans k s e (omega arith) lo ∙ rw (sym q ∙ t));
     low = omega arith;
   }
 
-  pub makes_others : leb e 1 && leb e (s - 78) && (eqb e 0 || y) ≡ true → y ≡ false → Makes k s e (record { fine = true; to = s - e; tiles = 0 })
+  pub makes_others : leb e 1 && leb e (s - 78) && (eqb e 0 || y) ≡ true → y ≡ false → Makes k s e (Some (record { to = s - e; tiles = 0 }))
   makes_others h t = record {
-    may_be = sym (may_is_orphans ∙ h);
-    to = λ o. sym (next_special k s e (omega arith));
-    tiles = λ o. sym (taken_orphans k s e (omega arith) lo ∙ rw (sym q ∙ t));
+    may_be = may_is_orphans ∙ h;
+    to = sym (next_special k s e (omega arith));
+    tiles = sym (taken_orphans k s e (omega arith) lo ∙ rw (sym q ∙ t));
     low = omega arith;
   }
 
-  pub makes_no_orphans : leb e 1 && leb e (s - 78) && (eqb e 0 || y) ≡ false → Makes k s e (record { fine = false; to = 0; tiles = 0 })
-  makes_no_orphans h = makes_none k s e (may_is_orphans ∙ h)
+  pub makes_no_orphans : leb e 1 && leb e (s - 78) && (eqb e 0 || y) ≡ false → Makes k s e None
+  makes_no_orphans h = may_is_orphans ∙ h
 
 pub orphans_one : (s e : ℕ) (y : Bool) → leb e 1 && leb e (s - 78) && (eqb e 0 || y) ≡ true → (e ≤ 1) × (e ≤ s - 78)
 orphans_one s e y h =
@@ -100,25 +97,23 @@ module _ (k s e : ℕ) (y : Bool) (lo : s < 70) (q : y ≡ is_run_start k) where
       (leb-true _ _ b.0, leb-true _ _ b.1)
 
   pub makes_regular : leb (x_of e + y_of e) (g_of s) && leb (z_of e) (p_of s) && (eqb (x_of e) 0 || y) ≡ true →
-      Makes k s e (record {
-        fine = true;
+      IsMove k s e (record {
         to = state (x_of e) (a_of s) (g_of s - (x_of e + y_of e)) (p_of s - z_of e);
-        tiles = a_of s + b_of s + x_of e + 3 * y_of e
-            + 2 * z_of e;
+        tiles = a_of s + b_of s + x_of e + 3 * y_of e + 2 * z_of e;
       })
   makes_regular h =
       let (a, b) = regular_begun h in
       let r = state_read (x_of e) (a_of s) (g_of s - (x_of e + y_of e)) (p_of s - z_of e) (omega (arith, state_small s lo)) (omega arith) in
       record {
-        may_be = sym (may_is_regular ∙ h);
-        to = λ o. sym (next_regular k s e lo);
-        tiles = λ o. sym (taken_regular k s e lo);
+        may_be = may_is_regular ∙ h;
+        to = sym (next_regular k s e lo);
+        tiles = sym (taken_regular k s e lo);
         low = omega (arith, r.low);
       }
 
   pub makes_no_regular : leb (x_of e + y_of e) (g_of s) && leb (z_of e) (p_of s) && (eqb (x_of e) 0 || y) ≡ false
-      → Makes k s e (record { fine = false; to = 0; tiles = 0 })
-  makes_no_regular h = makes_none k s e (may_is_regular ∙ h)
+      → Makes k s e None
+  makes_no_regular h = may_is_regular ∙ h
 
 -- the same by the parts that the code has read
 pub regular_test : (x y g z p : ℕ) (b : Bool) → leb (x + y) g && leb z p && b ≡ true → (x + y ≤ g) × (z ≤ p)
@@ -127,31 +122,49 @@ regular_test x y g z p b h =
     let q = and_true (leb (x + y) g) (leb z p) a.0 in
     (leb-true _ _ q.0, leb-true _ _ q.1)
 
-module _ (k s e x y z : ℕ) (u : Begun) (t : Bool) (lo : s < 70) (q : t ≡ is_run_start k) (c : Parted s u) (ex : x ≡ x_of e) (ey : y ≡ y_of e) (ez : z ≡ z_of e) where
-  pub makes_read : leb (x + y) u.g && leb z u.p && (eqb x 0 || t) ≡ true → Makes k s e (takes u x y z)
+module _ (k e x y z : ℕ) (u : Begun) (t : Bool) (lo : u.state < 70) (q : t ≡ is_run_start k) (ex : x ≡ x_of e) (ey : y ≡ y_of e) (ez : z ≡ z_of e) where
+  pub makes_read : leb (x + y) u.groups && leb z u.pairs && (eqb x 0 || t) ≡ true → IsMove k u.state e (takes u x y z)
   unfolding takes
   makes_read h =
-      rw (c.runs_a lo, c.runs_b lo, c.groups lo, c.pairs lo, ex, ey, ez) (makes_regular k s e t lo q (rw (c.groups lo, c.pairs lo, ex, ey, ez) at h))
+      rw (u.runs_a lo, u.runs_b lo, u.left lo, u.pair lo, ex, ey, ez) (makes_regular k u.state e t lo q (rw (u.left lo, u.pair lo, ex, ey, ez) at h))
 
-  pub makes_unreadable : leb (x + y) u.g && leb z u.p && (eqb x 0 || t) ≡ false → Makes k s e (record { fine = false; to = 0; tiles = 0 })
-  makes_unreadable h = makes_no_regular k s e t lo q (rw (c.groups lo, c.pairs lo, ex, ey, ez) at h)
+  pub makes_unreadable : leb (x + y) u.groups && leb z u.pairs && (eqb x 0 || t) ≡ false → may k u.state e ≡ false
+  makes_unreadable h = makes_no_regular k u.state e t lo q (rw (u.left lo, u.pair lo, ex, ey, ez) at h)
+
+-- ---- the table of choices
+parts : (e : ℕ) → e < 10 → get_or CHOICES e [] ≡ x_of e ∷ y_of e ∷ z_of e ∷ []
+unfolding x_of y_of z_of
+parts zero h = refl
+parts (suc zero) h = refl
+parts (suc (suc zero)) h = refl
+parts (suc (suc (suc zero))) h = refl
+parts (suc (suc (suc (suc zero)))) h = refl
+parts (suc (suc (suc (suc (suc zero))))) h = refl
+parts (suc (suc (suc (suc (suc (suc zero)))))) h = refl
+parts (suc (suc (suc (suc (suc (suc (suc zero))))))) h = refl
+parts (suc (suc (suc (suc (suc (suc (suc (suc zero)))))))) h = refl
+parts (suc (suc (suc (suc (suc (suc (suc (suc (suc zero))))))))) h = refl
+parts (suc (suc (suc (suc (suc (suc (suc (suc (suc (suc e)))))))))) h = absurd (omega arith)
+
+pub read_parts : (e i : ℕ) → i ≡ e → e < 10
+    → (get_or (get_or CHOICES i []) 0 0 ≡ x_of e) × (get_or (get_or CHOICES i []) 1 0 ≡ y_of e) × (get_or (get_or CHOICES i []) 2 0 ≡ z_of e)
+read_parts e i q h = rw (q, parts e h) (refl, refl, refl)
 
 -- ---- the value of a move
 pub kept_zero : (x : ℕ) → kept 0 x ≡ 0
 unfolding kept
 kept_zero x = refl
 
-pub value_with : (m : Move) (later have room x : ℕ) → (m.fine && leb m.tiles room) && not (eqb later 0) ≡ true → x ≡ min have m.tiles
-    → later + x ≡ value_of m later have room
+pub value_with : (m : Move) (later have room x : ℕ) → leb m.tiles room && not (eqb later 0) ≡ true → x ≡ min have m.tiles → later + x ≡ value_of m later have room
 unfolding value_of
 value_with m later have room x h q =
-    let a = and_true (m.fine && leb m.tiles room) (not (eqb later 0)) h in
+    let a = and_true (leb m.tiles room) (not (eqb later 0)) h in
     let n : later ≡ 0 → ⊥ = eqb-false later 0 (not-true (eqb later 0) a.1) in
     rw (a.0, q) (sym (kept_more later (min have m.tiles) (omega arith)))
 
-pub value_without : (m : Move) (later have room : ℕ) → (m.fine && leb m.tiles room) && not (eqb later 0) ≡ false → 0 ≡ value_of m later have room
+pub value_without : (m : Move) (later have room : ℕ) → leb m.tiles room && not (eqb later 0) ≡ false → 0 ≡ value_of m later have room
 unfolding value_of
-value_without m later have room h = go (m.fine && leb m.tiles room) (eqb later 0) refl h
+value_without m later have room h = go (leb m.tiles room) (eqb later 0) refl h
   where
     go : (a b : Bool) → eqb later 0 ≡ b → a && not b ≡ false → 0 ≡ cond a (kept later (min have m.tiles)) 0
     go false b e h = refl

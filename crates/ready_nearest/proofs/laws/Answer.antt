@@ -5,12 +5,11 @@ use Rattle.tiles.specs.Below.{sum_below}
 use Rattle.tiles.proofs.laws.Tally.{tally_bound}
 use Rattle.ready_choices.specs.search.Tallies.{HandTally, MeldsTally, NearestTally}
 use Rattle.ready_choices.specs.search.Moves.{state, best}
-use Rattle.ready_nearest.specs.search.Found.{Fours, Filled, Walked, Topmost, Shorter}
+use Rattle.ready_nearest.specs.search.Found.{Fours, RowOf, Walked, Topmost, Shorter}
 use Rattle.ready_choices.proofs.laws.Sums.{total_le_of}
 use Rattle.ready_choices.proofs.laws.Reach.{both, reach_four}
 use Rattle.ready_choices.proofs.laws.Near.{groups, Whole, reach_whole, nearest_of}
 use Rattle.ready_choices.proofs.laws.Exists.{complete_exists}
-use Rattle.ready_nearest.proofs.laws.Table.{filled_start}
 
 module _ (t d : List ℕ) (m : ℕ) (h : HandTally t d m) (ld : length d ≡ 34) where
   pub fours_hand : Fours t
@@ -39,16 +38,16 @@ module _ (t d : List ℕ) (m : ℕ) (h : HandTally t d m) (ld : length d ≡ 34)
           (nearest_of t d w m r.kind (best t d 34 0 s) h q.long whole (λ k l. reach_four s d w 34 q.end q.reach fours_melds k l) q.keeps
           r.low r.lack p.top)
 
-      module _ (table : List ℕ) (f : Filled t d table) where
-        value : get_or table s 0 ≡ best t d 34 0 s
-        value = filled_start t d table s p.low f
+      module _ (row : List ℕ) (f : RowOf t d 0 row) where
+        value : get_or row s 0 ≡ best t d 34 0 s
+        value = f.values s p.low
 
         -- one more than the tiles kept, of which there are no more than the hand has
-        pub value_low : get_or table s 0 ≤ 14 - 3 * m
+        pub value_low : get_or row s 0 ≤ 14 - 3 * m
         value_low =
             let a = value in
             let b : sum_below 34 (both t w) ≤ sum_below 34 (λ k. get_or t k 0) = total_le_of (both t w) (λ k. get_or t k 0) 34 (λ k l. omega arith) in
             omega (arith, q.keeps, h.tiles)
 
-        pub answer : (u : List ℕ) → Shorter t w u → NearestTally t d m (14 - 3 * m - get_or table s 0) u
+        pub answer : (u : List ℕ) → Shorter t w u → NearestTally t d m (14 - 3 * m - get_or row s 0) u
         answer u r = rw value (shorter_nearest u r)

@@ -1,7 +1,7 @@
 -- The best of the choices at a kind, one after the other.
 use Rattle.std.specs.Prelude.{◌≡◌, Bool, ◌&&◌, ltb, eqb}
 use Rattle.std.proofs.Math.Path.{refl, sym}
-use Rattle.std.proofs.Common.{subst, ◌∙◌, lt-ltb, le-ltb, le-leb, leb-true, leb-false, ltb-true, ltb-false}
+use Rattle.std.proofs.Common.{subst, ap, ◌∙◌, lt-ltb, le-ltb, le-leb, leb-true, leb-false, ltb-true, ltb-false}
 use Rattle.std.proofs.Math.Bool.{true, false, cond}
 use Rattle.std.proofs.lemmas.Bool.{false≢true, lt-leb}
 use Prim.Native.Nat.{ℕ, zero, suc, ◌+◌, ◌-◌, ◌*◌, ◌/◌, ◌%◌, ◌≤◌, ◌<◌, min}
@@ -11,7 +11,7 @@ use Rattle.ready_choices.specs.declared.Begun.{Begun}
 use Rattle.ready_choices.specs.declared.Move.{Move}
 use Rattle.ready_nearest.specs.declared.Choice.{Choice}
 use Rattle.ready_choices.specs.search.Moves.{g_of, p_of, x_of, y_of, z_of, choices, live, may, taken, next, fine, most, kept, worth}
-use Rattle.ready_choices.specs.search.Made.{Parted, tries_of, Makes, value_of}
+use Rattle.ready_choices.specs.search.Made.{tries_of, IsMove, value_of}
 use Rattle.ready_nearest.specs.search.Found.{Got, Chose}
 use Rattle.ready_choices.proofs.laws.Most.{most_none, most_more, most_le}
 use Rattle.ready_choices.proofs.laws.Reach.{kept_more, fine_of}
@@ -37,56 +37,41 @@ module _ (have room : ℕ) (later : ℕ → ℕ) (k s : ℕ) where
   pub chose_none : Chose have room later k s 0 (record { value = 0; to = 0; tiles = 0 })
   chose_none = record { value = sym (most_none (worth have room later k s)); got = λ o. absurd (omega arith); low = omega arith }
 
-  module _ (l : live k s ≡ true) (e : ℕ) (m : Move) (h : Makes k s e m) where
-    worth_not : m.fine ≡ false → value_of m (later m.to) have room ≡ worth have room later k s e
-    unfolding value_of worth fine
-    worth_not q = let y : may k s e ≡ false = sym h.may_be ∙ q in rw (q, l, y)
-
-    worth_may : m.fine ≡ true → value_of m (later m.to) have room ≡ worth have room later k s e
-    unfolding value_of worth fine
-    worth_may q = let y : may k s e ≡ true = sym h.may_be ∙ q in rw (q, l, y, h.to q, h.tiles q)
-
+  module _ (l : live k s ≡ true) (e : ℕ) (m : Move) (h : IsMove k s e m) where
     -- a move is worth what its choice is
     pub worth_value : value_of m (later m.to) have room ≡ worth have room later k s e
-    worth_value = go m.fine refl
-      where
-        go : (b : Bool) → m.fine ≡ b → value_of m (later m.to) have room ≡ worth have room later k s e
-        go true q = worth_may q
-        go false q = worth_not q
+    unfolding value_of worth fine
+    worth_value = let y : may k s e ≡ true = h.may_be in rw (l, y, h.to, h.tiles)
 
     -- a move that is worth something
-    got_of : (a b : Bool) → m.fine ≡ a → leb m.tiles room ≡ b → (v : ℕ) → v ≡ value_of m (later m.to) have room → 1 ≤ v → e < 10 →
+    got_of : (b : Bool) → leb m.tiles room ≡ b → (v : ℕ) → v ≡ value_of m (later m.to) have room → 1 ≤ v → e < 10 →
         Got have room later k s (record { value = v; to = m.to; tiles = m.tiles })
     unfolding value_of
-    got_of true true q r v u p i =
-        let y : may k s e ≡ true = sym h.may_be ∙ q in
-        let et : m.to ≡ next s e = h.to q in
-        let ek : m.tiles ≡ taken k s e = h.tiles q in
-        let w : v ≡ kept (later m.to) (min have m.tiles) = u ∙ rw (q, r) in
+    got_of true r v u p i =
+        let w : v ≡ kept (later m.to) (min have m.tiles) = u ∙ rw r in
         let z : 1 ≤ later m.to = some (later m.to) (min have m.tiles) (omega arith) in
         let n : v ≡ later m.to + min have m.tiles = w ∙ kept_more (later m.to) (min have m.tiles) z in
         record {
           e = e;
           low = i;
-          fits = fine_of room k s e l y (rw ek at (leb-true m.tiles room r));
-          to = et;
-          tiles = ek;
-          more = rw et at z;
-          value = rw (et, ek) at n;
+          fits = fine_of room k s e l h.may_be (rw h.tiles at (leb-true m.tiles room r));
+          to = h.to;
+          tiles = h.tiles;
+          more = rw h.to at z;
+          value = rw (h.to, h.tiles) at n;
         }
       where
         some : (a x : ℕ) → 1 ≤ kept a x → 1 ≤ a
         some zero x o = absurd (omega (arith, kept_zero x))
         some (suc a) x o = omega arith
-    got_of true false q r v u p i = let z : v ≡ 0 = u ∙ rw (q, r) in absurd (omega arith)
-    got_of false b q r v u p i = let z : v ≡ 0 = u ∙ rw q in absurd (omega arith)
+    got_of false r v u p i = let z : v ≡ 0 = u ∙ rw r in absurd (omega arith)
 
     -- a better one is kept
     pub chose_with : (b : Choice) (v : ℕ) → e < 10 → v ≡ value_of m (later m.to) have room → b.value < v → Chose have room later k s e b →
         Chose have room later k s (e + 1) (record { value = v; to = m.to; tiles = m.tiles })
     chose_with b v i u p c = record {
       value = rw (most_more (worth have room later k s) e) (omega (arith, u, worth_value, c.value));
-      got = λ o. got_of m.fine (leb m.tiles room) refl refl v u o i;
+      got = λ o. got_of (leb m.tiles room) refl v u o i;
       low = h.low;
     }
 
@@ -136,6 +121,14 @@ module _ (have room : ℕ) (later : ℕ → ℕ) (k s : ℕ) where
   pass i j l h =
       let q : i + (j - i) ≡ j = omega arith in
       subst (λ (x : ℕ). most i (worth have room later k s) ≡ most x (worth have room later k s)) q (pass_n (j - i) i (λ e x y. h e x (omega arith)))
+
+  -- so the best stays
+  pub chose_not : (e : ℕ) (b : Choice) → may k s e ≡ false → Chose have room later k s e b → Chose have room later k s (e + 1) b
+  chose_not e b n h = record {
+    value = h.value ∙ pass e (e + 1) (omega arith) (λ i x y. let q : i ≡ e = omega arith in rw q n);
+    got = h.got;
+    low = h.low;
+  }
 
 -- past the choices that the groups left allow, and past the first three where no run begins
 more_groups : ℕ → Bool
@@ -193,31 +186,34 @@ cond_low true x y h g = h
 cond_low false x y h g = g
 
 -- the choices that are tried, for a state of the parts u
-module _ (have room : ℕ) (later : ℕ → ℕ) (k s n : ℕ) (u : Begun) (b : Choice) (c : Parted s u) (q : n ≡ tries_of k s u.g) where
+module _ (have room : ℕ) (later : ℕ → ℕ) (k s n : ℕ) (u : Begun) (b : Choice) (c : u.state ≡ s) (q : n ≡ tries_of k s u.groups) where
+  left : s < 70 → u.groups ≡ g_of s
+  left l = u.left (rw c l) ∙ ap g_of c
+
   tries_low : n ≤ 10
   unfolding tries_of
-  tries_low = rw q (cond_low (ltb s 70) _ 2 (least_low (is_run_start k) _ (choices_low u.g)) (omega arith))
+  tries_low = rw q (cond_low (ltb s 70) _ 2 (least_low (is_run_start k) _ (choices_low u.groups)) (omega arith))
 
   none_later : (e : ℕ) → n ≤ e → e < 10 → may k s e ≡ false
   none_later e h i = go (ltb s 70) refl
     where
-      run : s < 70 → (r : Bool) → is_run_start k ≡ r → cond r (choices u.g) (min 3 (choices u.g)) ≤ e → x_of e + y_of e ≤ g_of s
+      run : s < 70 → (r : Bool) → is_run_start k ≡ r → cond r (choices u.groups) (min 3 (choices u.groups)) ≤ e → x_of e + y_of e ≤ g_of s
           → (0 < x_of e → is_run_start k ≡ true) → ⊥
-      run l true y o x z = let v = over_groups u.g e (omega (arith, c.sum)) i o in omega (arith, c.groups l)
+      run l true y o x z = let v = over_groups u.groups e (omega (arith, u.sum)) i o in omega (arith, left l)
       run l false y o x z = three (leb 3 e) refl
         where
           three : (w : Bool) → leb 3 e ≡ w → ⊥
           three true p = false≢true (sym y ∙ z (begins_run e i (leb-true 3 e p)))
-          three false p = let lt = leb-false 3 e p in let v = over_groups u.g e (omega (arith, c.sum)) i (omega arith) in omega (arith, c.groups l)
+          three false p = let lt = leb-false 3 e p in let v = over_groups u.groups e (omega (arith, u.sum)) i (omega arith) in omega (arith, left l)
 
       go : (f : Bool) → ltb s 70 ≡ f → may k s e ≡ false
       go true f =
           let l : s < 70 = ltb-true s 70 f in
-          let o : n ≡ cond (is_run_start k) (choices u.g) (min 3 (choices u.g)) = q ∙ tries_regular k s u.g l in
+          let o : n ≡ cond (is_run_start k) (choices u.groups) (min 3 (choices u.groups)) = q ∙ tries_regular k s u.groups l in
           may_not k s e l (λ x y z. run l (is_run_start k) refl (rw o at h) x z)
       go false f =
           let l : 70 ≤ s = ltb-false s 70 f in
-          let o : n ≡ 2 = q ∙ tries_special k s u.g l in
+          let o : n ≡ 2 = q ∙ tries_special k s u.groups l in
           special_may k s e l (omega arith)
 
   pub tries_done : Chose have room later k s n b → Chose have room later k s 10 b

@@ -1,20 +1,20 @@
 -- The table of the best values, filled from its end, and the walk along its best choices.
-use Rattle.std.specs.Prelude.{◌≡◌, Bool, ◌⊎◌, List, ltb, replicate}
+use Rattle.std.specs.Prelude.{◌≡◌, Bool, List, [], ltb, replicate}
 use Rattle.std.proofs.Math.Path.{refl, ap}
-use Rattle.std.proofs.Common.{sym, ◌∙◌, inl, inr}
+use Rattle.std.proofs.Common.{sym, ◌∙◌}
 use Rattle.std.proofs.Math.Bool.{true, false, cond}
-use Rattle.std.proofs.Math.Logic.{⊎_elim}
-use Prim.Native.Nat.{ℕ, zero, suc, ◌+◌, ◌-◌, ◌*◌, ◌/◌, ◌%◌, ◌≤◌, ◌<◌, min}
+use Prim.Native.Nat.{ℕ, zero, suc, ◌+◌, ◌-◌, ◌*◌, ◌≤◌, ◌<◌, min}
 use native.Mathlib.Omega.{arith}
 use Rattle.std.proofs.Math.Numerals.{add-one}
-use borrow.Author.Tests.{eqb-true, eqb-false, ne_eqb, ltb-true, ltb-false}
+use borrow.Author.Tests.{eqb-true, eqb-false, ltb-true, ltb-false}
 use Rattle.std.proofs.Math.Dec.{eqb}
-use Rattle.std.proofs.Math.ListN.{length, get_or, set, length-set}
+use Rattle.std.proofs.Math.ListN.{length, get_or, set, length-set, get_or-eq_default}
 use Rattle.std.proofs.Math.Seq.{get_or-set_same, get_or-set_other}
-use Rattle.tiles.specs.Below.{sum_below}
+use Rattle.tiles.specs.Below.{sum_below, all_below}
+use Rattle.tiles.proofs.laws.Below.{every_at}
 use Rattle.ready_nearest.specs.declared.Choice.{Choice}
 use Rattle.ready_choices.specs.search.Moves.{may, taken, next, fine, ended, most, kept, worth, best, state, a_of, g_of, p_of, x_of, y_of, z_of}
-use Rattle.ready_nearest.specs.search.Found.{Got, Chose, after, best_at, Small, Fours, Filled, Walked, Topmost}
+use Rattle.ready_nearest.specs.search.Found.{Got, Chose, after, Small, Fours, RowOf, Filled, Walked, Topmost}
 use Rattle.ready_choices.proofs.laws.Sums.{total_suc, total_zero, total_cong}
 use Rattle.ready_choices.proofs.laws.Most.{most_cong, most_le}
 use Rattle.ready_choices.proofs.laws.Reach.{Reach, begin, move, both, fine_begun, reach_cong}
@@ -71,137 +71,69 @@ best_suc_is : (t d : List ℕ) (n k s : ℕ) → best t d (suc n) k s ≡ most 1
 unfolding best
 best_suc_is t d n k s = refl
 
-module _ (t d table : List ℕ) (k s : ℕ) (lk : k < 34) (ls : s < 80) (later : (r : ℕ) → r < 80 → after table k r ≡ best t d (33 - k) (suc k) r) where
-  -- the most by a table that has the later values is the value
-  pub most_best : (v : ℕ) → v ≡ most 10 (worth (get_or t k 0) (4 - get_or d k 0) (after table k) k s) → v ≡ best t d (34 - k) k s
+module _ (t d row : List ℕ) (k s : ℕ) (lk : k < 34) (ls : s < 80) (next_row : RowOf t d (k + 1) row) where
+  -- the values of the row after k
+  later : (r : ℕ) → r < 80 → after row r ≡ best t d (33 - k) (suc k) r
+  later r l = let n : 34 - (k + 1) ≡ 33 - k = omega arith in next_row.values r l ∙ rw (n, add-one)
+
+  -- the most by a row that has the later values is the value
+  pub most_best : (v : ℕ) → v ≡ most 10 (worth (get_or t k 0) (4 - get_or d k 0) (after row) k s) → v ≡ best t d (34 - k) k s
   most_best v h =
       let n : 34 - k ≡ suc (33 - k) = omega arith in
       rw n
       (h
-      ∙ most_cong (worth (get_or t k 0) (4 - get_or d k 0) (after table k) k s) (worth (get_or t k 0) (4 - get_or d k 0) (best t d (33 - k) (suc k)) k s) 10
-      (λ e l. worth_cong (get_or t k 0) (4 - get_or d k 0) (after table k) (best t d (33 - k) (suc k)) k s e ls later)
+      ∙ most_cong (worth (get_or t k 0) (4 - get_or d k 0) (after row) k s) (worth (get_or t k 0) (4 - get_or d k 0) (best t d (33 - k) (suc k)) k s) 10
+      (λ e l. worth_cong (get_or t k 0) (4 - get_or d k 0) (after row) (best t d (33 - k) (suc k)) k s e ls later)
       ∙ sym (best_suc_is t d (33 - k) k s))
 
--- the places after the kind k
-pub later_of : (t d table : List ℕ) (i k : ℕ) → k < 34 → i ≤ 80 * (k + 1) → ((j : ℕ) → i ≤ j → j < 2800 → get_or table j 0 ≡ best_at t d j) →
-    (r : ℕ) → r < 80 → after table k r ≡ best t d (33 - k) (suc k) r
-unfolding best_at
-later_of t d table i k lk li h r lr =
-    let j = 80 * (k + 1) + r in
-    let q : j / 80 ≡ suc k = omega arith in
-    let m : j % 80 ≡ r = omega arith in
-    let n : 34 - suc k ≡ 33 - k = omega arith in
-    h j (omega arith) (omega arith) ∙ rw (q, m, n)
+-- ---- rows
+-- the row before one that has the values
+pub row_before : (t d row before : List ℕ) (k : ℕ) → k < 34 → RowOf t d (k + 1) row → length before ≡ 80 →
+    ((s : ℕ) → s < 80 → get_or before s 0 ≡ most 10 (worth (get_or t k 0) (4 - get_or d k 0) (after row) k s)) → RowOf t d k before
+row_before t d row before k l h g v = record { long = g; values = λ s i. most_best t d row k s l i h (get_or before s 0) (v s i) }
 
--- the value at the place of the state s at the kind k
-pub place_value : (t d table : List ℕ) (k s v : ℕ) → k < 34 → s < 80 → ((j : ℕ) → 80 * k + s + 1 ≤ j → j < 2800 → get_or table j 0 ≡ best_at t d j) →
-    v ≡ most 10 (worth (get_or t k 0) (4 - get_or d k 0) (after table k) k s) → v ≡ best_at t d (80 * k + s)
-unfolding best_at
-place_value t d table k s v lk ls h p =
-    let q : (80 * k + s) / 80 ≡ k = omega arith in
-    let m : (80 * k + s) % 80 ≡ s = omega arith in
-    rw (q, m) (most_best t d table k s lk ls (later_of t d table (80 * k + s + 1) k lk (omega arith) h) v p)
+-- no value is over 200
+pub row_small : (t d row : List ℕ) (k : ℕ) → k ≤ 34 → Fours t → RowOf t d k row → Small row
+row_small t d row k l f h s = go (ltb s 80) refl
+  where
+    go : (b : Bool) → ltb s 80 ≡ b → get_or row s 0 ≤ 200
+    go true e = omega (arith, h.values s (ltb-true s 80 e), best_le t d f (34 - k) k s)
+    go false e = let past : length row ≤ s = omega (arith, ltb-false s 80 e, h.long) in rw (get_or-eq_default row 0 {n = s} past) (omega arith)
 
-pub best_small : (t d : List ℕ) (j : ℕ) → Fours t → best_at t d j ≤ 200
-unfolding best_at
-best_small t d j h = omega (arith, best_le t d h (34 - j / 80) (j / 80) (j % 80))
+-- after the last kind nothing is left to do in three states
+last_values : all_below 80 (λ s. eqb (get_or (set (set (set (replicate 80 0) 0 1) 70 1) 78 1) s 0) (cond (ended s) 1 0)) ≡ true
+unfolding all_below ended
+last_values = refl
+
+pub last_row : (t d row : List ℕ) → row ≡ set (set (set (replicate 80 0) 0 1) 70 1) 78 1 → RowOf t d 34 row
+unfolding best
+last_row t d row e = rw e (record {
+  long = refl;
+  values = λ s l. eqb-true _ _ (every_at (λ s. eqb (get_or (set (set (set (replicate 80 0) 0 1) 70 1) 78 1) s 0) (cond (ended s) 1 0)) 80 s last_values l);
+})
 
 -- ---- filling
--- the places from i on are filled
-pub record Filling (t d : List ℕ) (i : ℕ) (table : List ℕ) : Type 0 where
-  pub low : i ≤ 2720
-  pub long : length table ≡ 2800
-  pub values : (j : ℕ) → i ≤ j → j < 2800 → get_or table j 0 ≡ best_at t d j
-  pub small : Small table
+-- the rows from k on have the values
+pub record Filling (t d : List ℕ) (k : ℕ) (table : List (List ℕ)) : Type 0 where
+  pub long : length table ≡ 35
+  pub rows : (i : ℕ) → k ≤ i → i < 35 → RowOf t d i (get_or table i [])
 
--- the last row: nothing is left to do in three states
-module _ (t d : List ℕ) (z : List ℕ) (l : length z ≡ 2800) (e : (j : ℕ) → get_or z j 0 ≡ 0) where
-  three : List ℕ
-  three = set (set (set z 2720 1) 2790 1) 2798 1
+pub filling_begin : (t d : List ℕ) (table : List (List ℕ)) → length table ≡ 35 → RowOf t d 34 (get_or table 34 []) → Filling t d 34 table
+filling_begin t d table l h = record { long = l; rows = λ i a b. let q : i ≡ 34 = omega arith in rw q h }
 
-  hit : (j : ℕ) → (j ≡ 2720) ⊎ ((j ≡ 2790) ⊎ (j ≡ 2798)) → get_or three j 0 ≡ 1
-  unfolding three
-  hit j h =
-      let z1 = set z 2720 1 in
-      let z2 = set z1 2790 1 in
-      let l1 : length z1 ≡ 2800 = rw length-set l in
-      let l2 : length z2 ≡ 2800 = rw length-set l1 in
-      ⊎_elim
-      (λ q. rw q (get_or-set_other z2 2798 2720 1 0 (omega arith) ∙ get_or-set_other z1 2790 2720 1 0 (omega arith) ∙ get_or-set_same z 2720 1 0 (omega arith)))
-      (⊎_elim
-      (λ q. rw q (get_or-set_other z2 2798 2790 1 0 (omega arith) ∙ get_or-set_same z1 2790 1 0 (omega arith)))
-      (λ q. rw q (get_or-set_same z2 2798 1 0 (omega arith))))
-      h
-
-  miss : (j : ℕ) → (j ≡ 2720 → ⊥) → (j ≡ 2790 → ⊥) → (j ≡ 2798 → ⊥) → get_or three j 0 ≡ 0
-  unfolding three
-  miss j a b c =
-      let z1 = set z 2720 1 in
-      let z2 = set z1 2790 1 in
-      get_or-set_other z2 2798 j 1 0 c ∙ get_or-set_other z1 2790 j 1 0 b ∙ get_or-set_other z 2720 j 1 0 a ∙ e j
-
-  row : (j : ℕ) → 2720 ≤ j → j < 2800 → (a b c : Bool) → eqb j 2720 ≡ a → eqb j 2790 ≡ b → eqb j 2798 ≡ c → get_or three j 0 ≡ best_at t d j
-  unfolding best_at best ended
-  row j lo hi a b c p q r =
-      let k : j / 80 ≡ 34 = omega arith in
-      let n : 34 - j / 80 ≡ 0 = omega arith in
-      rw (n) (go a b c p q r)
-    where
-      go : (a b c : Bool) → eqb j 2720 ≡ a → eqb j 2790 ≡ b → eqb j 2798 ≡ c → get_or three j 0 ≡ cond (ended (j % 80)) 1 0
-      go true b c p q r = let i : j ≡ 2720 = eqb-true j 2720 p in hit j (inl i) ∙ rw i
-      go false true c p q r = let i : j ≡ 2790 = eqb-true j 2790 q in hit j (inr (inl i)) ∙ rw i
-      go false false true p q r = let i : j ≡ 2798 = eqb-true j 2798 r in hit j (inr (inr i)) ∙ rw i
-      go false false false p q r =
-          let x : j ≡ 2720 → ⊥ = eqb-false j 2720 p in
-          let y : j ≡ 2790 → ⊥ = eqb-false j 2790 q in
-          let w : j ≡ 2798 → ⊥ = eqb-false j 2798 r in
-          miss j x y w ∙ rw (ne_eqb (j % 80) 0 (omega arith), ne_eqb (j % 80) 70 (omega arith), ne_eqb (j % 80) 78 (omega arith))
-
-  some_one : (j : ℕ) → (a b c : Bool) → eqb j 2720 ≡ a → eqb j 2790 ≡ b → eqb j 2798 ≡ c → get_or three j 0 ≤ 200
-  some_one j true b c p q r = omega (arith, hit j (inl (eqb-true j 2720 p)))
-  some_one j false true c p q r = omega (arith, hit j (inr (inl (eqb-true j 2790 q))))
-  some_one j false false true p q r = omega (arith, hit j (inr (inr (eqb-true j 2798 r))))
-  some_one j false false false p q r = omega (arith, miss j (eqb-false j 2720 p) (eqb-false j 2790 q) (eqb-false j 2798 r))
-
-  pub filling_begin : Filling t d 2720 (set (set (set z 2720 1) 2790 1) 2798 1)
-  unfolding three
-  filling_begin = record {
-    low = omega arith;
-    long = rw (length-set, length-set, length-set) l;
-    values = λ j a b. row j a b (eqb j 2720) (eqb j 2790) (eqb j 2798) refl refl refl;
-    small = λ j. some_one j (eqb j 2720) (eqb j 2790) (eqb j 2798) refl refl refl;
-  }
-
--- one place more
-pub filling_more : (t d table : List ℕ) (k s v : ℕ) → Fours t → k < 34 → s < 80 → Filling t d (80 * k + s + 1) table →
-    v ≡ most 10 (worth (get_or t k 0) (4 - get_or d k 0) (after table k) k s) → Filling t d (80 * k + s) (set table (80 * k + s) v)
-filling_more t d table k s v f lk ls p q =
-    let i = 80 * k + s in
-    let l : length table ≡ 2800 = p.long in
-    let o : v ≡ best_at t d i = place_value t d table k s v lk ls p.values q in
-    record {
-      low = omega arith;
-      long = rw length-set l;
-      values = λ j a b. at i l o (omega arith) p.values j a b (eqb j i) refl;
-      small = λ j. under i l o (omega arith) j (eqb j i) refl;
-    }
+-- one row more
+pub filling_more : (t d : List ℕ) (table : List (List ℕ)) (k : ℕ) (row : List ℕ) → k < 35 → Filling t d (k + 1) table → RowOf t d k row → Filling t d k (set table k row)
+filling_more t d table k row l h g = record {
+  long = rw length-set h.long;
+  rows = λ i a b. at_row i a b (eqb i k) refl;
+}
   where
-    at : (i : ℕ) → length table ≡ 2800 → v ≡ best_at t d i → i < 2800 → ((j : ℕ) → i + 1 ≤ j → j < 2800 → get_or table j 0 ≡ best_at t d j) →
-        (j : ℕ) → i ≤ j → j < 2800 → (b : Bool) → eqb j i ≡ b → get_or (set table i v) j 0 ≡ best_at t d j
-    at i l o u h j lo hi true e = let w : j ≡ i = eqb-true j i e in rw w (get_or-set_same table i v 0 (omega arith) ∙ o)
-    at i l o u h j lo hi false e = let w : j ≡ i → ⊥ = eqb-false j i e in get_or-set_other table i j v 0 w ∙ h j (omega arith) hi
+    at_row : (i : ℕ) → k ≤ i → i < 35 → (b : Bool) → eqb i k ≡ b → RowOf t d i (get_or (set table k row) i [])
+    at_row i lo hi true e = let w : i ≡ k = eqb-true i k e in rw (w, get_or-set_same table k row [] (omega (arith, h.long))) g
+    at_row i lo hi false e = let w : i ≡ k → ⊥ = eqb-false i k e in rw (get_or-set_other table k i row [] w) (h.rows i (omega arith) hi)
 
-    under : (i : ℕ) → length table ≡ 2800 → v ≡ best_at t d i → i < 2800 → (j : ℕ) → (b : Bool) → eqb j i ≡ b → get_or (set table i v) j 0 ≤ 200
-    under i l o u j true e = let w : j ≡ i = eqb-true j i e in rw w (rw (get_or-set_same table i v 0 (omega arith), o) (best_small t d i f))
-    under i l o u j false e = rw (get_or-set_other table i j v 0 (eqb-false j i e)) (p.small j)
-
-pub filling_done : (t d table : List ℕ) (i : ℕ) → i ≡ 0 → Filling t d i table → Filled t d table
-filling_done t d table i e f = record { values = λ j l. f.values j (omega arith) l; small = f.small }
-
-pub zeros : (n j : ℕ) → ◌≡◌ {A = ℕ} (get_or (replicate n 0) j 0) 0
-zeros zero j = refl
-zeros (suc n) zero = refl
-zeros (suc n) (suc j) = zeros n j
+pub filling_done : (t d : List ℕ) (table : List (List ℕ)) → Filling t d 0 table → Filled t d table
+filling_done t d table f = λ k l. f.rows k (omega arith) l
 
 -- ---- walking
 -- the best choices at the first k kinds
@@ -216,18 +148,15 @@ pub record Walking (t d : List ℕ) (start k s : ℕ) (w : List ℕ) : Type 0 wh
 pub walking_begin : (t d w : List ℕ) (start : ℕ) → length w ≡ 34 → start < 80 → 1 ≤ best t d 34 0 start → Walking t d start 0 start w
 walking_begin t d w start g l h = record { low = omega arith; long = g; state_low = l; reach = begin; more = h; keeps = omega (arith, total_zero (both t w)) }
 
-pub filled_later : (t d table : List ℕ) (k : ℕ) → k < 34 → Filled t d table → (r : ℕ) → r < 80 → after table k r ≡ best t d (33 - k) (suc k) r
-filled_later t d table k l f = later_of t d table 0 k l (omega arith) (λ j a b. f.values j b)
-
-module _ (t d table w : List ℕ) (start k s : ℕ) (c : Choice) (l : k < 34) (f : Filled t d table) (h : Walking t d start k s w)
-    (p : Chose (get_or t k 0) (4 - get_or d k 0) (after table k) k s 10 c) where
+module _ (t d row w : List ℕ) (start k s : ℕ) (c : Choice) (l : k < 34) (f : RowOf t d (k + 1) row) (h : Walking t d start k s w)
+    (p : Chose (get_or t k 0) (4 - get_or d k 0) (after row) k s 10 c) where
   v : List ℕ
   v = set w k c.tiles
 
   worth_it : c.value ≡ best t d (34 - k) k s
-  worth_it = most_best t d table k s l h.state_low (filled_later t d table k l f) c.value p.value
+  worth_it = most_best t d row k s l h.state_low f c.value p.value
 
-  got : Got (get_or t k 0) (4 - get_or d k 0) (after table k) k s c
+  got : Got (get_or t k 0) (4 - get_or d k 0) (after row) k s c
   got = p.got (rw worth_it h.more)
 
   here : get_or v k 0 ≡ c.tiles
@@ -238,19 +167,16 @@ module _ (t d table w : List ℕ) (start k s : ℕ) (c : Choice) (l : k < 34) (f
   unfolding v
   earlier j i = get_or-set_other w k j c.tiles 0 (omega arith)
 
-  later : best t d (34 - (k + 1)) (k + 1) c.to ≡ after table k (next s got.e)
-  later =
-      let n : 34 - (k + 1) ≡ 33 - k = omega arith in
-      let q : best t d (34 - (k + 1)) (k + 1) c.to ≡ best t d (33 - k) (suc k) c.to = rw (n, add-one) in
-      q ∙ sym (filled_later t d table k l f c.to p.low) ∙ ap (after table k) got.to
+  at_next : best t d (34 - (k + 1)) (k + 1) c.to ≡ after row (next s got.e)
+  at_next = sym (f.values c.to p.low) ∙ ap (after row) got.to
 
   -- one choice more
   pub walking_more : Walking t d start (k + 1) c.to (set w k c.tiles)
   unfolding v
   walking_more =
       let g = got in
-      let a = later in
-      let b : c.value ≡ after table k (next s g.e) + min (get_or t k 0) (taken k s g.e) = g.value in
+      let a = at_next in
+      let b : c.value ≡ after row (next s g.e) + min (get_or t k 0) (taken k s g.e) = g.value in
       let e : both t v k ≡ min (get_or t k 0) (taken k s g.e) = ap (λ x. min (get_or t k 0) x) (here ∙ g.tiles) in
       let o : sum_below k (both t v) ≡ sum_below k (both t w) = total_cong (both t v) (both t w) k (λ j i. rw (earlier j i)) in
       let u : sum_below (k + 1) (both t v) ≡ sum_below k (both t v) + both t v k = rw add-one (total_suc k (both t v)) in
@@ -278,13 +204,6 @@ walking_done t d w start k s e h =
     yes false h = absurd (omega arith)
 
 -- ---- the best start
-pub filled_start : (t d table : List ℕ) (s : ℕ) → s < 80 → Filled t d table → get_or table s 0 ≡ best t d 34 0 s
-unfolding best_at
-filled_start t d table s l f =
-    let k : s / 80 ≡ 0 = omega arith in
-    let m : s % 80 ≡ s = omega arith in
-    f.values s (omega arith) ∙ rw (k, m)
-
 pub start_low : (m : ℕ) → state 0 0 (4 - m) 1 < 70
 start_low m = (state_read 0 0 (4 - m) 1 (omega arith) (omega arith)).low
 
@@ -314,31 +233,31 @@ top_of t d m s b l x y w = record { from = b; low = l; top = λ r q. each r q }
     each r (seven o q) = rw q y
     each r (thirteen o q) = rw q w
 
-module _ (t d table : List ℕ) (m : ℕ) (f : Filled t d table) (h : m ≤ 4) (z : m ≡ 0) where
-  pub leads_seven : (s : ℕ) → s ≡ state 0 0 (4 - m) 1 → get_or table s 0 < get_or table 77 0 → Leads t d m 77
+module _ (t d row : List ℕ) (m : ℕ) (f : RowOf t d 0 row) (h : m ≤ 4) (z : m ≡ 0) where
+  pub leads_seven : (s : ℕ) → s ≡ state 0 0 (4 - m) 1 → get_or row s 0 < get_or row 77 0 → Leads t d m 77
   leads_seven s q i = record {
     from = seven z refl;
     low = omega arith;
-    first = rw (← q) (omega (arith, filled_start t d table s (omega (arith, start_low m)) f, filled_start t d table 77 (omega arith) f));
+    first = rw (← q) (omega (arith, f.values s (omega (arith, start_low m)), f.values 77 (omega arith)));
     second = omega arith;
   }
 
-  pub leads_regular : (s : ℕ) → s ≡ state 0 0 (4 - m) 1 → get_or table 77 0 ≤ get_or table s 0 → Leads t d m s
+  pub leads_regular : (s : ℕ) → s ≡ state 0 0 (4 - m) 1 → get_or row 77 0 ≤ get_or row s 0 → Leads t d m s
   leads_regular s q i = record {
     from = groups q;
     low = omega (arith, start_low m);
     first = rw q (omega arith);
-    second = omega (arith, filled_start t d table s (omega (arith, start_low m)) f, filled_start t d table 77 (omega arith) f);
+    second = omega (arith, f.values s (omega (arith, start_low m)), f.values 77 (omega arith));
   }
 
-  pub top_orphans : (s : ℕ) → Leads t d m s → get_or table s 0 < get_or table 79 0 → Topmost t d m 79
+  pub top_orphans : (s : ℕ) → Leads t d m s → get_or row s 0 < get_or row 79 0 → Topmost t d m 79
   top_orphans s l i =
-      let a = filled_start t d table s l.low f in
-      let b = filled_start t d table 79 (omega arith) f in
+      let a = f.values s l.low in
+      let b = f.values 79 (omega arith) in
       top_of t d m 79 (thirteen z refl) (omega arith) (omega (arith, l.first)) (omega (arith, l.second)) (omega arith)
 
-  pub top_leads : (s : ℕ) → Leads t d m s → get_or table 79 0 ≤ get_or table s 0 → Topmost t d m s
+  pub top_leads : (s : ℕ) → Leads t d m s → get_or row 79 0 ≤ get_or row s 0 → Topmost t d m s
   top_leads s l i =
-      let a = filled_start t d table s l.low f in
-      let b = filled_start t d table 79 (omega arith) f in
+      let a = f.values s l.low in
+      let b = f.values 79 (omega arith) in
       top_of t d m s l.from l.low l.first l.second (omega arith)

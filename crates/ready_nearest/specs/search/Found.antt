@@ -1,5 +1,5 @@
 -- What the functions of the search promise each other. Nobody has to believe it: what is found is stated in `ready`.
-use Rattle.std.specs.Prelude.{◌≡◌, true, List, ℕ, ◌+◌, ◌-◌, ◌*◌, ◌/◌, ◌%◌, ◌≤◌, ◌<◌, min, length, get_or}
+use Rattle.std.specs.Prelude.{◌≡◌, true, List, [], ℕ, ◌+◌, ◌-◌, ◌≤◌, ◌<◌, min, length, get_or}
 use Rattle.tiles.specs.Below.{sum_below}
 use Rattle.reading.specs.search.Readings.{less}
 use Rattle.ready_nearest.specs.declared.Choice.{Choice}
@@ -30,26 +30,26 @@ pub record Pairs (e x : ℕ) : Type 0 where
   pub triplets : (y_of e ≡ 0) × (y_of (e + 1) ≡ 0)
   pub pair : (z_of e ≡ 0) × (z_of (e + 1) ≡ 1)
 
--- the values of the states at the kind after k, in a table
-abbrev pub after : List ℕ → ℕ → ℕ → ℕ
-after table k r = get_or table (80 * (k + 1) + r) 0
-
--- the value at a place of the table: 80 k + s for the state s at the kind k
-unfoldable pub best_at : List ℕ → List ℕ → ℕ → ℕ
-best_at t d j = best t d (34 - j / 80) (j / 80) (j % 80)
+-- the values of the states, in the row of a kind
+abbrev pub after : List ℕ → ℕ → ℕ
+after row r = get_or row r 0
 
 -- no value is over 200
 abbrev pub Small : List ℕ → Type 0
-Small table = (j : ℕ) → get_or table j 0 ≤ 200
+Small row = (s : ℕ) → get_or row s 0 ≤ 200
 
 -- no kind over four
 abbrev pub Fours : List ℕ → Type 0
 Fours t = (k : ℕ) → get_or t k 0 ≤ 4
 
+-- the row has the values at the kind k
+pub record RowOf (t d : List ℕ) (k : ℕ) (row : List ℕ) : Type 0 where
+  pub long : length row ≡ 80
+  pub values : (s : ℕ) → s < 80 → get_or row s 0 ≡ best t d (34 - k) k s
+
 -- the table has the values
-pub record Filled (t d table : List ℕ) : Type 0 where
-  pub values : (j : ℕ) → j < 2800 → get_or table j 0 ≡ best_at t d j
-  pub small : Small table
+abbrev pub Filled : List ℕ → List ℕ → List (List ℕ) → Type 0
+Filled t d table = (k : ℕ) → k < 35 → RowOf t d k (get_or table k [])
 
 -- w takes the best choices from the state start
 pub record Walked (t d : List ℕ) (start : ℕ) (w : List ℕ) : Type 0 where

@@ -12,8 +12,7 @@ use Rattle.std.proofs.Math.IntN.{pos}
 use Rattle.tiles.proofs.laws.Below.{cond_le}
 use Rattle.hand.specs.declared.Hand.{Hand}
 use Rattle.hand.specs.Hand.{is_ron}
-use Rattle.hand_record.specs.declared.Answer.{Answer}
-use Rattle.hand_record.specs.declared.Answer.TheVariants.{Sound, Refused}
+use Rattle.hand_record.specs.Record.{Answer, Sound, Refused}
 use Rattle.hand_record.specs.Record.{refusal_in, hand_of, read_of}
 use Rattle.hand_record.proofs.laws.Bounds.{read_bounds}
 use Rattle.points.specs.declared.Seats.{Seats}

@@ -3,8 +3,7 @@ use Rattle.std.specs.Prelude.{ℕ, ◌<◌, ◌≤◌, ◌≡◌, Bool, true, fa
 use Rattle.std.proofs.Common.{arith, sym, ap, ◌∙◌, subst, inl, inr, ⊎_elim, ltb-true, ltb-false}
 use Rattle.std.proofs.Math.Path.{refl}
 use Rattle.hand.specs.declared.Fields.{Fields}
-use Rattle.hand_record.specs.declared.Answer.{Answer}
-use Rattle.hand_record.specs.declared.Answer.TheVariants.{Sound, Refused}
+use Rattle.hand_record.specs.Record.{Answer, Sound, Refused}
 use Rattle.hand_record.specs.Record.{refusal_in, hand_of, read_of}
 use Rattle.hand_record.proofs.laws.Bounds.{refused_number}
 use Rattle.score.specs.declared.Scored.{Scored}

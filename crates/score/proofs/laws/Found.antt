@@ -7,9 +7,7 @@ use mathlib.Core.List.{List, [], ◌∷◌}
 use Rattle.hand.specs.declared.Fields.{Fields}
 use Rattle.hand.specs.declared.Hand.{Hand}
 use Rattle.hand.specs.Hand.{is_ron, concealed_tally}
-use Rattle.hand_record.specs.declared.Answer.{Answer}
-use Rattle.hand_record.specs.declared.Answer.TheVariants.{Sound, Refused}
-use Rattle.hand_record.specs.declared.HandRead.{HandRead}
+use Rattle.hand_record.specs.Record.{Answer, Sound, Refused, HandRead}
 use Rattle.hand_record.specs.Record.{refusal_in, hand_of, read_of}
 use Rattle.hand_record.proofs.laws.Bounds.{answer_is, hand_is, refused_number}
 use Rattle.reading.specs.declared.Reading.{Reading}

@@ -3,7 +3,7 @@ use Rattle.std.specs.Prelude.{ℕ, ◌≤◌, ◌<◌, ◌≡◌, List, ◌⊎�
 use Rattle.std.proofs.Common.{sym, ap}
 use Rattle.hand.specs.declared.Hand.{Hand}
 use Rattle.hand.specs.Refusals.{unwritable}
-use Rattle.hand_record.specs.declared.HandRead.{HandRead}
+use Rattle.hand_record.specs.Record.{HandRead}
 use Rattle.hand_record.specs.Record.{record_of, IsHand}
 use Rattle.hand_record.proofs.laws.Round.{same_hand}
 use Rattle.score.specs.declared.Scored.{Scored}

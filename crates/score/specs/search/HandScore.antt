@@ -2,8 +2,7 @@
 use Rattle.std.specs.Prelude.{Bool, ◌||◌, cond, List, ℕ, ltb}
 use Rattle.hand.specs.declared.Hand.{Hand}
 use Rattle.hand.specs.Hand.{is_ron, concealed_tally}
-use Rattle.hand_record.specs.declared.Answer.{Answer}
-use Rattle.hand_record.specs.declared.Answer.TheVariants.{Sound, Refused}
+use Rattle.hand_record.specs.Record.{Answer, Sound, Refused}
 use Rattle.hand_record.specs.Record.{hand_of, read_of}
 use Rattle.points.specs.declared.Seats.{Seats}
 use Rattle.score_best.specs.declared.Best.{Best}

@@ -1,9 +1,11 @@
 -- `score_readings::count` meets its contract: seats, record, then the hand.
 use borrow.Author.Rules.{rules}
+use mathlib.Core.Path.{ap, ◌∙◌}
 use borrow.Author.Tests.{ltb-false}
 use lib.Dec.{ltb}
 use Rattle.tiles.proofs.laws.Below.{or_both}
-use Rattle.hand_record.proofs.laws.Bounds.{hand_bounds}
+use Rattle.hand_record.specs.Record.{answer_of, numbered}
+use Rattle.hand_record.proofs.laws.Bounds.{hand_bounds, number_is}
 use Rattle.score_readings.proofs.laws.Found.{count_eight, count_refused, count_sound}
 use Rattle.score_readings.proofs.count.Statement.{statement}
 use Rattle.score_readings.proofs.count.Tie as tie
@@ -17,16 +19,16 @@ count_spec =
     (λ c.
     let told = c.before in let r = told.before in
     let else1 = r.before in let a = else1.before.before.args in
-    count_refused a.s.now a.dealer a.wind r.read-r.result else1.if-dealer-wind.false r.read-r.ensures
-    _ c.refusal.result told.in_default.is c.refusal.ensures)
+    count_refused a.s.now a.dealer a.wind (numbered r.read-r.result) else1.if-dealer-wind.false r.read-r.ensures
+    _ c.number.result (ap answer_of told.in_default.is) (c.number.ensures.0 ∙ number_is _))
     (λ c κs.
     let sound = c.before in let r = sound.before in
     let else1 = r.before in let a = else1.before.before.args in
     let q = or_both (ltb 3 a.dealer) (ltb 1 a.wind) else1.if-dealer-wind.false in
-    let b = hand_bounds a.s.now r.read-r.result r.read-r.ensures _ sound.in-Sound.is in
+    let b = hand_bounds a.s.now (numbered r.read-r.result) r.read-r.ensures _ (ap answer_of sound.in-Ok.is) in
     (b.few, b.winner, ltb-false 3 a.dealer q.0, ltb-false 1 a.wind q.1))
     (λ c.
     let held = c.before in let sound = held.before in let r = sound.before in
     let else1 = r.before in let a = else1.before.before.args in
-    count_sound a.s.now a.dealer a.wind r.read-r.result else1.if-dealer-wind.false r.read-r.ensures
-    _ c.count_hand.result sound.in-Sound.is c.count_hand.ensures))
+    count_sound a.s.now a.dealer a.wind (numbered r.read-r.result) else1.if-dealer-wind.false r.read-r.ensures
+    _ c.count_hand.result (ap answer_of sound.in-Ok.is) c.count_hand.ensures))

@@ -10,8 +10,7 @@ use Rattle.hand.specs.declared.Fields.{Fields}
 use Rattle.hand.specs.declared.Hand.{Hand}
 use Rattle.hand.specs.Held.{is_closed}
 use Rattle.hand.specs.Hand.{is_ron, hand_tally}
-use Rattle.hand_record.specs.declared.Answer.{Answer}
-use Rattle.hand_record.specs.declared.Answer.TheVariants.{Sound, Refused}
+use Rattle.hand_record.specs.Record.{Answer, Sound, Refused}
 use Rattle.hand_record.specs.Record.{refusal_in, hand_of, read_of, IsSound}
 use Rattle.hand_record.proofs.Claims.{sound}
 use Rattle.hand_record.proofs.laws.Bounds.{read_bounds, refused_number}

@@ -7,8 +7,7 @@ use borrow.Author.Tests.{ltb-true, ltb-false, eqb-true, eqb-false}
 use Rattle.std.proofs.Math.Dec.{ltb, eqb}
 use Rattle.hand.specs.declared.Fields.{Fields}
 use Rattle.hand.specs.declared.Hand.{Hand}
-use Rattle.hand_record.specs.declared.Answer.{Answer}
-use Rattle.hand_record.specs.declared.Answer.TheVariants.{Sound, Refused}
+use Rattle.hand_record.specs.Record.{Answer, Sound, Refused}
 use Rattle.hand_record.specs.Record.{refusal_in, hand_of, read_of}
 use Rattle.hand_record.proofs.laws.Bounds.{read_bounds, refused_number}
 use Rattle.reading.specs.declared.Reading.{Reading}

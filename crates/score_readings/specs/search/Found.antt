@@ -1,8 +1,7 @@
 -- How the code finds the n-th reading: by two searches, for it and for the best. What it finds is stated by `IsNth`.
 use Rattle.std.specs.Prelude.{Bool, ◌&&◌, ◌||◌, cond, List, ℕ, eqb, ltb, length, get_or}
 use Rattle.hand.specs.declared.Hand.{Hand}
-use Rattle.hand_record.specs.declared.Answer.{Answer}
-use Rattle.hand_record.specs.declared.Answer.TheVariants.{Sound, Refused}
+use Rattle.hand_record.specs.Record.{Answer, Sound, Refused}
 use Rattle.hand_record.specs.Record.{hand_of, read_of}
 use Rattle.reading.specs.declared.Reading.{Reading}
 use Rattle.yaku.specs.Yaku.{value_han_of}

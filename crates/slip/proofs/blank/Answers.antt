@@ -1,19 +1,12 @@
-use Rattle.std.proofs.Common.{◌≡◌, length-set, ◌∙◌, arith}
-use Rattle.std.proofs.lemmas.List.Edits.{fill_more}
+-- The 24 bytes before the last are filled, and the last is set.
+use Rattle.std.proofs.Common.{◌≡◌, ◌++◌, length, take, drop, ap, ◌∙◌, arith, length-take-le, List, ℕ, set}
+use Rattle.slip.specs.Line.{spaces}
 use Rattle.slip.proofs.laws.Line.{line_feed_last}
 use Rattle.slip.proofs.blank.Goals as goal
 
-pub loop-i-preserved : goal.loop-i-preserved
-loop-i-preserved c =
-    let l = c.loop-i in
-    let w = c.args.line.now in (
-      omega arith,
-      length-set l.line l.i 32 ∙ l.invariant.1,
-      rw l.invariant.2 (fill_more l.i 32 w (omega arith)),
-    )
-
 pub returns : goal.returns
 returns c =
-    let l = c.loop-i in
-    let e : l.i ≡ 24 = omega arith in
-    rw (l.invariant.2, e) (line_feed_last c.args.line.now c.requires)
+    let line = c.args.line.now in
+    let long : length (take 24 line) ≡ 24 = length-take-le 24 line (omega arith) in
+    let filled : c.fill.new.self ≡ spaces 24 = c.fill.ensures.after (λ y h. h) ∙ ap spaces long in
+    ap (λ (l : List ℕ). set (l ++ drop 24 line) 24 10) filled ∙ line_feed_last line c.requires

@@ -9,4 +9,4 @@ pub returns : goal.returns
 unfolding labels signed_of
 returns c =
     let small : c.args.fu.0 < 2 ^ 31 = search rules in
-    rw (to_z_pos w32 c.args.fu.0 small) at c.put_number.ensures
+    rw (c.from.ensures, to_z_pos w32 c.args.fu.0 small) at c.put_number.ensures

@@ -13,4 +13,4 @@ pub returns : goal.returns
 unfolding labels signed_of
 returns c =
     let small : c.args.h.0 < 2 ^ 31 = search rules in
-    rw c.if-yakuman.false (rw (to_z_pos w32 c.args.h.0 small) at c.put_number.ensures)
+    rw c.if-yakuman.false (rw (c.from.ensures, to_z_pos w32 c.args.h.0 small) at c.put_number.ensures)

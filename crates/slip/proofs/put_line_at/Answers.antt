@@ -1,5 +1,5 @@
 -- Line 0, line 1, and those of the seats.
-use Rattle.std.proofs.Common.{Bool, cond, [], get_or, sym, ap, ◌∙◌}
+use Rattle.std.proofs.Common.{Bool, cond, [], get_or, sym, ap, ◌∙◌, arith}
 use Rattle.text.specs.Text.{digits_of}
 use Rattle.text.specs.Words.{bytes_of}
 use Rattle.slip.specs.Line.{slip_line, labels}
@@ -7,17 +7,17 @@ use Rattle.slip.specs.Slip.{line_at}
 use Rattle.slip.proofs.laws.Lines.{line_han, line_fu, line_seat}
 use Rattle.slip.proofs.put_line_at.Goals as goal
 
-pub returns-then-k-eq0 : goal.returns-then-k-eq0
-returns-then-k-eq0 c =
+pub returns-in-0 : goal.returns-in-0
+returns-in-0 c =
     let a = c.args.a in
     c.put_han.ensures
     ∙ ap (λ (y : Bool). slip_line (get_or labels 0 []) (cond y (bytes_of "YAKUMAN") (digits_of a.h.0))) c.is_yakuman.ensures
-    ∙ line_han a ∙ ap (line_at a) (sym c.if-k-eq0.true)
+    ∙ line_han a ∙ ap (line_at a) (sym c.in-0.is)
 
-pub returns-then-k-eq1 : goal.returns-then-k-eq1
-returns-then-k-eq1 c =
-    c.put_fu.ensures ∙ line_fu c.args.a c.requires.fu_value ∙ ap (line_at c.args.a) (sym c.if-k-eq1.true)
+pub returns-in-1 : goal.returns-in-1
+returns-in-1 c =
+    c.put_fu.ensures ∙ line_fu c.args.a c.requires.fu_value ∙ ap (line_at c.args.a) (sym c.in-1.is)
 
-pub returns : goal.returns
-returns c =
-    c.put_seat.ensures ∙ line_seat c.args.a c.args.k c.if-k-eq0.false c.if-k-eq1.false c.requires.line_len.1
+pub returns-in_default : goal.returns-in_default
+returns-in_default c =
+    c.put_seat.ensures ∙ line_seat c.args.a c.args.k (λ e. omega arith) (λ e. omega arith) c.requires.line_len.1

@@ -1,12 +1,16 @@
-use Rattle.std.proofs.Common.{arith}
-use Rattle.text.proofs.laws.Put.{put_then}
-use Rattle.speech_phrases.proofs.laws.Put.{put_as}
-use Rattle.speech_fu.proofs.laws.Items.{items_of}
+use Rattle.std.proofs.Common.{append-nil, append_assoc, add-one, arith, ◌≡◌, ◌∙◌}
+use Rattle.speech_fu.proofs.laws.Items.{first_items, ten_items}
 use Rattle.speech_fu.proofs.put_items.Goals as goal
 
-pub returns : goal.returns
-returns c =
-    let first = c.put_first-i.ensures in
-    let groups = c.put_groups-j.ensures in
-    let last = c.put_last.ensures in
-    (put_as (items_of c.args.language c.args.x) (put_then first.0 (put_then groups.0 last.0)), omega (arith, first.1, groups.1, last.1))
+pub loop-k-init : goal.loop-k-init
+unfolding first_items
+loop-k-init c = record { added = rw append-nil; few = omega arith }
+
+pub loop-k-preserved : goal.loop-k-preserved
+unfolding first_items
+loop-k-preserved c = record { added = rw (c.put_counted.ensures.added, c.from.ensures, c.loop-k.invariant.added, add-one, append_assoc); few = omega arith }
+
+pub returns-clause-added : goal.returns-clause-added
+returns-clause-added c =
+    let k : c.loop-k.k ≡ 10 = omega arith in
+    c.loop-k.invariant.added ∙ rw (k, ten_items c.args.language c.args.x)

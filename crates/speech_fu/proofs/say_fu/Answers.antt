@@ -1,7 +1,6 @@
 use Rattle.std.specs.Prelude.{not}
-use Rattle.std.proofs.Common.{arith, ◌∙◌}
+use Rattle.std.proofs.Common.{◌∙◌}
 use Rattle.std.proofs.Math.Path.{ap}
-use Rattle.text.proofs.laws.Put.{take_put}
 use Rattle.score.specs.declared.Scored.{Scored}
 use Rattle.speech_told.specs.Messages.{fu_message}
 use Rattle.speech_score.proofs.laws.Said.{unknown_by, refused_by, given_by}
@@ -18,5 +17,5 @@ returns-then-a-gt0 c =
 pub returns : goal.returns
 returns c =
     given_by _ _ _ _ c.is_known.ensures (ap not c.if-not-is_known.false) (ap (λ (x : Scored). x.refusal) c.score-a.ensures.value) c.if-a-gt0.false
-    (take_put c.put_fu-n.ensures.0 (omega (arith, c.put_fu-n.ensures.1)) ∙ ap (fu_message _) c.score-a.ensures.value) c.give.ensures.value
+    (c.as_slice.ensures ∙ c.message.ensures.value ∙ ap (fu_message _) c.score-a.ensures.value) c.give.ensures.value
     c.give.ensures.buf_after

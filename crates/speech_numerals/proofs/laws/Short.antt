@@ -129,7 +129,7 @@ scaled_none : (l c x : ℕ) → x % 10000 ≡ 0 → length (scaled_four l c x) �
 unfolding scaled_four
 scaled_none l c x e = rw e
 
-eastern_short : (l n : ℕ) → n < 4294967296 → length (eastern_of l n) ≤ 12
+pub eastern_short : (l n : ℕ) → n < 4294967296 → length (eastern_of l n) ≤ 12
 unfolding eastern_of
 eastern_short l n h = rw (length-append, length-append) (go (eqb (n / 10000 % 10000) 0) refl)
   where
@@ -177,7 +177,7 @@ three_scaled c g k h = go (eqb g 0)
     go true = omega arith
     go false = rw length-append (omega arith)
 
-english_short : (n : ℕ) → n < 4294967296 → length (english_of n) ≤ 13
+pub english_short : (n : ℕ) → n < 4294967296 → length (english_of n) ≤ 13
 unfolding english_of
 english_short n h =
     rw (length-append, length-append, length-append)

@@ -1,16 +1,12 @@
-use Rattle.text.proofs.laws.Put.{put_none, put_after}
-use Rattle.speech_numerals.proofs.laws.Put.{numeral_zero, numeral_english, numeral_eastern, put_numeral}
+-- The groups take 13 clips at most, whatever room their parts are given.
+use Rattle.std.proofs.Common.{ap, length, arith, length-append}
+use Rattle.speech_numerals.proofs.laws.Short.{english_short, eastern_short}
 use Rattle.speech_numerals.proofs.number.Goals as goal
 
-pub returns-then-n-eq0 : goal.returns-then-n-eq0
-returns-then-n-eq0 c =
-    put_numeral c.args.language c.args.n (numeral_zero c.args.language c.args.n c.if-n-eq0.true) c.ranges.n.fits
-    (put_after 0 (put_none c.args.buf.now c.args.at))
+pub returns-in_default-eq2-clause-few : goal.returns-in_default-eq2-clause-few
+returns-in_default-eq2-clause-few g c =
+    omega (arith, english_short c.args.n c.ranges.n.fits, simp length-append at (ap length c.english.ensures))
 
-pub returns-then-language-eq2 : goal.returns-then-language-eq2
-returns-then-language-eq2 c =
-    put_numeral c.args.language c.args.n (numeral_english c.args.language c.args.n c.if-n-eq0.false c.if-language-eq2.true) c.ranges.n.fits c.english.ensures
-
-pub returns : goal.returns
-returns c =
-    put_numeral c.args.language c.args.n (numeral_eastern c.args.language c.args.n c.if-n-eq0.false c.if-language-eq2.false) c.ranges.n.fits c.eastern.ensures
+pub returns-in_default-clause-few : goal.returns-in_default-clause-few
+returns-in_default-clause-few g c =
+    omega (arith, eastern_short c.args.language c.args.n c.ranges.n.fits, simp length-append at (ap length c.eastern.ensures))

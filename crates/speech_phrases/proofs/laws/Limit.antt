@@ -1,14 +1,10 @@
 -- Where a limit is paid, by the fu that it takes at each h.
-use Rattle.std.specs.Prelude.{◌≡◌, refl, true, false, cond, [], ◌∷◌, ℕ, ◌*◌, ◌≤◌, ◌<◌, ltb}
+use Rattle.std.specs.Prelude.{◌≡◌, true, false, ℕ, ◌*◌, ◌≤◌, ◌<◌, ltb}
 use Rattle.std.proofs.Common.{arith}
-use borrow.Author.Tests.{lt-ltb, le-ltb, ltb-true, le-leb, lt-leb}
+use borrow.Author.Tests.{lt-ltb, le-ltb, ltb-true, le-leb}
 use Rattle.points.specs.Points.{plain}
 use Rattle.tiles.proofs.laws.Below.{both_ways}
-use Rattle.speech_told.specs.Phrases.{is_limit, limit_clip, limit_clips}
-
-pub limit_clips_lem : (h fu : ℕ) → limit_clips h fu ≡ cond (is_limit h fu) (limit_clip h ∷ []) []
-unfolding limit_clips is_limit limit_clip
-limit_clips_lem h fu = refl
+use Rattle.speech_told.specs.Phrases.{is_limit}
 
 -- A exceeds 2,000 where fu exceeds q, if a times fu does
 over : (a q fu : ℕ) → (2000 < fu * a → q < fu) → (q < fu → 2000 < fu * a) → ltb q fu ≡ ltb 2000 (fu * a)
@@ -38,19 +34,3 @@ module _ (h fu : ℕ) where
   pub limit_0 : h ≡ 0 → fu < 256 → false ≡ is_limit h fu
   unfolding is_limit plain
   limit_0 e f = rw (e, le-ltb 2000 (fu * 4) (omega arith))
-
-  pub clip_5 : h ≤ 5 → 71 ≡ limit_clip h
-  unfolding limit_clip
-  clip_5 g = rw (le-leb h 5 g)
-
-  pub clip_7 : 5 < h → h ≤ 7 → 72 ≡ limit_clip h
-  unfolding limit_clip
-  clip_7 f g = rw (lt-leb h 5 f, le-leb h 7 g)
-
-  pub clip_10 : 7 < h → h ≤ 10 → 73 ≡ limit_clip h
-  unfolding limit_clip
-  clip_10 f g = rw (lt-leb h 5 (omega arith), lt-leb h 7 f, le-leb h 10 g)
-
-  pub clip_11 : 10 < h → 74 ≡ limit_clip h
-  unfolding limit_clip
-  clip_11 f = rw (lt-leb h 5 (omega arith), lt-leb h 7 (omega arith), lt-leb h 10 f)

@@ -1,16 +1,10 @@
+use Rattle.std.proofs.Common.{◌≡◌, ◌++◌, ◌∙◌, List, ℕ, ap, length, rules}
 use Rattle.speech_told.specs.Phrases.{yaku_clips}
-use Rattle.speech_phrases.proofs.Written.{none, one, skip, all}
+use Rattle.speech_phrases.proofs.laws.Chosen.{chosen_behind_one}
 use Rattle.speech_phrases.proofs.put_yaku.Goals as goal
 
-pub loop-k-init : goal.loop-k-init
-loop-k-init c = none _ _ _ _ _
-
-pub loop-k-preserved-then-y-k : goal.loop-k-preserved-then-y-k
-loop-k-preserved-then-y-k c = one _ _ _ _ _ c.loop-k.invariant c.loop-k-test.true c.if-y-k.true
-
-pub loop-k-preserved : goal.loop-k-preserved
-loop-k-preserved c = skip _ _ _ _ _ c.loop-k.invariant c.loop-k-test.true c.if-y-k.false
-
-pub returns : goal.returns
+pub returns-clause-added : goal.returns-clause-added
 unfolding yaku_clips
-returns c = all _ _ _ _ _ c.loop-k.invariant c.loop-k-test.false
+returns-clause-added g c =
+    let wide : length c.args.yaku ≡ 37 = search rules in
+    c.put_set.ensures.added ∙ ap (λ (l : List ℕ). c.args.clips.now ++ l) (chosen_behind_one 141 36 c.args.yaku wide)

@@ -11,8 +11,6 @@ use Rattle.hand_record.specs.Record.{read_hand_of}
 use Rattle.yaku.specs.Yaku.{is_yakuman}
 use Rattle.score.specs.declared.Scored.{Scored}
 use Rattle.score.specs.Score.{score_of}
-use Rattle.text.specs.Put.{Put}
-use Rattle.text.proofs.laws.Put.{take_put}
 use Rattle.speech_told.specs.Phrases.{player, yaku_clips, worth_clips, amount_clips, payments_clips}
 use Rattle.speech_told.proofs.laws.Told.{read_winner}
 use Rattle.speech_score.specs.declared.Said.{Said}
@@ -57,13 +55,6 @@ module _ (l n : ℕ) (m old : List ℕ) {r : Said} where
       → Answers l n m old r new
   given_by e t x h q p b =
       given l n m old (sym e ∙ not-false _ t) (omega arith) (p ∙ ap (λ (y : List ℕ). given_of y old) q) (b ∙ ap (λ (y : List ℕ). buffer_of y old) q)
-
--- what was put into the work buffer and lent out of it
-pub put_long : {old text new : List ℕ} {r : ℕ} → Put old 0 text new r → r ≤ length old → r ≡ length (take r new)
-put_long {old} {text} {new} {r} p h = rw (take_put p h) (omega (arith, p.place))
-
-pub put_fits : {old text new : List ℕ} {r n : ℕ} → Put old 0 text new r → r ≤ length old → r ≤ n → length (take r new) ≤ n
-put_fits p h g = omega (arith, put_long p h)
 
 -- ---- a score
 

@@ -1,7 +1,6 @@
 use Rattle.std.specs.Prelude.{not}
-use Rattle.std.proofs.Common.{arith, ◌∙◌}
+use Rattle.std.proofs.Common.{◌∙◌}
 use Rattle.std.proofs.Math.Path.{ap}
-use Rattle.text.proofs.laws.Put.{take_put}
 use Rattle.score.specs.declared.Scored.{Scored}
 use Rattle.speech_score.proofs.laws.Said.{unknown_by, refused_by, given_by, score_said_lem, winner_le}
 use Rattle.speech_score.proofs.say_score.Goals as goal
@@ -14,12 +13,11 @@ returns-then-a-gt0 c =
     refused_by _ _ _ _ c.is_known.ensures (ap not c.if-not-is_known.false) (ap (λ (x : Scored). x.refusal) c.score-a.ensures.value) c.if-a-gt0.true
     c.refused-then-a-gt0.ensures
 
-pub put_scored-n-requires : goal.put_scored-n-requires
-put_scored-n-requires c = (omega arith, winner_le _ _ c.read_hand-r.ensures)
+pub message-clips-requires : goal.message-clips-requires
+message-clips-requires c = winner_le _ _ c.read_hand.ensures
 
 pub returns : goal.returns
 returns c =
     given_by _ _ _ _ c.is_known.ensures (ap not c.if-not-is_known.false) (ap (λ (x : Scored). x.refusal) c.score-a.ensures.value) c.if-a-gt0.false
-    (take_put c.put_scored-n.ensures.0 (omega (arith, c.put_scored-n.ensures.1))
-    ∙ score_said_lem _ _ _ _ _ _ c.score-a.ensures.value c.read_hand-r.ensures)
+    (c.as_slice.ensures ∙ c.message-clips.ensures.value ∙ score_said_lem _ _ _ _ _ _ c.score-a.ensures.value c.read_hand.ensures)
     c.give.ensures.value c.give.ensures.buf_after

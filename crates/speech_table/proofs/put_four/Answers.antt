@@ -1,16 +1,19 @@
-use Rattle.std.proofs.Common.{ℕ, arith, to_z-of_z}
-use Rattle.std.specs.Int.{w32}
-use Rattle.bits.proofs.laws.Elem.{elem_sfits}
-use Rattle.text.proofs.laws.Put.{put_then}
-use Rattle.speech_table.specs.Messages.{four_scores}
+use Rattle.std.proofs.Common.{◌≡◌, ◌∙◌, get_or, pos, append-nil, append_assoc, add-one, arith, rules, w32, SFits, to_z-of_z}
+use Rattle.speech_table.proofs.laws.Four.{first_scores, all_four}
 use Rattle.speech_table.proofs.put_four.Goals as goal
 
-pub returns : goal.returns
-unfolding four_scores
-returns c =
-    let fits = λ (k : ℕ). elem_sfits w32 c.args.s c.well_formed.1.1.1.0.0 k c.well_formed.1.1.1.0.1.1 in
-    let d1 = rw (to_z-of_z (fits 0)) at c.put_score-i.ensures.0 in
-    let d2 = rw (to_z-of_z (fits 1)) at c.put_score-j.ensures.0 in
-    let d3 = rw (to_z-of_z (fits 2)) at c.put_score-k.ensures.0 in
-    let d4 = rw (to_z-of_z (fits 3)) at c.put_score.ensures.0 in
-    (put_then d1 (put_then d2 (put_then d3 d4)), omega arith)
+pub loop-seat-init : goal.loop-seat-init
+unfolding first_scores
+loop-seat-init c = record { added = rw append-nil; few = omega arith }
+
+pub loop-seat-preserved : goal.loop-seat-preserved
+unfolding first_scores
+loop-seat-preserved c =
+    let f : SFits w32 (get_or c.args.scores c.loop-seat.seat (pos 0)) = search rules in
+    let said = rw (to_z-of_z f) at c.put_score.ensures.added in
+    record { added = rw (said, c.loop-seat.invariant.added, add-one, append_assoc); few = omega arith }
+
+pub returns-clause-added : goal.returns-clause-added
+returns-clause-added c =
+    let k : c.loop-seat.seat ≡ 4 = omega arith in
+    c.loop-seat.invariant.added ∙ rw (k, all_four c.args.language c.args.dealer c.args.scores)

@@ -1,7 +1,6 @@
 use Rattle.std.specs.Prelude.{not}
-use Rattle.std.proofs.Common.{arith, ◌∙◌}
+use Rattle.std.proofs.Common.{◌∙◌}
 use Rattle.std.proofs.Math.Path.{ap}
-use Rattle.text.proofs.laws.Put.{take_put}
 use Rattle.speech_score.proofs.laws.Said.{unknown_by, refused_by, given_by}
 use Rattle.speech_table.specs.Messages.{ready_message}
 use Rattle.speech_table.proofs.say_ready.Goals as goal
@@ -17,5 +16,5 @@ returns-then-a-gt0 c =
 pub returns : goal.returns
 returns c =
     given_by _ _ _ _ c.is_known.ensures (ap not c.if-not-is_known.false) c.find-a.ensures.refusal_value.0 c.if-a-gt0.false
-    (take_put c.put_ready-n.ensures.0 (omega (arith, c.put_ready-n.ensures.1)) ∙ ap (ready_message _) c.find-a.ensures.refusal_value.1)
+    (c.as_slice.ensures ∙ c.ready_clips.ensures.value ∙ ap (ready_message _) c.find-a.ensures.refusal_value.1)
     c.give.ensures.value c.give.ensures.buf_after

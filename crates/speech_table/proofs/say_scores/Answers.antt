@@ -1,7 +1,6 @@
 use Rattle.std.specs.Prelude.{not}
-use Rattle.std.proofs.Common.{arith, refl}
+use Rattle.std.proofs.Common.{arith, refl, ◌∙◌}
 use Rattle.std.proofs.Math.Path.{ap}
-use Rattle.text.proofs.laws.Put.{take_put}
 use Rattle.speech_score.proofs.laws.Said.{unknown_by, given_by}
 use Rattle.speech_table.proofs.say_scores.Goals as goal
 
@@ -11,4 +10,4 @@ returns-then-not-is_known c = unknown_by _ _ _ _ c.is_known.ensures (ap not c.if
 pub returns : goal.returns
 returns c =
     given_by _ _ _ _ c.is_known.ensures (ap not c.if-not-is_known.false) refl (omega arith)
-    (take_put c.put_scores-n.ensures.0 (omega (arith, c.put_scores-n.ensures.1))) c.give.ensures.value c.give.ensures.buf_after
+    (c.as_slice.ensures ∙ c.scores_clips.ensures.value) c.give.ensures.value c.give.ensures.buf_after

@@ -1,7 +1,6 @@
 use Rattle.std.specs.Prelude.{not}
-use Rattle.std.proofs.Common.{arith, ◌∙◌}
+use Rattle.std.proofs.Common.{◌∙◌}
 use Rattle.std.proofs.Math.Path.{ap}
-use Rattle.text.proofs.laws.Put.{take_put}
 use Rattle.waits.specs.declared.Waits.{Waits}
 use Rattle.speech_score.proofs.laws.Said.{unknown_by, refused_by, given_by}
 use Rattle.speech_table.specs.Messages.{waits_message}
@@ -18,5 +17,5 @@ returns-then-a-gt0 c =
 pub returns : goal.returns
 returns c =
     given_by _ _ _ _ c.is_known.ensures (ap not c.if-not-is_known.false) (ap (λ (x : Waits). x.refusal) c.find-a.ensures.value) c.if-a-gt0.false
-    (take_put c.put_waits-n.ensures.0 (omega (arith, c.put_waits-n.ensures.1)) ∙ ap waits_message c.find-a.ensures.value) c.give.ensures.value
+    (c.as_slice.ensures ∙ c.waits_clips.ensures.value ∙ ap waits_message c.find-a.ensures.value) c.give.ensures.value
     c.give.ensures.buf_after

@@ -8,8 +8,7 @@ use Rattle.tiles.specs.Below.{any}
 use Rattle.tiles.specs.Kinds.{dora_of}
 use Rattle.hand.specs.declared.Hand.{Hand}
 use Rattle.hand.specs.Hand.{is_ron}
-use Rattle.hand_record.specs.declared.Answer.{Answer}
-use Rattle.hand_record.specs.declared.Answer.TheVariants.{Sound, Refused}
+use Rattle.hand_record.specs.Record.{Answer, Sound, Refused}
 use Rattle.hand_record.specs.Record.{hand_of, read_of, fields_of, refusal_in}
 use Rattle.hand_record.proofs.laws.Bounds.{read_bounds}
 use Rattle.yaku.specs.Yaku.{is_yakuman}

@@ -46,6 +46,9 @@ length_below_power (suc k) n h = length_tenth n (suc k) (ltb n 10) refl (length_
 pub length_digits_32 : (n : ℕ) → n < 2 ^ 32 → length (digits_of n) ≤ 10
 length_digits_32 n h = length_below_power 9 n (omega arith)
 
+pub length_tenth_32 : (n : ℕ) → n < 2 ^ 32 → length (digits_of (n / 10)) ≤ 9
+length_tenth_32 n h = length_below_power 8 (n / 10) (omega arith)
+
 -- with a sign
 pub signed_negative : (z : ℤ) → lt_z z (pos 0) ≡ true → signed_of z ≡ 45 ∷ digits_of (nat_abs z)
 unfolding signed_of
@@ -61,3 +64,6 @@ pub length_signed_32 : (z : ℤ) → SFits w32 z → length (signed_of z) ≤ 11
 unfolding signed_of
 length_signed_32 (pos n) f = omega (arith, length_below_power 9 n (omega (arith, f.sfits)))
 length_signed_32 (negsuc n) f = omega (arith, length_below_power 9 (suc n) (omega (arith, f.sfits)))
+
+-- what `digits` goes by: one digit, or one more than those of the tenth, which are nine at most
+pub ruleset by_tenths = (digits_one, digits_more, length_tenth_32, length-append)

@@ -18,7 +18,7 @@ use Rattle.hand_record.specs.Record.{held_by, none_held}
 use Rattle.hand_record.specs.search.Offsets.{melds_of, tiles_of, held_in}
 use Rattle.hand_record.proofs.laws.Offsets.{melds_length, tiles_length}
 use Rattle.hand_record.proofs.laws.Fill.{fill_past, unused_of}
-use Rattle.unfinished.specs.declared.Unfinished.{Unfinished}
+use Rattle.unfinished.specs.Unfinished.{Unfinished}
 use Rattle.unfinished.specs.Unfinished.{count_in, held_of, padding_of, wrong_length, held_refusal, refusal_of, read_of, IsSound}
 use Rattle.unfinished.proofs.laws.Read.{RightLength, length_of_lem, held_at}
 

@@ -11,16 +11,14 @@ unfolding count_in
 count s m e = e
 
 pub returns-then-n-eq0 : goal.returns-then-n-eq0
-returns-then-n-eq0 c = c.refused.ensures ∙ read_not _ (λ f. omega (arith, f.some))
+returns-then-n-eq0 c = read_not _ (λ f. omega (arith, f.some))
 
 pub returns-then-m-gt4 : goal.returns-then-m-gt4
-returns-then-m-gt4 c =
-    c.refused-then-m-gt4.ensures ∙ read_not _ (λ f. omega (arith, count c.args.s.now c.field-m.result c.field-m.ensures, f.few))
+returns-then-m-gt4 c = read_not _ (λ f. omega (arith, count c.args.s.now c.field-m.result c.field-m.ensures, f.few))
 
 pub returns-then-n-m : goal.returns-then-n-m
 returns-then-n-m c =
-    c.refused-then-n-m.ensures
-    ∙ read_not _ (λ f. c.if-n-m.true (f.right ∙ ap length_of (sym (count c.args.s.now c.field-m.result c.field-m.ensures))))
+    read_not _ (λ f. c.if-n-m.true (f.right ∙ ap length_of (sym (count c.args.s.now c.field-m.result c.field-m.ensures))))
 
 pub returns : goal.returns
 returns c =

@@ -22,7 +22,7 @@ use Rattle.hand_record.proofs.laws.Bounds.{bounds_of}
 use Rattle.reading.specs.declared.Reading.{Reading}
 use Rattle.reading.specs.Reading.{IsReading}
 use Rattle.score.specs.Named.{IsReadingOf}
-use Rattle.unfinished.specs.declared.Unfinished.{Unfinished}
+use Rattle.unfinished.specs.Unfinished.{Unfinished}
 use Rattle.unfinished.specs.Unfinished.{length_of, held_of, refusal_of, read_of}
 use Rattle.unfinished.proofs.laws.Sound.{of_clean, held_is}
 use Rattle.waits.specs.Waits.{with_one, IsWait}

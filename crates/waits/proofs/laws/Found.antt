@@ -1,5 +1,5 @@
 -- The test of a kind holds exactly where it is a wait.
-use Rattle.std.specs.Prelude.{◌≡◌, ◌↔◌, ◌⊎◌, ℕ, zero, suc, ◌+◌, ◌-◌, ◌≤◌, ◌<◌, ltb, eqb, length, get_or, set}
+use Rattle.std.specs.Prelude.{◌≡◌, ◌↔◌, ◌⊎◌, ℕ, suc, ◌+◌, ◌-◌, ◌≤◌, ◌<◌, ltb, eqb, length, get_or, set}
 use Rattle.std.proofs.Math.Path.{refl, sym}
 use Rattle.std.proofs.Common.{◌∙◌, inl, inr, arith, get_or-set_same, get_or-set_other}
 use mathlib.Core.Bool.{Bool, true, false, ◌&&◌, ◌||◌}
@@ -8,10 +8,10 @@ use mathlib.Core.List.{List, [], ◌∷◌, Memᴰ as Member}
 use borrow.Author.Tests.{ltb-true, ltb-false, lt-ltb, eqb-true, eqb-false, eq-eqb}
 use Rattle.std.proofs.Math.ListN.{length-set, get_or-eq_default}
 use Rattle.std.proofs.Math.Seq.{ext_get_or}
-use Rattle.tiles.specs.Below.{any_below}
+use Rattle.std.specs.List.{list_any}
 use Rattle.tiles.specs.Groups.{at_kind}
 use Rattle.tiles.specs.Tally.{tally_of, more}
-use Rattle.tiles.proofs.laws.Below.{and_true, any_at, any_of}
+use Rattle.tiles.proofs.laws.Below.{and_true}
 use Rattle.tiles.proofs.laws.Tally.{length_tally, get_d_tally}
 use Rattle.tiles.proofs.laws.Tabulate.{length_tabulate, get_d_tabulate}
 use Rattle.hand.specs.declared.Held.{Held}
@@ -24,7 +24,7 @@ use Rattle.reading_splits.specs.search.SplitsInto.{splits_into}
 use Rattle.reading_splits.proofs.laws.SplitsInto.{splits_exactly}
 use Rattle.reading_splits.proofs.laws.Regular.{regular_splits, splits_regular}
 use Rattle.waits.specs.Waits.{with_one, IsWait}
-use Rattle.waits.specs.search.Found.{reads, is_wait, wait_set, some_in}
+use Rattle.waits.specs.search.Found.{reads, is_wait, wait_set}
 
 -- ---- a reading
 
@@ -119,19 +119,15 @@ module _ (x : Held) (t held : List ℕ) (w : List Bool) (l : length t ≡ 34) (e
 
 -- ---- one of a list
 
-member_at : (l : List ℕ) (d : ℕ) → Member d l → (i : ℕ) × (i < length l) × (get_or l i 0 ≡ d)
-member_at [] d x' = elim x' [ ]
-member_at (x ∷ l) d (Member.head e) = (0, omega arith, sym e)
-member_at (x ∷ l) d (Member.tail m) = let r = member_at l d m in (suc r.0, omega (arith, r.1), r.2)
+any_member : (l : List ℕ) (p : ℕ → Bool) → list_any p l ≡ true → (d : ℕ) × Member d l × (p d ≡ true)
+any_member [] p e = absurd (mathlib.Core.Bool.false≢true e)
+any_member (x ∷ l) p e =
+    ⊎_elim (λ h. (x, Member.head refl, h)) (λ h. let r = any_member l p h in (r.0, Member.tail r.1, r.2)) (or_either (p x) (list_any p l) e)
 
-at_member : (l : List ℕ) (i : ℕ) → i < length l → Member (get_or l i 0) l
-at_member [] i h = absurd (omega arith)
-at_member (x ∷ l) zero h = Member.head refl
-at_member (x ∷ l) (suc i) h = Member.tail (at_member l i (omega arith))
+member_any : (l : List ℕ) (p : ℕ → Bool) (d : ℕ) → Member d l → p d ≡ true → list_any p l ≡ true
+member_any [] p d m e = elim m [ ]
+member_any (x ∷ l) p d (Member.head q) e = rw (← q, e)
+member_any (x ∷ l) p d (Member.tail m) e = or_right (p x) _ (member_any l p d m e)
 
-pub some_in_exactly : (l : List ℕ) (p : ℕ → Bool) → (some_in l p ≡ true) ↔ ((d : ℕ) × Member d l × (p d ≡ true))
-unfolding any_below
-some_in_exactly l p = (
-  λ e. let r = any_at (λ i. p (get_or l i 0)) (length l) e in (get_or l r.0 0, at_member l r.0 r.1, r.2),
-  λ d. let r = member_at l d.0 d.1 in any_of (λ i. p (get_or l i 0)) (length l) r.0 r.1 (rw r.2 d.2),
-)
+pub any_exactly : (l : List ℕ) (p : ℕ → Bool) → (list_any p l ≡ true) ↔ ((d : ℕ) × Member d l × (p d ≡ true))
+any_exactly l p = (any_member l p, λ d. member_any l p d.0 d.1 d.2)

@@ -1,6 +1,8 @@
 -- A tile that makes a pair and groups is of a suit or an honour with tiles over threes, and no more than one other has some: the pair's.
 use Rattle.std.specs.Prelude.{◌≡◌, refl, Bool, true, false, not, List, ltb, eqb, length, get_or, set}
-use Rattle.std.proofs.Common.{sym, ap, ◌∙◌, add-one, arith, lt-ltb, le-ltb, ltb-true, ltb-false, eqb-true, eq-eqb, ne_eqb, length-set, get_or-set_same, get_or-set_other}
+use Rattle.std.proofs.Common.{sym, ap, ◌∙◌, add-one, arith, lt-ltb, le-ltb, ltb-true, ltb-false, eqb-true, eq-eqb, ne_eqb, take, drop, take_all, get_or-drop, length-drop, length-set, get_or-set_same, get_or-set_other}
+use Rattle.std.specs.List.{sum as total, sum_by, count_by}
+use Rattle.std.proofs.lemmas.List.Sums.{sum_by_more}
 use Rattle.std.proofs.Math.Bool.{cond}
 use Rattle.std.proofs.lemmas.Bool.{false≢true, eqb-false}
 use Prim.Native.Nat.{ℕ, zero, suc, ◌+◌, ◌-◌, ◌*◌, ◌/◌, ◌%◌, ◌≤◌, ◌<◌}
@@ -153,34 +155,45 @@ module _ (t : List ℕ) (k n : ℕ) (l : length t ≡ 34) (h : k < 34) where
       go true e = absurd (omega (arith, (makes e).1))
       go false e = e
 
--- the sum of the first c kinds of a suit, and of all nine
-pub suit_more : (t : List ℕ) (s c n : ℕ) → n ≡ sum c (λ i. get_or t (9 * s + i) 0) → n + get_or t (9 * s + c) 0 ≡ sum (c + 1) (λ i. get_or t (9 * s + i) 0)
-suit_more t s c n e = rw add-one (omega arith)
+-- the sum over the first n of a list, by places
+sum_first : {A : Type 0} (f : A → ℕ) (xs : List A) (d : A) (n : ℕ) → n ≤ length xs → sum_by f (take n xs) ≡ sum n (λ i. f (get_or xs i d))
+sum_first f xs d zero h = refl
+sum_first f xs d (suc n) h = rw (← add-one) (sum_by_more f xs n d (omega arith) ∙ rw (sum_first f xs d n (omega arith)) refl)
 
-pub suit_done : (t : List ℕ) (s c n : ℕ) → s < 3 → c ≡ 9 → n ≡ sum c (λ i. get_or t (9 * s + i) 0) → n ≡ of_sort t s
-suit_done t s c n l e q = q ∙ ap (λ (x : ℕ). sum x (λ i. get_or t (9 * s + i) 0)) e ∙ sym (of_suit_lem t s l)
+-- the tiles of n kinds from a on
+total_part : (t : List ℕ) (a n : ℕ) → a + n ≤ length t → total (take n (drop a t)) ≡ sum n (λ i. get_or t (a + i) 0)
+total_part t a n h =
+    sum_first (λ x. x) (drop a t) 0 n (omega (arith, length-drop a t)) ∙ sum_cong (λ i. get_or (drop a t) i 0) (λ i. get_or t (a + i) 0) n (λ i g. get_or-drop a t i 0)
+
+-- no suit has more than its nine kinds can
+pub suit_room : (t : List ℕ) (s n : ℕ) → ((k : ℕ) → get_or t k 0 ≤ 13) → sum n (λ i. get_or t (9 * s + i) 0) ≤ 13 * n
+suit_room t s zero h = omega arith
+suit_room t s (suc n) h = omega (arith, suit_room t s n h, h (9 * s + n))
+
+-- of a suit's: n is how many kinds it has
+pub suit_done : (t : List ℕ) (s n : ℕ) → length t ≡ 34 → s < 3 → n ≡ 9 → total (take n (drop (9 * s) t)) ≡ of_sort t s
+suit_done t s n l h e = rw e (total_part t (9 * s) 9 (omega arith) ∙ sym (of_suit_lem t s h))
+
+pub suit_fits : (t : List ℕ) (s n : ℕ) → length t ≡ 34 → s < 3 → n ≡ 9 → ((k : ℕ) → get_or t k 0 ≤ 13) → total (take n (drop (9 * s) t)) < 256
+suit_fits t s n l h e r = rw (e, total_part t (9 * s) 9 (omega arith)) (omega (arith, suit_room t s 9 r))
 
 pub honour_done : (t : List ℕ) (c : ℕ) → 3 ≤ c → get_or t (24 + c) 0 ≡ of_sort t c
 honour_done t c l = sym (of_honour t c l)
 
--- ---- one suit or honour more is counted
-pub record Counted (t : List ℕ) (c : ℕ) (o : List Bool) (n : ℕ) : Type 0 where
-  pub low : c ≤ 10
-  pub few : n ≤ c
-  pub long : length o ≡ 10
-  pub told : (j : ℕ) → j < c → get_or o j false ≡ is_over t j
-  pub number : n ≡ overs t c
+-- ---- the suits and honours that have some over, the first c of them told
+pub record Told (t : List ℕ) (c : ℕ) (over : List Bool) : Type 0 where
+  pub long : length over ≡ 10
+  pub told : (j : ℕ) → j < c → get_or over j false ≡ is_over t j
 
-pub counted_more : (t : List ℕ) (c n r : ℕ) (o : List Bool) (b : Bool) → c < 10 → b ≡ is_over t c → r ≡ cond b 1 0 → Counted t c o n → Counted t (c + 1)
-    (set o c b) (n + r)
-counted_more t c n r o b l e q h = record {
-  low = omega arith;
-  few = omega (arith, h.few, cond_le b 1 0 1 (omega arith) (omega arith));
-  long = length-set o c b ∙ h.long;
-  told = λ j i. at_place j i (eqb j c) refl;
-  number = rw (add-one, q, e) (omega (arith, h.number));
-}
+pub one_told : (t : List ℕ) (c : ℕ) (over : List Bool) (b : Bool) → c < 10 → b ≡ is_over t c → Told t c over → Told t (c + 1) (set over c b)
+one_told t c over b l e h = record { long = length-set over c b ∙ h.long; told = λ j i. at_place j i (eqb j c) refl }
   where
-    at_place : (j : ℕ) → j < c + 1 → (x : Bool) → eqb j c ≡ x → get_or (set o c b) j false ≡ is_over t j
-    at_place j i true z = let w : j ≡ c = eqb-true j c z in rw w (get_or-set_same o c b false (omega (arith, h.long)) ∙ e)
-    at_place j i false z = let w : j ≡ c → ⊥ = eqb-false j c z in get_or-set_other o c j b false w ∙ h.told j (omega arith)
+    at_place : (j : ℕ) → j < c + 1 → (x : Bool) → eqb j c ≡ x → get_or (set over c b) j false ≡ is_over t j
+    at_place j i true z = let w : j ≡ c = eqb-true j c z in rw w (get_or-set_same over c b false (omega (arith, h.long)) ∙ e)
+    at_place j i false z = let w : j ≡ c → ⊥ = eqb-false j c z in get_or-set_other over c j b false w ∙ h.told j (omega arith)
+
+-- how many there are
+pub all_counted : (t : List ℕ) (over : List Bool) → Told t 10 over → count_by (λ b. b) over ≡ overs t 10
+all_counted t over h =
+    ap (count_by (λ (b : Bool). b)) (sym (take_all 10 over (omega (arith, h.long)))) ∙ sum_first (λ (b : Bool). cond b 1 0) over false 10 (omega (arith, h.long))
+    ∙ sum_cong (λ i. cond (get_or over i false) 1 0) (λ i. cond (is_over t i) 1 0) 10 (λ i g. ap (λ (b : Bool). cond b 1 0) (h.told i g))

@@ -31,7 +31,7 @@ pub loop-k-preserved : goal.loop-k-preserved
 loop-k-preserved c =
     let l = c.loop-k in (
       rw length-set l.invariant.0,
-      one_told c.args.x.m c.others_tally-t.result c.held_tally-held.result l.w l.k c.is_wait.result (omega arith) l.invariant.1 c.is_wait.ensures,
+      one_told c.args.x.m c.others_tally-t.result c.held_tally-held.result l.wait-items l.k c.is_wait.result (omega arith) l.invariant.1 c.is_wait.ensures,
     )
 
 pub returns : goal.returns
@@ -40,4 +40,4 @@ returns c =
     let n : l.k ≡ 34 = omega arith in
     let t = c.others_tally-t in
     let h = c.held_tally-held in
-    all_told c.args.x t.result h.result l.w (search rules) t.ensures h.ensures l.invariant.0 (rw n at l.invariant.1)
+    all_told c.args.x t.result h.result l.wait-items (search rules) t.ensures h.ensures l.invariant.0 (rw n at l.invariant.1)

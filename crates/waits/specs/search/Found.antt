@@ -1,7 +1,10 @@
 -- How the code finds the waits: kind by kind, by a test whether the tiles with one more have a reading. Nobody has to believe it:
 -- that the test holds exactly where the kind is a wait is in laws/Found.
-use Rattle.std.specs.Prelude.{Bool, true, false, ◌&&◌, ◌||◌, cond, List, ℕ, suc, ◌-◌, ltb, eqb, length, get_or}
-use Rattle.tiles.specs.Below.{any_below, tabulate}
+use Rattle.std.specs.Prelude.{Bool, true, false, ◌&&◌, ◌||◌, cond, List, ℕ, suc, ◌-◌, ltb, eqb, get_or, Result, Ok, Err}
+use Rattle.std.specs.List.{list_any}
+use Rattle.refusals.specs.declared.Refusal.{Refusal}
+use Rattle.refusals.specs.Refusal.{number}
+use Rattle.tiles.specs.Below.{tabulate}
 use Rattle.hand.specs.declared.Held.{Held}
 use Rattle.hand.specs.Held.{in_held}
 use Rattle.reading.specs.Reading.{is_seven_pairs, is_orphans}
@@ -22,13 +25,14 @@ is_wait x k = ltb (in_held x k) 4 && reads (with_one x k) x.m
 unfoldable pub wait_set : Held → List Bool
 wait_set x = tabulate 34 0 (is_wait x)
 
--- p of one of a list
-abbrev pub some_in : List ℕ → (ℕ → Bool) → Bool
-some_in l p = any_below (length l) (λ i. p (get_or l i 0))
-
 -- the answer
 unfoldable pub found_of : List ℕ → List ℕ → Waits
 found_of s discards =
     let w = wait_set (held_of s) in
     cond (ltb 0 (refusal_of s)) (refused_with (refusal_of s))
-    (cond (some_in discards (ltb 33)) (refused_with 15) (record { refusal = 0; waits = w; furiten = some_in discards (λ k. get_or w k false) }))
+    (cond (list_any (ltb 33) discards) (refused_with 15) (record { refusal = 0; waits = w; furiten = list_any (λ k. get_or w k false) discards }))
+
+-- what C is given of a result
+abbrev pub answer_in : Result Waits Refusal → Waits
+answer_in (Ok found) = found
+answer_in (Err r) = refused_with (number r)

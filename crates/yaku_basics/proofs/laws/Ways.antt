@@ -1,9 +1,12 @@
 -- A group that the winning tile completes by ron is open: what it takes off the counts of the ways.
-use Rattle.std.specs.Prelude.{◌≡◌, refl, Bool, true, false, ◌&&◌, cond, List, [], ◌∷◌, leb, ltb, get_or, set, length}
+use Rattle.std.specs.Prelude.{◌≡◌, refl, Bool, true, false, ◌&&◌, ◌||◌, cond, List, [], ◌∷◌, leb, ltb, get_or, set, length, Some, None}
 use Rattle.std.proofs.Math.Bool.{and-false}
 use Prim.Native.Nat.{ℕ, zero, suc, ◌+◌, ◌-◌, ◌<◌, ◌≤◌}
 use native.Mathlib.Omega.{arith}
+use mir.Val.{bool_byte}
 use Rattle.std.proofs.Common.{ltb-true}
+use Rattle.std.specs.List.{list_any}
+use Rattle.tiles.specs.Below.{any}
 use Rattle.tiles.specs.Groups.{is_triplet}
 use Rattle.tiles.proofs.laws.Below.{and_true}
 use Rattle.yaku_basics.specs.search.Ways.{ways_at}
@@ -68,3 +71,32 @@ module _ (g ways : List ℕ) (l : length ways ≡ 4) (ron : Bool) (place : ℕ) 
   kans_ron =
       rw (ways_open ways ron place e, four 0 ways l)
       (kans_four g (get_or ways 0 0) (get_or ways 1 0) (get_or ways 2 0) (get_or ways 3 0) (place - 1) inside)
+
+or_four : (a b c d : Bool) → (a || (b || (c || (d || false)))) ≡ (((a || b) || c) || d)
+or_four true b c d = refl
+or_four false true c d = refl
+or_four false false true d = refl
+or_four false false false true = refl
+or_four false false false false = refl
+
+-- some of four has p
+pub any_four : (p : ℕ → Bool) (l : List ℕ) → length l ≡ 4 → list_any p l ≡ any 4 (λ i. p (get_or l i 0))
+any_four p l e = rw (four 0 l e) (or_four (p (get_or l 0 0)) (p (get_or l 1 0)) (p (get_or l 2 0)) (p (get_or l 3 0)))
+
+-- a `bool` as a number, which `u8::from` gives
+pub byte_of : (b : Bool) → bool_byte b ≡ cond b 1 0
+byte_of true = refl
+byte_of false = refl
+
+pub byte_small : (b : Bool) → bool_byte b ≤ 1
+byte_small true = omega arith
+byte_small false = omega arith
+
+-- a place where b holds, else none
+pub opened_some : (b : Bool) (n i : ℕ) → cond b (Some n) None ≡ Some i → (b ≡ true) × (i ≡ n)
+opened_some true n i e = (refl, cc)
+opened_some false n i e = cc
+
+pub opened_none : (b : Bool) (n : ℕ) → cond b (Some n) None ≡ None → b ≡ false
+opened_none true n e = cc
+opened_none false n e = refl

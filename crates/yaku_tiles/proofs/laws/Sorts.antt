@@ -1,8 +1,9 @@
 -- A test of each tile goes by the sorts: each kind is of one, and a set of sorts stands for the kinds in them.
-use Rattle.std.specs.Prelude.{◌≡◌, refl, List, [], ◌∷◌, map, ℕ, zero, suc, ◌<◌, get_or, eqb, ltb}
+use Rattle.std.specs.Prelude.{◌≡◌, refl, List, [], ◌∷◌, map, ℕ, zero, suc, ◌<◌, length, get_or, eqb, ltb}
 use Rattle.std.proofs.Common.{sym, ap, ◌∙◌, arith, lt-ltb, ltb-true, eqb-true, ne_eqb}
 use mathlib.Core.Bool.{Bool, true, false, cond, not, ◌||◌, ◌&&◌}
-use Rattle.tiles.specs.Below.{any, all_below}
+use Rattle.std.specs.List.{list_all, zip}
+use Rattle.tiles.specs.Below.{all, any, all_below}
 use Rattle.tiles.proofs.laws.Below.{and_true, every_at, every_of, every_cong, any_at, both_ways}
 use Rattle.yaku_tiles.specs.OfTiles.{only}
 use Rattle.yaku_tiles.specs.search.Sorts.{sorts, any_of, sorts_in, within}
@@ -136,3 +137,31 @@ only_within t x p s e =
     (λ j l.
     of_sort_lem t p (get_or (set_of p) j false) (get_or sorts j []) (every_at (λ i. all_of (get_or sorts i []) (λ k. alike (p k) (get_or (set_of p) i false))) 9 j e l)
     ∙ ap (λ (b : Bool). get_or (set_of p) j false || not b) (sym (get_d_map (λ (ks : List ℕ). any_of false ks (λ k. ltb 0 (get_or t k 0))) [] sorts j))))
+
+-- ---- a set, sort by sort
+
+and_assoc : (a b c : Bool) → a && (b && c) ≡ (a && b) && c
+and_assoc true b c = refl
+and_assoc false b c = refl
+
+and_true_left : (a : Bool) → a && true ≡ a
+and_true_left true = refl
+and_true_left false = refl
+
+first_of : (n : ℕ) (p : ℕ → Bool) → p 0 && all n (λ k. p (suc k)) ≡ all (suc n) p
+first_of zero p = and_true_left (p 0)
+first_of (suc n) p = and_assoc (p 0) (all n (λ k. p (suc k))) (p (suc n)) ∙ rw (first_of n p)
+
+-- a sort that is there is in the set
+abbrev pub in_set : Bool × Bool → Bool
+in_set p = p.1 || not p.0
+
+pub all_in_set : (n : ℕ) (x set : List Bool) → length x ≡ n → length set ≡ n
+    → list_all in_set (zip x set) ≡ all n (λ j. get_or set j false || not (get_or x j false))
+all_in_set zero [] set e f = refl
+all_in_set (suc n) [] set e f = absurd (omega (arith, e))
+all_in_set zero (b ∷ x) set e f = absurd (omega (arith, e))
+all_in_set (suc n) (b ∷ x) [] e f = absurd (omega (arith, f))
+all_in_set (suc n) (b ∷ x) (s ∷ set) e f =
+    rw (all_in_set n x set (omega (arith, e)) (omega (arith, f)))
+    (first_of n (λ j. get_or (s ∷ set) j false || not (get_or (b ∷ x) j false)))

@@ -1,8 +1,0 @@
--- The state after the choice.
-use Rattle.std.proofs.Common.{◌+◌, ◌-◌, arith}
-use Rattle.ready_choices.specs.search.Made.{takes}
-use Rattle.ready_choices.proofs.taking.Goals as goal
-
-pub returns : goal.returns
-unfolding takes
-returns c = rw (c.state.ensures (c.args.q.g - (c.args.x + c.args.y)) (omega arith))

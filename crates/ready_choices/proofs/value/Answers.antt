@@ -1,9 +1,0 @@
--- Each return is the case that its test says.
-use Rattle.ready_choices.proofs.laws.Makes.{value_with, value_without}
-use Rattle.ready_choices.proofs.value.Goals as goal
-
-pub returns-then-possible : goal.returns-then-possible
-returns-then-possible c = value_with _ _ _ _ _ c.if-possible.true c.least.ensures
-
-pub returns : goal.returns
-returns c = value_without _ _ _ _ c.if-possible.false

@@ -1,0 +1,2 @@
+-- Numbers  that no refusal has the number 0
+pub mod Numbers

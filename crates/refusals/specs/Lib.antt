@@ -1,0 +1,2 @@
+-- What the papers call a refusal.
+pub mod Refusal
