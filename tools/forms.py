@@ -57,6 +57,11 @@ def four_times(f):
         for name in set(re.findall(r"\b(\w+)\(", text)))
 
 
+def calls_the_generic(f):
+    """It is one line over the generic function that took the twins' bodies."""
+    return len(f.body) <= 2 and re.search(r"^\s*(correct|finish|book|put_set|splits_off)\(", "\n".join(f.body))
+
+
 POINTS = [
     # point, what is counted, test of a function, pattern of a line
     ("1a", "enums of the shape of Option or Result", None, r"^(pub )?enum Answer\b"),
@@ -72,7 +77,7 @@ POINTS = [
     ("2d", "functions for two types, sizes or constants", lambda f: f.name in (
         "put_tiles", "put_yaku", "code_at", "way_at", "meld_codes", "meld_ways", "scaled_three", "scaled_four", "over_33", "put", "draw", "count", "least",
         "correct_win", "correct_draw", "correct_chombo", "correct_multi_ron", "book_result", "book_correction", "concealed_at", "kans_at", "items_at",
-        "tetra", "triangle", "three", "pack_regular", "pack_other") and f.result != "ReadingCount", None),
+        "tetra", "triangle", "three", "pack_regular", "pack_other") and f.result != "ReadingCount" and not calls_the_generic(f), None),
     ("3a", "loops that count an index by hand", None, r"^\s*(while\b|loop \{)"),
     ("3b", "loops over a range", None, r"^\s*for \w+ in .*\.\."),
     ("4a", "zero values written out", lambda f: re.search(r"\bm: 0,|how: 0,", "\n".join(f.body)), None),

@@ -127,6 +127,8 @@ class Instances:
         if kind == "Fn":
             return self.instance(path, types, impls)
         if impl == NOTHING:
+            if content[1] or types or impls:
+                raise Unknown(f"method {content[1]} of a drop, with {len(types)} types and {len(impls)} impls")
             return None
         name, inner, below = impl["Impl"]
         known = self.libraries.impl(name)
@@ -208,6 +210,8 @@ class Instances:
             return {name: [self.part(content[0], given), given.length(content[1])]}
         if name in ("Op1", "Op2"):
             return {name: [content[0], *[self.part(x, given) for x in content[1:]]]}
+        if content is not None and name != "Int":
+            raise Unknown(f"value {name}")
         return node
 
     @staticmethod

@@ -10,20 +10,21 @@ from mir import Unknown, form
 from rules import Again, Pointer, Value
 
 COLUMNS = 120
+NO_BREAK = "\xa0"  # a blank where no line is broken
 
 
 def wrapped(line):
-    """A line of C, broken at blanks where it is too long. `~` is a blank where no line is broken."""
+    """A line of C, broken at blanks where it is too long."""
     indent = line[:len(line) - len(line.lstrip())] + " " * 8
-    return [part.replace("~", " ") for part in textwrap.wrap(line, COLUMNS, subsequent_indent=indent, break_long_words=False, break_on_hyphens=False)]
+    return [part.replace(NO_BREAK, " ") for part in textwrap.wrap(line, COLUMNS, subsequent_indent=indent, break_long_words=False, break_on_hyphens=False)]
 
 
 class Function(Expressions):
     """One function of the MIR in C."""
 
     def head(self):
-        given = ", ".join(self.declared(i).replace(" ", "~") for i in self.parameters if i not in self.empty)
-        result = f"static {self.types.c(self.kinds[0])} ".replace("* ", "*").replace(" ", "~", self.types.c(self.kinds[0]).count("*"))
+        given = ", ".join(self.declared(i).replace(" ", NO_BREAK) for i in self.parameters if i not in self.empty)
+        result = f"static {self.types.c(self.kinds[0])} ".replace("* ", "*").replace(" ", NO_BREAK, self.types.c(self.kinds[0]).count("*"))
         return f"{result}{self.types.function(self.name)}({given or 'void'})"
 
     def comment(self):

@@ -26,6 +26,7 @@ EDITS = [
     ("expressions", "{self.signed(a) if sign == 'Signed' else a.inside()}", "{a.inside()}"),
     ("expressions", 'return Value(f"({self.types.c(a.type)})({text})", a.type)', 'return Value(text, a.type, loose=True)'),
     ("rules", 'return f"({self.text})" if self.loose else self.text', 'return self.text'),
+    ("expressions", 'f"({self.types.c(a.type)})~{a.inside()}"', 'f"({self.types.c(a.type)}){a.inside()}"'), ("expressions", '"WrapAdd": "+"', '"WrapAdd": "-"'),
     # offsets in bytes taken for indices
     ("expressions", '{offset.number // size}', '{offset.number}'),
     ("expressions", "index = offset.times[1] if offset.times[0] == size", "index = offset.text if offset.times[0] == size"),

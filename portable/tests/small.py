@@ -7,7 +7,7 @@ hb_wide adds two constants whose sum has 33 bits; hb_rows writes one row of an a
 hb_wide_table constant arrays are lent, of the first also a slice, whose pointer is used twice. hb_held is hb_lent with the slice in a struct of a
 type with parameters. hb_escaped has a constant array written through a raw pointer that a generic function is given; hb_impls calls one generic
 function with two impls; hb_dropped drops a value whose drop writes, and one whose drop does nothing; hb_left leaves a block from within a loop,
-and its loop's turn from within a block. Exit status 1 if an answer is wrong."""
+and its loop's turn from within a block; hb_not is a complement and a wrapping sum. Exit status 1 if an answer is wrong."""
 import json
 import os
 import subprocess
@@ -188,6 +188,9 @@ MIR = [
                             first(3, copy(1, FIRST)), assign(4, {"AddrOf": place(3, DEREF)}), assign(5, {"Aggregate": [copy(4)]}),
                             call_of("small::drop_it", given(GUARD, impls=["GuardDrop"]), 6, copy(5)),
                             first(7, copy(1, FIRST)), assign(0, {"Opd": copy(7, DEREF)}), impls=IMPLS, declared=SHAPES)),
+    # fn hb_not(x) -> u8 { (!x).wrapping_add(9) }
+    ("hb_not", function(1, [INT8, INT8, INT8], set(), assign(2, {"Op1": ["Not", copy(1)]}),
+                        assign(0, {"Op2": ["WrapAdd", copy(2), byte(9)["Opd"]]}))),
     # hb_left(n) -> u8: { let mut i = 0; 'b: { loop { if i == n { break 'b } 't: { if i == 2 { break 't }; if i == 5 { break } } i += 1 } i = 100 } i }
     ("hb_left", function(1, [INT8, INT8, INT8, "Bool"], set(), assign(2, byte(0)),
                          *["Seq", "Block", "Seq", "Block", "Loop",
@@ -213,6 +216,7 @@ pub fn hb_held ( x : u8 ) -> u8 ;
 pub fn hb_escaped ( x : u8 ) -> u8 ;
 pub fn hb_impls ( ) -> u8 ;
 pub fn hb_dropped ( buf : & mut [ u8 ] ) -> u8 ;
+pub fn hb_not ( x : u8 ) -> u8 ;
 pub fn hb_left ( n : u8 ) -> u8 ;
 """
 HEADER = """#include <stdbool.h>
@@ -229,6 +233,7 @@ uint8_t hb_held(uint8_t x);
 uint8_t hb_escaped(uint8_t x);
 uint8_t hb_impls(void);
 uint8_t hb_dropped(uint8_t *buf, size_t buf_len);
+uint8_t hb_not(uint8_t x);
 uint8_t hb_left(uint8_t n);
 """
 MAIN = """#include "small.h"
@@ -238,7 +243,7 @@ int main(void)
     return !(hb_lent(1) == 1 && hb_before(a, 1) == 6 && a[0] == 9 && hb_after(b, 1) == 10 && hb_wide() == UINT64_C(4294967296) &&
              hb_rows(3) == 12 && hb_table(1) == 212 && hb_table(2) == 19 && hb_wide_table(1) == UINT64_MAX - 1 &&
              hb_wide_table(2) == 5 && hb_held(1) == 1 && hb_escaped(7) == 7 && hb_impls() == 145 && hb_dropped(c, 1) == 8 &&
-             hb_left(4) == 4 && hb_left(6) == 100);
+             hb_not(0) == 8 && hb_not(200) == 64 && hb_left(4) == 4 && hb_left(6) == 100);
 }
 """
 
