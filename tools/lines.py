@@ -79,8 +79,18 @@ class Count:
         for f in self.tree.files.values():
             for name, (module, there) in f.imports.items():
                 of_code = module.split("::")[0] in self.tree.crates and there[0].isupper() and not there.isupper()
+                constant = module.endswith(".declared.TheConstants")
+                proof = re.fullmatch(r"Rattle\.(\w+)\.proofs\.(\w+)", module)  # a law in a file that is not read here: it has to stand there
+                if constant or (proof and self.law_stands(*proof.groups(), there)):
+                    continue
                 if (re.match(rf"Rattle\.(?:{'|'.join(self.tree.crates)})\.", module) or of_code) and not self.tree.in_module(module, there):
                     yield f"{f.path}: {name} from {module}"
+
+    @staticmethod
+    def law_stands(crate, file, name):
+        """A `pub` law of that name stands in crates/CRATE/proofs/FILE.antt."""
+        path = os.path.join(tree.CRATES, crate, "proofs", file + ".antt")
+        return os.path.exists(path) and re.search(rf"^pub {re.escape(name)} :", tree.read(path), re.MULTILINE) is not None
 
     def searchers(self):
         """Files of specs/, outside laws and search, that import search."""
