@@ -142,14 +142,19 @@ def antt_file(crate, path, text):
 
 
 def rt_file(crate, path, text):
-    """The structs, enums and functions of an .rt file; of a function its signature and contract."""
+    """The structs, enums, functions and methods (TYPE::NAME) of an .rt file; of a function or method its signature and contract."""
     file = File(crate, path, "src")
     item, comments, repr_c, statement = None, 0, False, ""
+    owner, margin = "", ""  # the type of the impl block that a line stands in, and how far its methods stand in
     for number, line in enumerate(text.split("\n"), 1):
         bare = line.strip()
-        if statement or re.match(r"(ghost )?use ", line):
+        if not item and (block := re.match(r"impl(?:<[^>]*>)? (?:.* for )?(\w+)", line)):
+            owner, margin = block.group(1), "    "
+        elif not item and line.startswith("}"):
+            owner, margin = "", ""
+        elif statement or re.match(margin + r"(ghost )?use ", line):
             statement += " " * bool(statement) + bare
-            file.import_lines += statement.startswith("ghost")
+            file.import_lines += statement.startswith("ghost") and not owner
             if statement.count("{") == statement.count("}"):
                 add_import(file, re.sub(r",? ?\}", "}", statement.replace("{ ", "{")))
                 statement = ""
@@ -160,20 +165,21 @@ def rt_file(crate, path, text):
                 comments += 1
         elif line.startswith("#[repr(C)]"):
             repr_c = True
-        elif line.startswith("#["):
+        elif bare.startswith("#["):
             pass
         elif item:
-            if item.kind == "function" and line.startswith("{"):
+            if item.kind == "function" and line.startswith(margin + "{"):
                 item = None
                 continue
             item.code.append(bare)
-            if line.startswith("}"):
+            if line.startswith(margin + "}"):
                 item = None
         else:
-            m = re.match(r"(pub )?(extern \"C\" )?(fn|struct|enum) (\w+)", line)
+            m = re.match(margin + r"(pub )?(extern \"C\" )?(fn|struct|enum) (\w+)", line)
             if m:
                 kind = "function" if m.group(3) == "fn" else "struct"
-                new = Item(kind, m.group(4), bool(m.group(1)), file, number, [bare], comments=comments, exported=bool(m.group(2)), repr_c=repr_c)
+                name = owner + "::" * bool(owner) + m.group(4)
+                new = Item(kind, name, bool(m.group(1)), file, number, [bare], comments=comments, exported=bool(m.group(2)), repr_c=repr_c)
                 file.items.append(new)
                 item = None if kind == "struct" and bare.endswith(";") else new
             if bare:

@@ -36,6 +36,14 @@ START = """/* A fault of GCC 12.2 on x86-64: at -O2 four `0 < byte` are added up
 #endif
 """
 
+INLINED = """/* A small function, which its callers have in place of a call. */
+#if defined(__GNUC__)
+#define INLINED static inline __attribute__((always_inline))
+#else
+#define INLINED static inline
+#endif
+"""
+
 SAME = """/* A member of the header's structs is as wide as the field. */
 #define SAME(member, type) (void)sizeof(char[sizeof(member) == sizeof(type) ? 1 : -1])
 """
@@ -78,7 +86,7 @@ def c_file(libraries, library, header, kit, kind=Function):
                          names=listed(crates), kit=kit,
                          calls=listed(sorted(name.rsplit("::", 1)[1] for name in exported)))
     by_hand = [SIGNED_READING.format(width) for width in sorted(helpers | calls.helpers)]
-    return "\n".join([first, START] + ["\n".join(checks()) + "\n"] * (kind is Checked) + [SAME, "\n".join(types.text) + "\n"]
+    return "\n".join([first, START] + ["\n".join(checks()) + "\n"] * (kind is Checked) + [INLINED, SAME, "\n".join(types.text) + "\n"]
                      + by_hand + early + functions + calls.text)
 
 

@@ -6,7 +6,7 @@ import textwrap
 from c_types import PTR
 from expressions import Expressions
 from instances import said
-from mir import Unknown, form
+from mir import Unknown, crate_of, form
 from rules import Again, Pointer, Value
 
 COLUMNS = 120
@@ -23,8 +23,10 @@ class Function(Expressions):
     """One function of the MIR in C."""
 
     def head(self):
+        """Its declaration. A function of the kit's core, such as an iterator's, stands in its callers: called, they made Score 1.5 times as long at -Os."""
+        storage = "INLINED" if crate_of(self.name) == "core" else "static"
         given = ", ".join(self.declared(i).replace(" ", NO_BREAK) for i in self.parameters if i not in self.empty)
-        result = f"static {self.types.c(self.kinds[0])} ".replace("* ", "*").replace(" ", NO_BREAK, self.types.c(self.kinds[0]).count("*"))
+        result = f"{storage} {self.types.c(self.kinds[0])} ".replace("* ", "*").replace(" ", NO_BREAK, self.types.c(self.kinds[0]).count("*"))
         return f"{result}{self.types.function(self.name)}({given or 'void'})"
 
     def comment(self):

@@ -6,16 +6,19 @@ ghost use Rattle.std.specs.Prelude.{◌<◌};
 
 use std::io;
 
-// Prints a card: the numbers on its tiles, and the letter of their suit.
-fn print_card<R: Print>(rt: &R, tiles: &[u8], letter: char) -> io::Result<()> {
-    for tile in tiles {
-        print!(rt; "{}", 1 + tile % 9)?;
+// Prints a card, in one write: the numbers on its tiles, at most eight, and the letter of their suit.
+fn print_card<R: Print>(rt: &R, tiles: &[u8], letter: u8) -> io::Result<()> {
+    let size = tiles.len().min(8);
+    let mut line = [b'\n'; 10];
+    for (byte, tile) in line.iter_mut().zip(&tiles[..size]) {
+        *byte = b'1' + tile % 9;
     }
-    println!(rt; "{letter}")
+    line[size] = letter;
+    rt.write_all(&line[..size + 2])
 }
 
 // Prints how many cards a suit has of so many tiles, in three digits, then each.
-fn print_cards<R: Print>(rt: &R, suit: u8, size: u8, letter: char) -> io::Result<()>
+fn print_cards<R: Print>(rt: &R, suit: u8, size: u8, letter: u8) -> io::Result<()>
     requires { 0 < size }
 {
     let mut page = [0u8; 7968];
@@ -31,7 +34,7 @@ fn print_cards<R: Print>(rt: &R, suit: u8, size: u8, letter: char) -> io::Result
 }
 
 fn main(rt: HostRuntime) -> io::Result<()> {
-    print_cards(&rt, 0, 2, 'm')?;
-    print_cards(&rt, 1, 5, 'p')?;
-    print_cards(&rt, 2, 8, 's')
+    print_cards(&rt, 0, 2, b'm')?;
+    print_cards(&rt, 1, 5, b'p')?;
+    print_cards(&rt, 2, 8, b's')
 }

@@ -115,7 +115,7 @@ pub fn without_pair(t: [u8; 34], k: usize) -> [u8; 34]
 }
 
 // The kinds that may be the pair, one after the other: first, first + 3, .. up to last; none where last is below first.
-#[derive(Drop)]
+#[derive(Clone, Copy)]
 pub struct Pairs {
     pub first: u8,
     pub last: u8,

@@ -22,7 +22,7 @@ fn put_items(clips: &mut Bytes<192>, language: u8, x: Items)
         x.rounding,
     ];
     for (k, item) in items.iter().enumerate() {
-        speech_phrases::put_counted(clips, language, 84 + k as u8, u32::from(item.0));
+        speech_phrases::add_counted(clips, language, 84 + k as u8, u32::from(item.0));
     }
 }
 
@@ -39,7 +39,7 @@ fn message(language: u8, a: Scored) -> Bytes<192>
     }
     put_items(&mut clips, language, a.items);
     clips.push(94);
-    speech_numerals::number(&mut clips, language, u32::from(a.fu.0));
+    speech_numerals::add_number(&mut clips, language, u32::from(a.fu.0));
     clips.push(70);
     clips
 }

@@ -1,9 +1,10 @@
 // Numbers as clips in four languages (SPEECH, Numbers): 1 Japanese, 2 English, 3 Korean, 4 Mandarin. A function that adds clips requires room for
 // its work.
-// stays a byte, the language: `number` takes any, and C gives one (include/herbassolh.h)
+// stays a byte, the language: `add_number` and `number` take any, and C gives one (include/herbassolh.h)
 #![tactic(auto)]
 
 ghost use Rattle.std.specs.Prelude.{◌≡◌, cond, ◌&&◌, ◌++◌, ◌+◌, ◌*◌, ◌/◌, ◌%◌, ◌≤◌, ◌<◌, ltb, eqb, length};
+ghost use Rattle.text.specs.Put.{Put};
 ghost use Rattle.speech_numerals.specs.Numerals.{place_of, under_hundred, three_of, scaled_three, english_of, is_gap, thousands_of, hundreds_of, tens_of};
 ghost use Rattle.speech_numerals.specs.Numerals.{ones_of, four_of, scaled_four, eastern_of, numeral};
 
@@ -179,7 +180,7 @@ fn eastern<const N: usize>(clips: &mut Bytes<N>, language: u8, n: u32)
 
 // Adds a number, where there are 27 bytes for the work; it takes 13 at most. For the messages of other crates.
 #[tactic(auto, unfolding(crate::specs::Numerals::numeral))]
-pub fn number<const N: usize>(clips: &mut Bytes<N>, language: u8, n: u32)
+pub fn add_number<const N: usize>(clips: &mut Bytes<N>, language: u8, n: u32)
     requires { length clips.old + 27 ≤ N }
     ensures added { clips.new ≡ clips.old ++ numeral language n }
     ensures few { length clips.new ≤ length clips.old + 13 }
@@ -189,4 +190,15 @@ pub fn number<const N: usize>(clips: &mut Bytes<N>, language: u8, n: u32)
         (_, 2) => english(clips, n),
         _ => eastern(clips, language, n),
     }
+}
+
+// The same in a lent buffer, from a place on.
+// stays with a buffer and a place: as its callers have it
+pub fn number(buf: &mut [u8], at: usize, language: u8, n: u32) -> usize
+    requires { at + 27 ≤ length buf.old }
+    ensures { Put buf.old at (numeral language n) buf.new result × (result ≤ at + 13) }
+{
+    let mut clips: Bytes<27> = Bytes::new();
+    add_number(&mut clips, language, n);
+    text::put(clips.as_slice(), buf, at)
 }

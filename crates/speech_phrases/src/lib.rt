@@ -2,6 +2,7 @@
 #![tactic(auto)]
 
 ghost use Rattle.std.specs.Prelude.{◌≡◌, false, [], ◌∷◌, ◌++◌, ◌+◌, ◌≤◌, length, get_or};
+ghost use Rattle.text.specs.Put.{Put};
 ghost use Rattle.speech_told.specs.Phrases.{player as player_of, chosen, yaku_clips, limit_clips, worth_clips, amount_clips, pays_clips, payments_clips};
 ghost use Rattle.speech_told.specs.Phrases.{counted_clips, score_clips, tile_clips};
 ghost use Rattle.speech_told.specs.Phrases.{is_limit, limit_clip};
@@ -19,14 +20,14 @@ pub fn player(dealer: u8, seat: u8) -> u8
 
 // A player, a verb, a number and points.
 #[tactic(auto, unfolding(speech_told::specs::Phrases::amount_clips))]
-pub fn put_amount<const N: usize>(clips: &mut Bytes<N>, language: u8, who: u8, verb: u8, n: u32)
+pub fn add_amount<const N: usize>(clips: &mut Bytes<N>, language: u8, who: u8, verb: u8, n: u32)
     requires { length clips.old + 30 ≤ N }
     ensures added { clips.new ≡ clips.old ++ amount_clips language who verb n }
     ensures few { length clips.new ≤ length clips.old + 16 }
 {
     clips.push(who);
     clips.push(verb);
-    speech_numerals::number(clips, language, n);
+    speech_numerals::add_number(clips, language, n);
     clips.push(68);
 }
 
@@ -38,7 +39,7 @@ fn put_pays<const N: usize>(clips: &mut Bytes<N>, language: u8, dealer: u8, seat
     ensures few { length clips.new ≤ length clips.old + 16 }
 {
     if change < 0 {
-        put_amount(
+        add_amount(
             clips,
             language,
             player(dealer, seat),
@@ -49,7 +50,7 @@ fn put_pays<const N: usize>(clips: &mut Bytes<N>, language: u8, dealer: u8, seat
 }
 
 // What seats 0 to 3 pay.
-pub fn put_payments<const N: usize>(
+pub fn add_payments<const N: usize>(
     clips: &mut Bytes<N>,
     language: u8,
     dealer: u8,
@@ -81,7 +82,7 @@ fn put_set<const N: usize>(clips: &mut Bytes<N>, first: u8, set: &[bool])
 
 // The yaku of a set, ascending.
 #[tactic(auto, unfolding(speech_told::specs::Phrases::yaku_clips))]
-pub fn put_yaku<const N: usize>(clips: &mut Bytes<N>, yaku: [bool; 37])
+pub fn add_yaku<const N: usize>(clips: &mut Bytes<N>, yaku: [bool; 37])
     requires { length clips.old + 36 ≤ N }
     ensures added { clips.new ≡ clips.old ++ yaku_clips yaku }
     ensures few { length clips.new ≤ length clips.old + 36 }
@@ -91,7 +92,7 @@ pub fn put_yaku<const N: usize>(clips: &mut Bytes<N>, yaku: [bool; 37])
 
 // The tiles of a set of kinds, ascending.
 #[tactic(auto, unfolding(speech_told::specs::Phrases::tile_clips))]
-pub fn put_tiles<const N: usize>(clips: &mut Bytes<N>, kinds: [bool; 34])
+pub fn add_tiles<const N: usize>(clips: &mut Bytes<N>, kinds: [bool; 34])
     requires { length clips.old + 34 ≤ N }
     ensures added { clips.new ≡ clips.old ++ tile_clips kinds }
     ensures few { length clips.new ≤ length clips.old + 34 }
@@ -128,7 +129,7 @@ fn limit_clip(h: Han) -> u8
 
 // With a yakuman its name; otherwise han and fu, and a limit's name where one is paid.
 #[tactic(auto, unfolding(speech_told::specs::Phrases::worth_clips, speech_told::specs::Phrases::limit_clips))]
-pub fn put_worth<const N: usize>(clips: &mut Bytes<N>, language: u8, yakuman: bool, h: Han, fu: Fu)
+pub fn add_worth<const N: usize>(clips: &mut Bytes<N>, language: u8, yakuman: bool, h: Han, fu: Fu)
     requires { length clips.old + 43 ≤ N }
     ensures added { clips.new ≡ clips.old ++ worth_clips language yakuman h.0 fu.0 }
     ensures few { length clips.new ≤ length clips.old + 29 }
@@ -137,9 +138,9 @@ pub fn put_worth<const N: usize>(clips: &mut Bytes<N>, language: u8, yakuman: bo
         clips.push(75);
         return;
     }
-    speech_numerals::number(clips, language, u32::from(h.0));
+    speech_numerals::add_number(clips, language, u32::from(h.0));
     clips.push(69);
-    speech_numerals::number(clips, language, u32::from(fu.0));
+    speech_numerals::add_number(clips, language, u32::from(fu.0));
     clips.push(70);
     if is_limit(h, fu) {
         clips.push(limit_clip(h));
@@ -148,20 +149,20 @@ pub fn put_worth<const N: usize>(clips: &mut Bytes<N>, language: u8, yakuman: bo
 
 // A clip and a number, or nothing where the number is 0.
 #[tactic(auto, unfolding(speech_told::specs::Phrases::counted_clips))]
-pub fn put_counted<const N: usize>(clips: &mut Bytes<N>, language: u8, clip: u8, n: u32)
+pub fn add_counted<const N: usize>(clips: &mut Bytes<N>, language: u8, clip: u8, n: u32)
     requires { length clips.old + 28 ≤ N }
     ensures added { clips.new ≡ clips.old ++ counted_clips language clip n }
     ensures few { length clips.new ≤ length clips.old + 14 }
 {
     if 0 < n {
         clips.push(clip);
-        speech_numerals::number(clips, language, n);
+        speech_numerals::add_number(clips, language, n);
     }
 }
 
 // A player and a score, with minus where it is negative.
 #[tactic(auto, unfolding(speech_told::specs::Phrases::score_clips))]
-pub fn put_score<const N: usize>(
+pub fn add_score<const N: usize>(
     clips: &mut Bytes<N>,
     language: u8,
     dealer: u8,
@@ -176,6 +177,63 @@ pub fn put_score<const N: usize>(
     if score < 0 {
         clips.push(76);
     }
-    speech_numerals::number(clips, language, score.unsigned_abs());
+    speech_numerals::add_number(clips, language, score.unsigned_abs());
     clips.push(68);
+}
+
+// ---- the same in a lent buffer
+
+// `add_amount` in a lent buffer, from a place on.
+// stays with a buffer and a place: as its callers have it
+pub fn put_amount(buf: &mut [u8], at: usize, language: u8, who: u8, verb: u8, n: u32) -> usize
+    requires { at + 30 ≤ length buf.old }
+    ensures { Put buf.old at (amount_clips language who verb n) buf.new result × (result ≤ at + 16) }
+{
+    let mut amount: Bytes<30> = Bytes::new();
+    add_amount(&mut amount, language, who, verb, n);
+    text::put(amount.as_slice(), buf, at)
+}
+
+// `add_payments` in a lent buffer, from a place on.
+// stays with a buffer and a place: as its callers have it
+pub fn put_payments(buf: &mut [u8], at: usize, language: u8, dealer: u8, c: [i32; 4]) -> usize
+    requires { at + 78 ≤ length buf.old }
+    ensures { Put buf.old at (payments_clips language dealer c) buf.new result × (result ≤ at + 64) }
+{
+    let mut payments: Bytes<78> = Bytes::new();
+    add_payments(&mut payments, language, dealer, c);
+    text::put(payments.as_slice(), buf, at)
+}
+
+// `add_yaku` in a lent buffer, from a place on.
+// stays with a buffer and a place: as its callers have it
+pub fn put_yaku(buf: &mut [u8], at: usize, y: [bool; 37]) -> usize
+    requires { at + 36 ≤ length buf.old }
+    ensures { Put buf.old at (yaku_clips y) buf.new result × (result ≤ at + 36) }
+{
+    let mut yaku: Bytes<36> = Bytes::new();
+    add_yaku(&mut yaku, y);
+    text::put(yaku.as_slice(), buf, at)
+}
+
+// `add_worth` in a lent buffer, from a place on.
+// stays with a buffer and a place: as its callers have it
+pub fn put_worth(buf: &mut [u8], at: usize, language: u8, yakuman: bool, h: Han, fu: Fu) -> usize
+    requires { at + 43 ≤ length buf.old }
+    ensures { Put buf.old at (worth_clips language yakuman h.0 fu.0) buf.new result × (result ≤ at + 29) }
+{
+    let mut worth: Bytes<43> = Bytes::new();
+    add_worth(&mut worth, language, yakuman, h, fu);
+    text::put(worth.as_slice(), buf, at)
+}
+
+// `add_tiles` in a lent buffer, from a place on.
+// stays with a buffer and a place: as its callers have it
+pub fn put_tiles(buf: &mut [u8], at: usize, w: [bool; 34]) -> usize
+    requires { at + 34 ≤ length buf.old }
+    ensures { Put buf.old at (tile_clips w) buf.new result × (result ≤ at + 34) }
+{
+    let mut tiles: Bytes<34> = Bytes::new();
+    add_tiles(&mut tiles, w);
+    text::put(tiles.as_slice(), buf, at)
 }

@@ -81,10 +81,10 @@ fn message(language: u8, dealer: u8, winner: u8, ron: bool, a: Scored) -> Bytes<
     let mut clips = Bytes::new();
     clips.push(who);
     clips.push(way(ron));
-    speech_phrases::put_yaku(&mut clips, a.yaku);
-    speech_phrases::put_worth(&mut clips, language, yakuman, a.h, a.fu);
-    speech_phrases::put_payments(&mut clips, language, dealer, a.changes);
-    speech_phrases::put_amount(&mut clips, language, who, 67, gain);
+    speech_phrases::add_yaku(&mut clips, a.yaku);
+    speech_phrases::add_worth(&mut clips, language, yakuman, a.h, a.fu);
+    speech_phrases::add_payments(&mut clips, language, dealer, a.changes);
+    speech_phrases::add_amount(&mut clips, language, who, 67, gain);
     clips
 }
 

@@ -19,7 +19,7 @@ fn put_four(clips: &mut Bytes<192>, language: u8, dealer: u8, scores: [i32; 4])
     ensures few { length clips.new ≤ length clips.old + 64 }
 {
     for (seat, &score) in scores.iter().enumerate() {
-        speech_phrases::put_score(clips, language, dealer, seat as u8, score);
+        speech_phrases::add_score(clips, language, dealer, seat as u8, score);
     }
 }
 
@@ -31,8 +31,8 @@ fn scores_clips(language: u8, g: Position) -> Bytes<192>
 {
     let mut clips = Bytes::new();
     put_four(&mut clips, language, g.dealer, g.scores);
-    speech_phrases::put_counted(&mut clips, language, 77, g.sticks);
-    speech_phrases::put_counted(&mut clips, language, 78, g.counter);
+    speech_phrases::add_counted(&mut clips, language, 77, g.sticks);
+    speech_phrases::add_counted(&mut clips, language, 78, g.counter);
     clips
 }
 
@@ -62,7 +62,7 @@ fn waits_clips(w: Waits) -> Bytes<192>
     let mut clips = Bytes::new();
     if any_wait(w.waits) {
         clips.push(79);
-        speech_phrases::put_tiles(&mut clips, w.waits);
+        speech_phrases::add_tiles(&mut clips, w.waits);
     } else {
         clips.push(80);
     }
@@ -97,7 +97,7 @@ fn ready_clips(language: u8, swaps: u8) -> Bytes<192>
     if none {
         clips.push(82);
     } else {
-        speech_numerals::number(&mut clips, language, u32::from(swaps));
+        speech_numerals::add_number(&mut clips, language, u32::from(swaps));
         clips.push(83);
     }
     clips

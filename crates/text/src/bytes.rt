@@ -1,4 +1,5 @@
 ghost use Rattle.std.specs.Prelude.{◌≡◌, ℕ, ◌+◌, ◌<◌, ◌≤◌, List, [], ◌∷◌, ◌++◌, length, take};
+ghost use Rattle.text.specs.Text.{digits_of, signed_of};
 
 use std::marker::Model;
 
@@ -36,6 +37,26 @@ impl<const N: usize> Bytes<N> {
     {
         self.array[self.len] = byte;
         self.len += 1;
+    }
+
+    // Writes the digits of n after the others. Written one by one with `push`, or given by value out of each turn of the recursion, they took 2.6 and 5
+    // times as long (docs/DESIGN-PASS.md).
+    pub fn push_digits(&mut self, n: u32)
+        requires { length self.old + length (digits_of n) ≤ N }
+        ensures { self.new ≡ self.old ++ digits_of n }
+    {
+        self.len = crate::digits(&mut self.array, self.len, n);
+    }
+
+    // Writes n after the others, with a minus before a negative one.
+    pub fn push_signed(&mut self, n: i32)
+        requires { length self.old + length (signed_of n) ≤ N }
+        ensures { self.new ≡ self.old ++ signed_of n }
+    {
+        if n < 0 {
+            self.push(b'-');
+        }
+        self.push_digits(n.unsigned_abs());
     }
 
     // Writes more bytes after the others.

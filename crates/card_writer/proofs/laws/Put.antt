@@ -1,14 +1,12 @@
 -- The bytes of cards put into a buffer one after the other.
-use Rattle.std.specs.Prelude.{◌≡◌, refl, true, false, length, get_or, set, take, drop}
-use Rattle.std.proofs.Common.{sym, ◌∙◌, length-append, take-suc-set, take_all, length-take-le}
+use Rattle.std.specs.Prelude.{◌≡◌, refl, true, false, length, get_or, set, take}
+use Rattle.std.proofs.Common.{sym, ◌∙◌, length-append, take-suc-set, length-take-le}
 use Rattle.std.proofs.Math.Path.{ap}
 use mathlib.Core.List.{List, [], ◌∷◌, ◌++◌, map, append_assoc, append-nil}
 use Prim.Native.Nat.{ℕ, zero, suc, ◌+◌, ◌-◌, ◌≤◌, ◌<◌}
 use native.Mathlib.Omega.{arith}
 use borrow.Author.Tests.{lt-ltb, le-ltb}
-use Rattle.std.proofs.lemmas.List.Edits.{sets, sets-eq}
-use Rattle.std.proofs.lemmas.Slice.{put_mid-paste}
-use borrow.Rule.Slice.PartMut.{put_mid}
+use Rattle.std.proofs.lemmas.List.Edits.{sets}
 use Rattle.std.proofs.Math.Seq.{length-sets}
 use Rattle.tiles.specs.Tally.{more}
 use Rattle.bits.proofs.laws.Pack.{sets_append}
@@ -95,13 +93,6 @@ pub prefix_more : (prefix : List ℕ) (size left a : ℕ) → (left ≡ 0 → �
 prefix_more prefix size left a h l r =
     let s : size - (left - 1) ≡ suc (size - left) = omega arith in
     rw s (take-suc-set prefix (size - left) a (omega arith))
-
--- a text copied into its part of the buffer: k is the part's length, new what it holds then
-pub put_part : (b new text : List ℕ) (at k : ℕ) → new ≡ text → length text ≡ k → at + k ≤ length b → Put b at text (put_mid at k b new) (at + k)
-put_part b new text at k e l h = record {
-  place = omega arith;
-  bytes = put_mid-paste at k b new text (length text) e l refl ∙ ap (λ (l : List ℕ). take at b ++ l ++ drop (at + length text) b) (take_all (length text) text (omega arith)) ∙ sym (sets-eq text b at (omega arith));
-}
 
 -- ---- a turn of the draw: the tiles so far are the first size - left of so
 pub turn_with : (prefix t u : List ℕ) (size left n end a : ℕ) → (left ≡ 0 → ⊥) → left ≤ size → size ≤ length prefix → a < end → get_or t a 0 < 4 → u ≡ more t a 1

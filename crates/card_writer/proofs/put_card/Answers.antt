@@ -1,6 +1,6 @@
 -- The tiles are copied into their part of the buffer.
 use Rattle.std.proofs.Common.{◌≡◌, ◌+◌, ◌-◌, length, length-take-le, rules, arith}
-use Rattle.card_writer.proofs.laws.Put.{put_part}
+use Rattle.text.proofs.laws.Put.{put_part}
 use Rattle.card_writer.proofs.put_card.Goals as goal
 
 pub returns : goal.returns

@@ -1,7 +1,7 @@
 -- What the code makes of an entry is what `Books` says.
-use Rattle.std.specs.Prelude.{◌≡◌, Bool, true, false, ◌&&◌, ℕ, ◌<◌}
+use Rattle.std.specs.Prelude.{◌≡◌, Bool, true, false, ◌&&◌, ℕ, ltb, ◌<◌}
 use Rattle.std.proofs.Math.Path.{refl, sym, ap}
-use Rattle.std.proofs.Common.{◌∙◌, arith}
+use Rattle.std.proofs.Common.{◌∙◌, arith, ltb-true, ltb-false}
 use Rattle.std.proofs.Math.Bool.{cond}
 use Rattle.std.proofs.lemmas.Bool.{false≢true}
 use Rattle.position.specs.declared.Position.{Position}
@@ -9,10 +9,10 @@ use Rattle.position.specs.Booking.{Result, Booking, result}
 use Rattle.position.specs.Ledger.{is_set, mark, out_of_form, refusal_for, effect_of, after, Moves}
 use Rattle.position.proofs.laws.Each.{accepted_form}
 use Rattle.game.specs.declared.Game.{Game}
-use Rattle.game.specs.Game.{Entry, booking, correction, game_out_of_form, game_refusal, with_entry}
+use Rattle.game.specs.Game.{Entry, booking, correction, game_out_of_form, game_refusal, with_entry, game_after}
 use Rattle.game.specs.Runs.{Books}
 use Rattle.game.proofs.laws.After.{after_refused, after_accepted, correction_listed, as_in_earlier, as_now}
-use Rattle.game_bookings.specs.search.Books.{checked_in}
+use Rattle.game_bookings.specs.search.Books.{correction_refusal, checked_in}
 
 -- ---- an entry that is refused
 
@@ -75,3 +75,23 @@ module _ (g : Game) (r : Result) where
       correction_accepted p m =
           let same : 0 ≡ game_refusal g (correction r) = m.0 ∙ sym carried in
           (same, rw m.1 (sym (after_accepted g (correction r) (sym same))))
+
+-- ---- both at once: n and p are what the booking, or the correction's result, gives in its position
+module _ (g : Game) (n : ℕ) (p : Position) where
+  pub booking_books : (b : Booking) → Moves (checked_in g) b n p → (correctable : ℕ) → (effect_of g.now b).finishes ≡ is_set correctable
+      → mark (is_set correctable) ≡ correctable
+      → Books g (booking b) n (cond (ltb 0 n) g (record { now = p; earlier = g.now; correctable = correctable }))
+  booking_books b m correctable f e = go (ltb 0 n) refl
+    where
+      go : (t : Bool) → ltb 0 n ≡ t → Books g (booking b) n (cond t g (record { now = p; earlier = g.now; correctable = correctable }))
+      go true q = booking_refused g b n m.0 (ltb-true 0 n q)
+      go false q =
+          let z : n ≡ 0 = omega (arith, ltb-false 0 n q) in
+          let r : Books g (booking b) 0 (record { now = p; earlier = g.now; correctable = correctable })
+          = booking_accepted g b p (sym z ∙ m.0, m.1) correctable (sym (rw f e)) in
+          (z ∙ r.0, r.1)
+
+  pub correction_books : (r : Result) → Moves g.earlier (result r) n p
+      → Books g (correction r) (correction_refusal g n) (cond (ltb 0 (correction_refusal g n)) g (record { now = p; earlier = g.earlier; correctable = 1 }))
+  unfolding game_after with_entry
+  correction_books r m = rw (correction_listed g r, ← m.0, ← m.1) (refl, refl)

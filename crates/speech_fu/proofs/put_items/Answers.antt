@@ -8,7 +8,7 @@ loop-k-init c = record { added = rw append-nil; few = omega arith }
 
 pub loop-k-preserved : goal.loop-k-preserved
 unfolding first_items
-loop-k-preserved c = record { added = rw (c.put_counted.ensures.added, c.from.ensures, c.loop-k.invariant.added, add-one, append_assoc); few = omega arith }
+loop-k-preserved c = record { added = rw (c.add_counted.ensures.added, c.from.ensures, c.loop-k.invariant.added, add-one, append_assoc); few = omega arith }
 
 pub returns-clause-added : goal.returns-clause-added
 returns-clause-added c =

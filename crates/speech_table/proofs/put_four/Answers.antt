@@ -10,7 +10,7 @@ pub loop-seat-preserved : goal.loop-seat-preserved
 unfolding first_scores
 loop-seat-preserved c =
     let f : SFits w32 (get_or c.args.scores c.loop-seat.seat (pos 0)) = search rules in
-    let said = rw (to_z-of_z f) at c.put_score.ensures.added in
+    let said = rw (to_z-of_z f) at c.add_score.ensures.added in
     record { added = rw (said, c.loop-seat.invariant.added, add-one, append_assoc); few = omega arith }
 
 pub returns-clause-added : goal.returns-clause-added

@@ -9,7 +9,7 @@ first_scores s zero = []
 first_scores s (suc k) = first_scores s k ++ (score_text s k ++ (32 ∷ []))
 
 pub line_fields : (e letter r : ℕ) (s : List ℤ) (k : ℕ)
-    → ((((digits_of e ++ (32 ∷ [])) ++ (letter ∷ 32 ∷ [])) ++ (digits_of r ++ (32 ∷ []))) ++ first_scores s 4) ++ (digits_of k ++ (10 ∷ []))
+    → (((((digits_of e ++ (32 ∷ [])) ++ (letter ∷ [])) ++ (32 ∷ [])) ++ (digits_of r ++ (32 ∷ []))) ++ first_scores s 4) ++ (digits_of k ++ (10 ∷ []))
     ≡ line_of e letter r s k
 unfolding line_of spaced first_scores
 line_fields e l r s k = simp append_assoc

@@ -1,13 +1,10 @@
 -- The number passes through its bits unchanged.
-use Rattle.std.proofs.Common.{to_z-of_z}
-use Rattle.text.proofs.laws.Digits.{signed_negative, signed_positive}
-use Rattle.text.proofs.signed.Goals.{then-n-lt0, else-n-lt0}
+use Rattle.std.proofs.Common.{arith, to_z-of_z}
+use Rattle.text.proofs.laws.Digits.{length_signed_32}
 use Rattle.text.proofs.signed.Goals as goal
 
-pub returns-clause-value : goal.returns-clause-value
-returns-clause-value c =
-    let size = rw (to_z-of_z c.ranges.n) at c.unsigned_abs.ensures.value in
-    elim c.if-n-lt0.branch [
-      | then-n-lt0 w ↦ rw (c.extend.ensures, c.as_slice.ensures, c.digits.ensures.value, size, w.text-is, w.push.ensures, c.new-text.ensures, signed_negative c.args.n (rw (to_z-of_z c.ranges.n) at w.if-n-lt0.true))
-      | else-n-lt0 w ↦ rw (c.extend.ensures, c.as_slice.ensures, c.digits.ensures.value, size, w.text-is, c.new-text.ensures, signed_positive c.args.n (rw (to_z-of_z c.ranges.n) at w.if-n-lt0.false))
-    ]
+pub push_signed-requires : goal.push_signed-requires
+push_signed-requires c = (omega arith, rw (to_z-of_z c.ranges.n, c.new-text.ensures) (omega (arith, length_signed_32 c.args.n c.ranges.n)))
+
+pub returns-clause-few : goal.returns-clause-few
+returns-clause-few c = rw (c.push_signed.ensures, to_z-of_z c.ranges.n, c.new-text.ensures) (length_signed_32 c.args.n c.ranges.n)

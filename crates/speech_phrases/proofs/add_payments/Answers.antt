@@ -1,6 +1,6 @@
 use Rattle.std.proofs.Common.{◌≡◌, ◌∙◌, get_or, pos, append-nil, append_assoc, add-one, arith, rules, w32, SFits, to_z-of_z}
 use Rattle.speech_phrases.proofs.laws.Seats.{first_payments, all_payments}
-use Rattle.speech_phrases.proofs.put_payments.Goals as goal
+use Rattle.speech_phrases.proofs.add_payments.Goals as goal
 
 pub loop-seat-init : goal.loop-seat-init
 unfolding first_payments

@@ -1,7 +1,7 @@
 -- The groups take 13 clips at most, whatever room their parts are given.
 use Rattle.std.proofs.Common.{ap, length, arith, length-append}
 use Rattle.speech_numerals.proofs.laws.Short.{english_short, eastern_short}
-use Rattle.speech_numerals.proofs.number.Goals as goal
+use Rattle.speech_numerals.proofs.add_number.Goals as goal
 
 pub returns-in_default-eq2-clause-few : goal.returns-in_default-eq2-clause-few
 returns-in_default-eq2-clause-few g c =

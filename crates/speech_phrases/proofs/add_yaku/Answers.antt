@@ -1,7 +1,7 @@
 use Rattle.std.proofs.Common.{◌≡◌, ◌++◌, ◌∙◌, List, ℕ, ap, length, rules}
 use Rattle.speech_told.specs.Phrases.{yaku_clips}
 use Rattle.speech_phrases.proofs.laws.Chosen.{chosen_behind_one}
-use Rattle.speech_phrases.proofs.put_yaku.Goals as goal
+use Rattle.speech_phrases.proofs.add_yaku.Goals as goal
 
 pub returns-clause-added : goal.returns-clause-added
 unfolding yaku_clips

@@ -1,7 +1,7 @@
 -- Of the first seats so far.
 use Rattle.std.proofs.Common.{◌≡◌, ◌++◌, ◌+◌, ◌*◌, ◌≤◌, length}
 use Rattle.speech_phrases.proofs.laws.Seats.{first_payments}
-use Rattle.speech_phrases.proofs.put_payments.Given as goal
+use Rattle.speech_phrases.proofs.add_payments.Given as goal
 
 abbrev pub invariant-loop-seat : goal.invariant-loop-seat
 invariant-loop-seat g l = record {
